@@ -1,5 +1,5 @@
 -- The last gate, a store into an array that is let go, is run in place.
-use Rattle.std.proofs.Common.{◌≡◌, ℕ, ◌+◌, ◌<◌, ◌≤◌, Bool, true, IsTrue, ◌↔◌, List, [], ◌∷◌, ◌++◌, length, drop, get_or, refl, sym, ◌∙◌, ap, subst, arith}
+use Rattle.std.proofs.Common.{◌≡◌, ℕ, ◌+◌, ◌<◌, ◌≤◌, Bool, true, IsTrue, ◌↔◌, List, [], ◌∷◌, ◌++◌, length, get_or, refl, sym, ◌∙◌, ap, subst, arith}
 use Rattle.std.specs.Prelude.{set}
 use Rattle.std.proofs.lemmas.List.{drop_all, length-map, length_push, set-append_left}
 use Rattle.proto_core.specs.declared.party.Number.{Number}
@@ -13,7 +13,7 @@ use Rattle.shared_gates.proofs.Models.{size-value}
 use Rattle.gate_node.specs.declared.engine.Work.TheVariants as work
 use Rattle.gate_node.specs.declared.engine.Engine.{Engine}
 use Rattle.gate_node.specs.OwnGates.{Whole, own_gates}
-use Rattle.gate_node.specs.Nodes.{engine_left, work_left, StoresLast, HasStored, IsAhead}
+use Rattle.gate_node.specs.Nodes.{work_left, StoresLast, HasStored, IsAhead}
 use Rattle.gate_node.proofs.Blocks.{drop-front, gate-alone, alone-can}
 
 module _ {P : Type 0} (i : Number) (e : Engine P) (array index v : ℕ) where
