@@ -1,7 +1,9 @@
 // Code that is read, written again and verified.
+use crate::again::tell_again;
 use bytecode::{Code, DecodeErr, DecodeFault, FaultKind, decode, encode};
+use row_files::Lines;
 use std::alloc::{AllocError, Global};
-use verified_code::{CodeProblem, VerifyErr, verify};
+use verified_code::{CodeProblem, verify};
 
 // The code of a `main` with one instruction, but this.
 const HEAD: [u8; 16] = [83, 67, 51, 80, 1, 0, 0, 1, 0, 0, 0, 255, 0, 0, 1, 0];
@@ -27,23 +29,14 @@ fn problem_name(problem: CodeProblem) -> &'static str {
     }
 }
 
-fn is_written_again(alloc: Global, code: &Code, bytes: &[u8]) -> Result<bool, AllocError> {
-    let again = encode(alloc, code)?;
-    Ok(again.as_slice() == bytes)
-}
-
-// What is said of code that is read.
-fn tell_verdict(
-    text: &mut String,
-    is_same: bool,
-    fault: Option<VerifyErr>,
-) -> Result<(), AllocError> {
-    write!(text, "written again as it was {is_same}, ")?;
-    match fault {
-        None => text.push_str("verified\n"),
-        Some(fault) => write!(
-            text,
-            "{} in function {} at instruction {}\n",
+// Whether code is written again as it was, and what is wrong with it.
+fn tell_code(alloc: Global, lines: &mut Lines, code: Code, bytes: &[u8]) {
+    tell_again(lines, encode(alloc, &code), bytes);
+    match verify(code) {
+        Ok(_) => lines.add(", verified\n"),
+        Err((_, fault)) => write!(
+            lines,
+            ", {} in function {} at instruction {}\n",
             problem_name(fault.problem),
             fault.function,
             fault.instruction
@@ -51,41 +44,24 @@ fn tell_verdict(
     }
 }
 
-fn fault_of(code: Code) -> Option<VerifyErr> {
-    match verify(code) {
-        Ok(_) => None,
-        Err((_, fault)) => Some(fault),
-    }
-}
-
-fn tell_code(alloc: Global, text: &mut String, code: Code, bytes: &[u8]) -> Result<(), AllocError> {
-    let is_same = is_written_again(alloc, &code, bytes);
-    let fault = fault_of(code);
-    tell_verdict(text, is_same?, fault)
-}
-
 // What these bytes are read as.
-fn tell_bytes(alloc: Global, text: &mut String, bytes: &[u8]) -> Result<(), AllocError> {
-    write!(text, "code of {} bytes: ", bytes.len())?;
+fn tell_bytes(alloc: Global, lines: &mut Lines, bytes: &[u8]) {
+    write!(lines, "code of {} bytes: ", bytes.len());
     match decode(alloc, bytes) {
-        Ok(code) => tell_code(alloc, text, code, bytes),
+        Ok(code) => tell_code(alloc, lines, code, bytes),
         Err(DecodeErr::Refused(DecodeFault { kind, place })) => {
-            write!(text, "{} at {place}\n", kind_name(kind))
+            write!(lines, "{} at {place}\n", kind_name(kind));
         }
-        Err(DecodeErr::Memory) => Err(AllocError),
+        Err(DecodeErr::Memory) => lines.run_short(),
     }
-}
-
-fn tell_ending(alloc: Global, text: &mut String, ending: &[u8]) -> Result<(), AllocError> {
-    let mut bytes = HEAD.to_vec(alloc)?;
-    bytes.extend_from_slice(ending)?;
-    tell_bytes(alloc, text, &bytes)
 }
 
 /// The lines of code.
-pub fn tell(alloc: Global, text: &mut String) -> Result<(), AllocError> {
+pub fn tell(alloc: Global, lines: &mut Lines) {
     for ending in ENDINGS {
-        tell_ending(alloc, text, ending)?;
+        match [&HEAD[..], ending].concat(alloc) {
+            Ok(bytes) => tell_bytes(alloc, lines, &bytes),
+            Err(AllocError) => lines.run_short(),
+        }
     }
-    Ok(())
 }

@@ -6,6 +6,7 @@
 //! what must be printed, from the description of the files, worked by hand or by other programs.
 #![tactic(auto)]
 
+mod again;
 mod codes;
 mod shares;
 mod stand_ins;
@@ -15,24 +16,26 @@ mod texts;
 mod views;
 
 use anyhow::Result;
+use row_files::Lines;
 use std::alloc::{AllocError, Global};
 use std::fs;
 
-// All lines but those of share files.
-fn tell(alloc: Global, text: &mut String) -> Result<(), AllocError> {
-    stand_ins::tell(alloc, text)?;
-    streams::tell(alloc, text)?;
-    tapes::tell(alloc, text)?;
-    texts::tell(alloc, text)?;
-    codes::tell(alloc, text)?;
-    views::tell(alloc, text)
+// All lines, those of share files first.
+fn told(alloc: Global, rows: &[u8]) -> Result<String, AllocError> {
+    let mut lines = Lines::new(alloc);
+    shares::tell(alloc, &mut lines, rows);
+    stand_ins::tell(alloc, &mut lines);
+    streams::tell(alloc, &mut lines);
+    tapes::tell(alloc, &mut lines);
+    texts::tell(alloc, &mut lines);
+    codes::tell(alloc, &mut lines);
+    views::tell(alloc, &mut lines);
+    lines.whole()
 }
 
 fn main(rt: HostRuntime) -> Result<()> {
     let rows = fs::read(&rt, "shares.txt")?;
-    let mut text = String::new(rt.alloc());
-    shares::tell(rt.alloc(), &mut text, &rows)?;
-    tell(rt.alloc(), &mut text)?;
-    print!(rt; "{}", text.as_str())?;
+    let text = told(rt.alloc(), &rows)?;
+    print!(rt; "{text}")?;
     Ok(())
 }

@@ -1,83 +1,69 @@
 // Share files that are read and written again, with their public parts.
 use input_share::{ShareFile, read_share, shape_part, write_share};
+use row_files::Lines;
 use std::alloc::{AllocError, Global};
 use value_file::{read_public, write_public};
 
-fn push_zeros(bytes: &mut Vec<u8>, count: u32) -> Result<(), AllocError> {
-    for _ in 0..count {
-        bytes.extend_from_slice(b"0,")?;
-    }
-    Ok(())
-}
-
-// The bytes of a row, in which `~` stands for 65,535 zeros of a list, each with its comma.
-fn bytes_of(alloc: Global, row: &str) -> Result<Vec<u8>, AllocError> {
-    let mut bytes = Vec::new(alloc);
-    for byte in row.as_bytes() {
-        match *byte {
-            b'~' => push_zeros(&mut bytes, 65_535)?,
-            byte => bytes.push(byte)?,
-        }
-    }
-    Ok(bytes)
+// A row, in which `~` stands for 65,535 zeros of a list, each with its comma.
+fn spelled_out(alloc: Global, row: &str) -> Result<String, AllocError> {
+    let zeros = "0,".repeat(alloc, 65_535)?;
+    row.replace(alloc, '~', &zeros)
 }
 
 // The bytes of a file, or that they are those that were read.
-fn tell_bytes(text: &mut String, written: &[u8], read: &[u8]) -> Result<(), AllocError> {
-    if written == read {
-        text.push_str(" the same")
-    } else {
-        write!(text, " {}", str::from_utf8(written).unwrap_or("no text"))
+fn tell_bytes(lines: &mut Lines, written: Result<Vec<u8>, AllocError>, read: &[u8]) {
+    match written {
+        Ok(written) if written.as_slice() == read => lines.add(" the same"),
+        Ok(written) => write!(lines, " {}", str::from_utf8(&written).unwrap_or("no text")),
+        Err(AllocError) => lines.run_short(),
     }
 }
 
 // A share file as it is written again, and the public file of it.
-fn tell_file(
-    alloc: Global,
-    text: &mut String,
-    file: &ShareFile,
-    read: &[u8],
-) -> Result<(), AllocError> {
-    let written = write_share(alloc, file)?;
-    tell_bytes(text, &written, read)?;
-    let part = shape_part(alloc, file)?;
-    let public = write_public(alloc, &part)?;
-    tell_bytes(text, &public, read)?;
-    text.push_str("\n")
+fn tell_file(alloc: Global, lines: &mut Lines, file: &ShareFile, read: &[u8]) {
+    tell_bytes(lines, write_share(alloc, file), read);
+    match shape_part(alloc, file) {
+        Ok(part) => tell_bytes(lines, write_public(alloc, &part), read),
+        Err(AllocError) => lines.run_short(),
+    }
 }
 
 // What is read of a miner's share file.
-fn tell_share(alloc: Global, text: &mut String, row: &str, miner: u8) -> Result<(), AllocError> {
-    let bytes = bytes_of(alloc, row)?;
-    write!(text, "share {miner}:")?;
-    match read_share(alloc, &bytes, miner) {
-        Ok(file) => tell_file(alloc, text, &file, &bytes),
-        Err(refusal) => write!(text, " {refusal:?}\n"),
+fn tell_share(alloc: Global, lines: &mut Lines, file: &[u8], miner: u8) {
+    write!(lines, "share {miner}:");
+    match read_share(alloc, file, miner) {
+        Ok(share) => tell_file(alloc, lines, &share, file),
+        Err(refusal) => write!(lines, " {refusal:?}"),
     }
 }
 
 // What is read of a public file, written again.
-fn tell_public(alloc: Global, text: &mut String, row: &str) -> Result<(), AllocError> {
-    text.push_str("public:")?;
-    match read_public(alloc, row.as_bytes()) {
-        Ok(part) => tell_bytes(text, &write_public(alloc, &part)?, row.as_bytes())?,
-        Err(refusal) => write!(text, " {refusal:?}")?,
+fn tell_public(alloc: Global, lines: &mut Lines, file: &[u8]) {
+    lines.add("public:");
+    match read_public(alloc, file) {
+        Ok(part) => tell_bytes(lines, write_public(alloc, &part), file),
+        Err(refusal) => write!(lines, " {refusal:?}"),
     }
-    text.push_str("\n")
 }
 
-fn tell_row(alloc: Global, text: &mut String, row: &str) -> Result<(), AllocError> {
+fn tell_row(alloc: Global, lines: &mut Lines, row: &str) {
     match row.split_once(' ') {
-        Some(("public", file)) => tell_public(alloc, text, file),
-        Some((miner, file)) => tell_share(alloc, text, file, miner.parse::<u8>().unwrap_or(0)),
-        None => text.push_str("no row\n"),
+        Some(("public", file)) => tell_public(alloc, lines, file.as_bytes()),
+        Some((miner, file)) => {
+            let miner = miner.parse::<u8>().unwrap_or(0);
+            tell_share(alloc, lines, file.as_bytes(), miner);
+        }
+        None => lines.add("no row"),
     }
+    lines.add("\n");
 }
 
 /// A line of each row: a miner and its share file, or `public` and a public file.
-pub fn tell(alloc: Global, text: &mut String, rows: &[u8]) -> Result<(), AllocError> {
+pub fn tell(alloc: Global, lines: &mut Lines, rows: &[u8]) {
     for row in str::from_utf8(rows).unwrap_or("").lines() {
-        tell_row(alloc, text, row)?;
+        match spelled_out(alloc, row) {
+            Ok(row) => tell_row(alloc, lines, row.as_str()),
+            Err(AllocError) => lines.run_short(),
+        }
     }
-    Ok(())
 }

@@ -3,7 +3,8 @@ ghost use Rattle.std.specs.Prelude.{◌≤◌, IfOk};
 
 use outside::Sink;
 use real_objects::{RealSink, read_within};
-use std::alloc::{AllocError, Global};
+use row_files::Lines;
+use std::alloc::Global;
 use std::io::{self, Read, Write};
 
 /// A stream of which some calls are interrupted; the next takes or gives three bytes, and each later one fails.
@@ -40,31 +41,30 @@ impl Write for Slow {
 }
 
 // An interrupted call is tried again.
-fn tell_interrupted(text: &mut String) -> Result<(), AllocError> {
+fn tell_interrupted(lines: &mut Lines) {
     let mut sink = RealSink::new(Slow {
         interruptions: 2,
         is_done: false,
     });
     let first = sink.put(b"twelve bytes");
     let second = sink.put(b"twelve bytes");
-    write!(text, "interrupted twice: {first:?} {second:?}\n")
+    write!(lines, "interrupted twice: {first:?} {second:?}\n");
 }
 
 // How many bytes of a text are read within three.
-fn tell_within(alloc: Global, text: &mut String, source: &str) -> Result<(), AllocError> {
-    write!(text, "within three, {source:?}: ")?;
+fn tell_within(alloc: Global, lines: &mut Lines, source: &str) {
+    write!(lines, "within three, {source:?}: ");
     match read_within(alloc, source.as_bytes(), 3) {
-        Ok(Some(bytes)) => write!(text, "{} bytes\n", bytes.len()),
-        Ok(None) => text.push_str("too many\n"),
-        Err(_) => text.push_str("failed\n"),
+        Ok(Some(bytes)) => write!(lines, "{} bytes\n", bytes.len()),
+        Ok(None) => lines.add("too many\n"),
+        Err(_) => lines.add("failed\n"),
     }
 }
 
 /// The lines of a stream that is interrupted, and of readers over their bound.
-pub fn tell(alloc: Global, text: &mut String) -> Result<(), AllocError> {
-    tell_interrupted(text)?;
+pub fn tell(alloc: Global, lines: &mut Lines) {
+    tell_interrupted(lines);
     for source in ["", "ab", "abc", "abcd", "abcdefgh"] {
-        tell_within(alloc, text, source)?;
+        tell_within(alloc, lines, source);
     }
-    Ok(())
 }

@@ -1,6 +1,8 @@
 // Tapes of one miner that are read and written again, and tapes from a seed.
+use crate::again::tell_again;
+use row_files::Lines;
 use std::alloc::{AllocError, Global};
-use tape_file::{ReadErr, from_seed, read_own, write_own};
+use tape_file::{ReadErr, Tapes, from_seed, read_own, write_own};
 
 const MOST: u64 = 16_777_216;
 
@@ -29,50 +31,49 @@ fn file_of(alloc: Global, numbers: &[u64], size: usize) -> Result<Vec<u8>, Alloc
     Ok(bytes)
 }
 
-fn tell_words(
-    alloc: Global,
-    text: &mut String,
-    tape: &[u64],
-    file: &[u8],
-) -> Result<(), AllocError> {
-    let again = write_own(alloc, tape)?;
-    let is_same = again.as_slice() == file;
-    write!(text, "{tape:?}, written again as it was {is_same}\n")
+// The words of a file, and whether it is written again as it was.
+fn tell_file(alloc: Global, lines: &mut Lines, words: u64, file: &[u8]) {
+    match read_own(alloc, file, words) {
+        Ok(tape) => {
+            write!(lines, "{tape:?}, ");
+            tell_again(lines, write_own(alloc, &tape), file);
+        }
+        Err(ReadErr::BadTape { place }) => write!(lines, "bad at {place}"),
+        Err(ReadErr::Memory) => lines.run_short(),
+    }
+    lines.add("\n");
 }
 
-// The words of a file, and whether it is written again as it was.
-fn tell_own(
-    alloc: Global,
-    text: &mut String,
-    words: u64,
-    numbers: &[u64],
-    size: usize,
-) -> Result<(), AllocError> {
-    let file = file_of(alloc, numbers, size)?;
-    write!(text, "tape of {words}, {numbers:?} in {size} bytes: ")?;
-    match read_own(alloc, &file, words) {
-        Ok(tape) => tell_words(alloc, text, &tape, &file),
-        Err(ReadErr::BadTape { place }) => write!(text, "bad at {place}\n"),
-        Err(ReadErr::Memory) => Err(AllocError),
+fn tell_own(alloc: Global, lines: &mut Lines, words: u64, numbers: &[u64], size: usize) {
+    write!(lines, "tape of {words}, {numbers:?} in {size} bytes: ");
+    match file_of(alloc, numbers, size) {
+        Ok(file) => tell_file(alloc, lines, words, &file),
+        Err(AllocError) => lines.run_short(),
     }
 }
 
 // Words 0, 1 and 8 of a tape of 9.
-fn tell_three(text: &mut String, tape: &[u64]) -> Result<(), AllocError> {
+fn tell_three(lines: &mut Lines, tape: &[u64]) {
     match tape {
-        [first, second, _, _, _, _, _, _, last] => write!(text, " {first} {second} {last};"),
-        _ => text.push_str(" another length;"),
+        [first, second, _, _, _, _, _, _, last] => write!(lines, " {first} {second} {last};"),
+        _ => lines.add(" another length;"),
     }
 }
 
-fn tell_seed(alloc: Global, text: &mut String, seed: [u8; 32]) -> Result<(), AllocError> {
-    let tapes = from_seed(alloc, seed, 9)?;
-    text.push_str("seed:")?;
-    tell_three(text, tapes.dealer())?;
-    tell_three(text, tapes.miner1())?;
-    tell_three(text, tapes.miner2())?;
-    tell_three(text, tapes.miner3())?;
-    text.push_str("\n")
+fn tell_tapes(lines: &mut Lines, tapes: &Tapes) {
+    tell_three(lines, tapes.dealer());
+    tell_three(lines, tapes.miner1());
+    tell_three(lines, tapes.miner2());
+    tell_three(lines, tapes.miner3());
+}
+
+fn tell_seed(alloc: Global, lines: &mut Lines, seed: [u8; 32]) {
+    lines.add("seed:");
+    match from_seed(alloc, seed, 9) {
+        Ok(tapes) => tell_tapes(lines, &tapes),
+        Err(AllocError) => lines.run_short(),
+    }
+    lines.add("\n");
 }
 
 const RISING: [u8; 32] = [
@@ -81,10 +82,10 @@ const RISING: [u8; 32] = [
 ];
 
 /// The lines of tapes of one miner, and of words from a seed.
-pub fn tell(alloc: Global, text: &mut String) -> Result<(), AllocError> {
+pub fn tell(alloc: Global, lines: &mut Lines) {
     for (words, numbers, size) in FILES {
-        tell_own(alloc, text, words, numbers, size)?;
+        tell_own(alloc, lines, words, numbers, size);
     }
-    tell_seed(alloc, text, [0; 32])?;
-    tell_seed(alloc, text, RISING)
+    tell_seed(alloc, lines, [0; 32]);
+    tell_seed(alloc, lines, RISING);
 }

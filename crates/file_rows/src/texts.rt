@@ -1,4 +1,5 @@
 // Names, the text of a run, and the lines of ends and faults.
+use row_files::Lines;
 use sc_text::{
     CountedFault, Element, Elements, End, Ending, EntryField, Event, Fault, InputFault, Name,
     PlacedFault, Span, TapeOwner, TrapKind, run_text,
@@ -15,60 +16,69 @@ const NAMES: [&str; 7] = [
     "abcdefghijklmnopqrstuvwxyz_ABCDEFGHIJKLMNOPQRSTUVWXYZ_0123456789x",
 ];
 
-fn tell_copy(alloc: Global, text: &mut String, name: &Name) -> Result<(), AllocError> {
-    let copy = name.copy(alloc)?;
-    write!(text, "copied as {}\n", copy.as_str())
+fn tell_copy(lines: &mut Lines, copy: Result<Name, AllocError>) {
+    match copy {
+        Ok(copy) => write!(lines, "copied as {}\n", copy.as_str()),
+        Err(AllocError) => lines.run_short(),
+    }
 }
 
 // A text that may be a name, and the name's copy.
-fn tell_name(alloc: Global, text: &mut String, source: &str) -> Result<(), AllocError> {
-    write!(text, "name {source:?}: ")?;
+fn tell_name(alloc: Global, lines: &mut Lines, source: &str) {
+    write!(lines, "name {source:?}: ");
     match Name::from_str(alloc, source) {
-        Ok(Some(name)) => tell_copy(alloc, text, &name),
-        Ok(None) => text.push_str("none\n"),
-        Err(error) => Err(error),
+        Ok(Some(name)) => tell_copy(lines, name.copy(alloc)),
+        Ok(None) => lines.add("none\n"),
+        Err(AllocError) => lines.run_short(),
     }
 }
 
-fn truths(alloc: Global) -> Result<Elements, AllocError> {
-    let mut list = Vec::new(alloc);
-    list.extend_from_slice(&[Element::Truth(true), Element::Truth(false)])?;
-    Ok(Elements::from_vec(list))
+fn push_opened(alloc: Global, events: &mut Vec<Event>, list: &[Element]) -> Result<(), AllocError> {
+    let elements = Elements::from_vec(list.to_vec(alloc)?);
+    events.push(Event::Open(elements))?;
+    Ok(())
 }
 
-fn words(alloc: Global) -> Result<Elements, AllocError> {
-    let mut words = Elements::new(alloc);
-    words.push(Element::Word(13))?;
-    Ok(words)
-}
-
-fn push_published(alloc: Global, events: &mut Vec<Event>) -> Result<(), AllocError> {
-    if let Some(name) = Name::from_str(alloc, "s")? {
-        events.push(Event::Publish(name, Elements::new(alloc)))?;
-    }
-    if let Some(name) = Name::from_str(alloc, "_t")? {
-        events.push(Event::Publish(name, words(alloc)?))?;
+fn push_published(
+    alloc: Global,
+    events: &mut Vec<Event>,
+    name: &str,
+    list: &[Element],
+) -> Result<(), AllocError> {
+    let elements = Elements::from_vec(list.to_vec(alloc)?);
+    if let Some(name) = Name::from_str(alloc, name)? {
+        events.push(Event::Publish(name, elements))?;
     }
     Ok(())
 }
 
-fn events(alloc: Global) -> Result<Vec<Event>, AllocError> {
-    let mut events = Vec::new(alloc);
-    events.push(Event::Open(truths(alloc)?))?;
-    events.push(Event::Open(Elements::new(alloc)))?;
-    push_published(alloc, &mut events)?;
-    Ok(events)
+fn push_events(alloc: Global, events: &mut Vec<Event>) -> Result<(), AllocError> {
+    push_opened(
+        alloc,
+        events,
+        &[Element::Truth(true), Element::Truth(false)],
+    )?;
+    push_opened(alloc, events, &[])?;
+    push_published(alloc, events, "s", &[])?;
+    push_published(alloc, events, "_t", &[Element::Word(13)])
 }
 
 // The text of a run.
-fn tell_run(alloc: Global, text: &mut String) -> Result<(), AllocError> {
-    let events = events(alloc)?;
+fn run(alloc: Global) -> Result<Vec<u8>, AllocError> {
+    let mut events = Vec::new(alloc);
+    push_events(alloc, &mut events)?;
     let end = End {
         how: Ending::Done,
         cost: 7,
     };
-    let run = run_text(alloc, &events, &end)?;
-    text.push_str(str::from_utf8(&run).unwrap_or("no text\n"))
+    run_text(alloc, &events, &end)
+}
+
+fn tell_run(lines: &mut Lines, run: Result<Vec<u8>, AllocError>) {
+    match run {
+        Ok(run) => lines.add(str::from_utf8(&run).unwrap_or("no text\n")),
+        Err(AllocError) => lines.run_short(),
+    }
 }
 
 const ENDS: [End; 5] = [
@@ -105,13 +115,6 @@ const ENDS: [End; 5] = [
     },
 ];
 
-fn tell_ends(text: &mut String) -> Result<(), AllocError> {
-    for end in ENDS {
-        write!(text, "{end}")?;
-    }
-    Ok(())
-}
-
 // The faults of a program and its files, by number.
 fn fault(alloc: Global, number: u32) -> Result<Fault, AllocError> {
     Ok(match number {
@@ -145,20 +148,31 @@ fn fault(alloc: Global, number: u32) -> Result<Fault, AllocError> {
     })
 }
 
-fn tell_faults(alloc: Global, text: &mut String) -> Result<(), AllocError> {
-    for number in 0..13u32 {
-        let fault = fault(alloc, number)?;
-        write!(text, "{fault}")?;
+fn tell_ends(lines: &mut Lines) {
+    for end in ENDS {
+        write!(lines, "{end}");
     }
-    Ok(())
+}
+
+fn tell_fault(lines: &mut Lines, fault: Result<Fault, AllocError>) {
+    match fault {
+        Ok(fault) => write!(lines, "{fault}"),
+        Err(AllocError) => lines.run_short(),
+    }
+}
+
+fn tell_faults(alloc: Global, lines: &mut Lines) {
+    for number in 0..13u32 {
+        tell_fault(lines, fault(alloc, number));
+    }
 }
 
 /// The lines of names, of a run, of ends and of faults.
-pub fn tell(alloc: Global, text: &mut String) -> Result<(), AllocError> {
+pub fn tell(alloc: Global, lines: &mut Lines) {
     for name in NAMES {
-        tell_name(alloc, text, name)?;
+        tell_name(alloc, lines, name);
     }
-    tell_run(alloc, text)?;
-    tell_ends(text)?;
-    tell_faults(alloc, text)
+    tell_run(lines, run(alloc));
+    tell_ends(lines);
+    tell_faults(alloc, lines);
 }

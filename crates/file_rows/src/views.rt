@@ -1,7 +1,9 @@
 // Texts of views that are read and written again.
-use std::alloc::{AllocError, Global};
+use crate::again::tell_again;
+use row_files::Lines;
+use std::alloc::Global;
 use view_reader::{ReadErr, read};
-use view_text::{View, write};
+use view_text::write;
 
 // The first miner's view of 6 multiplied by 7 on tapes of zeros. Then texts that are refused: a number with a zero before it, the words
 // drawn left out, a text that stops before the end, one whose last line has no newline, and one that goes on.
@@ -14,30 +16,19 @@ const VIEWS: [&str; 6] = [
     "view 1\ndrew\nend done cost 0\n\n",
 ];
 
-fn tell_again(
-    alloc: Global,
-    text: &mut String,
-    view: &View,
-    source: &str,
-) -> Result<(), AllocError> {
-    let again = write(alloc, view)?;
-    let is_same = again.as_slice() == source.as_bytes();
-    write!(text, "written again as it was {is_same}\n")
-}
-
-fn tell_view(alloc: Global, text: &mut String, source: &str) -> Result<(), AllocError> {
-    write!(text, "view {source:?}: ")?;
+fn tell_view(alloc: Global, lines: &mut Lines, source: &str) {
+    write!(lines, "view {source:?}: ");
     match read(alloc, source.as_bytes()) {
-        Ok(view) => tell_again(alloc, text, &view, source),
-        Err(ReadErr::BadView { line }) => write!(text, "bad in line {line}\n"),
-        Err(ReadErr::Memory) => Err(AllocError),
+        Ok(view) => tell_again(lines, write(alloc, &view), source.as_bytes()),
+        Err(ReadErr::BadView { line }) => write!(lines, "bad in line {line}"),
+        Err(ReadErr::Memory) => lines.run_short(),
     }
+    lines.add("\n");
 }
 
 /// The lines of views.
-pub fn tell(alloc: Global, text: &mut String) -> Result<(), AllocError> {
+pub fn tell(alloc: Global, lines: &mut Lines) {
     for source in VIEWS {
-        tell_view(alloc, text, source)?;
+        tell_view(alloc, lines, source);
     }
-    Ok(())
 }

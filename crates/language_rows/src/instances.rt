@@ -2,6 +2,7 @@
 use crate::sources::{program, typed};
 use domain_types::{Instance as CheckedInstance, Protection, check};
 use reached_instances::{BoundDomain, Instance, reached_instances, template_count};
+use row_files::Lines;
 use secrec_ast::Program;
 use std::alloc::{AllocError, Global};
 use typed_tree::TypedProgram;
@@ -83,43 +84,46 @@ void main() { p uint64 a = q(1); }",
     ),
 ];
 
-fn add_binding(text: &mut String, binding: &[BoundDomain]) -> Result<(), AllocError> {
+fn add_binding(lines: &mut Lines, binding: &[BoundDomain]) {
     for domain in binding {
         match domain {
-            BoundDomain::Public => text.push_str(" public")?,
-            BoundDomain::Private(number) => write!(text, " {number}")?,
+            BoundDomain::Public => lines.add(" public"),
+            BoundDomain::Private(number) => write!(lines, " {number}"),
         }
     }
-    text.push_str(";")
+    lines.add(";")
 }
 
-fn add_instances(text: &mut String, instances: &[Instance]) -> Result<(), AllocError> {
+fn add_instances(lines: &mut Lines, instances: &[Instance]) {
     for instance in instances {
-        write!(text, " {}", instance.function)?;
-        add_binding(text, &instance.binding)?;
+        write!(lines, " {}", instance.function);
+        add_binding(lines, &instance.binding);
     }
-    Ok(())
 }
 
 // The number of each function that is reached, with what its domain variables are bound to; and how many are of templates.
-fn tell_reached(alloc: Global, text: &mut String, typed: &TypedProgram) -> Result<(), AllocError> {
-    let instances = reached_instances(alloc, typed)?;
-    add_instances(text, instances.as_slice())?;
-    let count = template_count(instances.as_slice(), typed);
-    write!(text, " {count} of templates\n")
+fn tell_reached(alloc: Global, lines: &mut Lines, typed: &TypedProgram) {
+    match reached_instances(alloc, typed) {
+        Ok(instances) => {
+            add_instances(lines, instances.as_slice());
+            let count = template_count(instances.as_slice(), typed);
+            write!(lines, " {count} of templates\n");
+        }
+        Err(AllocError) => lines.run_short(),
+    }
 }
 
-fn tell_program(
-    alloc: Global,
-    text: &mut String,
-    title: &str,
-    rest: &str,
-) -> Result<(), AllocError> {
-    let source = format!(in alloc; "{DECLARED}{rest}")?;
-    write!(text, "{title}:")?;
-    match typed(alloc, source.as_str()) {
-        Some(typed) => tell_reached(alloc, text, &typed),
-        None => text.push_str(" no program\n"),
+// The typed tree of a program behind what stands before each.
+fn typed_behind(alloc: Global, rest: &str) -> Option<TypedProgram> {
+    let source = format!(in alloc; "{DECLARED}{rest}").ok()?;
+    typed(alloc, source.as_str())
+}
+
+fn tell_program(alloc: Global, lines: &mut Lines, title: &str, rest: &str) {
+    write!(lines, "{title}:");
+    match typed_behind(alloc, rest) {
+        Some(typed) => tell_reached(alloc, lines, &typed),
+        None => lines.add(" no program\n"),
     }
 }
 
@@ -132,40 +136,40 @@ template <domain D, domain E> void h(D uint64 x, E bool y) { g(x); }
 void main() { r uint64 a; g(1); g(a); g(2); }
 ";
 
-fn add_protections(text: &mut String, binding: &[Protection]) -> Result<(), AllocError> {
+fn add_protections(lines: &mut Lines, binding: &[Protection]) {
     for domain in binding {
         match domain {
-            Protection::Public => text.push_str(" public")?,
-            Protection::Private(number) => write!(text, " {number}")?,
+            Protection::Public => lines.add(" public"),
+            Protection::Private(number) => write!(lines, " {number}"),
         }
     }
-    text.push_str(";")
+    lines.add(";")
 }
 
-fn tell_instances(text: &mut String, instances: &[CheckedInstance]) -> Result<(), AllocError> {
+fn tell_instances(lines: &mut Lines, instances: &[CheckedInstance]) {
     for instance in instances {
-        write!(text, " {}", instance.function)?;
-        add_protections(text, &instance.binding)?;
+        write!(lines, " {}", instance.function);
+        add_protections(lines, &instance.binding);
     }
-    text.push_str("\n")
+    lines.add("\n");
 }
 
 // The instances of a program that are checked.
-fn tell_checked(alloc: Global, text: &mut String, program: &Program) -> Result<(), AllocError> {
-    text.push_str("checked once for each binding:")?;
+fn tell_checked(alloc: Global, lines: &mut Lines, program: &Program) {
+    lines.add("checked once for each binding:");
     match check(alloc, program) {
-        Ok(instances) => tell_instances(text, &instances),
-        Err(_) => text.push_str(" refused\n"),
+        Ok(instances) => tell_instances(lines, &instances),
+        Err(_) => lines.add(" refused\n"),
     }
 }
 
 /// The lines of instances that are reached and of those that are checked.
-pub fn tell(alloc: Global, text: &mut String) -> Result<(), AllocError> {
+pub fn tell(alloc: Global, lines: &mut Lines) {
     for (title, rest) in PROGRAMS {
-        tell_program(alloc, text, title, rest)?;
+        tell_program(alloc, lines, title, rest);
     }
     match program(alloc, CHECKED) {
-        Some(program) => tell_checked(alloc, text, &program),
-        None => text.push_str("checked: no program\n"),
+        Some(program) => tell_checked(alloc, lines, &program),
+        None => lines.add("checked: no program\n"),
     }
 }

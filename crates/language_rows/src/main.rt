@@ -16,22 +16,24 @@ mod typed_trees;
 mod values;
 
 use anyhow::Result;
+use row_files::Lines;
 use std::alloc::{AllocError, Global};
 
 // All lines.
-fn tell(alloc: Global, text: &mut String) -> Result<(), AllocError> {
-    tokens::tell(alloc, text)?;
-    trees::tell(alloc, text)?;
-    instances::tell(alloc, text)?;
-    typed_trees::tell(alloc, text)?;
-    values::tell(alloc, text)?;
-    runs::tell(alloc, text)?;
-    mapping::tell(alloc, text)
+fn told(alloc: Global) -> Result<String, AllocError> {
+    let mut lines = Lines::new(alloc);
+    tokens::tell(alloc, &mut lines);
+    trees::tell(alloc, &mut lines);
+    instances::tell(alloc, &mut lines);
+    typed_trees::tell(alloc, &mut lines);
+    values::tell(alloc, &mut lines);
+    runs::tell(alloc, &mut lines);
+    mapping::tell(alloc, &mut lines);
+    lines.whole()
 }
 
 fn main(rt: HostRuntime) -> Result<()> {
-    let mut text = String::new(rt.alloc());
-    tell(rt.alloc(), &mut text)?;
-    print!(rt; "{}", text.as_str())?;
+    let text = told(rt.alloc())?;
+    print!(rt; "{text}")?;
     Ok(())
 }

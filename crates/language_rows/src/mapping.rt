@@ -10,6 +10,7 @@ use front_end::read_program;
 use program_limits::check_limits;
 use program_typing::checked_tree;
 use proto_core::Number;
+use row_files::Lines;
 use std::alloc::{AllocError, Global};
 use tape_file::Tapes;
 use tape_twin::{from_sim, to_sim};
@@ -50,40 +51,56 @@ fn zeros(alloc: Global) -> Result<Tapes, AllocError> {
     ))
 }
 
-fn tell_tapes(text: &mut String, name: &str, tapes: &Tapes) -> Result<(), AllocError> {
+fn tell_tapes(lines: &mut Lines, name: &str, tapes: &Tapes) {
     write!(
-        text,
+        lines,
         "{name} {:?} {:?} {:?} {:?}\n",
         tapes.dealer(),
         tapes.miner1(),
         tapes.miner2(),
         tapes.miner3()
-    )
+    );
+}
+
+fn tell_back(lines: &mut Lines, again: Result<Tapes, AllocError>) {
+    match again {
+        Ok(again) => tell_tapes(lines, "mapped back", &again),
+        Err(AllocError) => lines.run_short(),
+    }
 }
 
 // What the third miner's view of a run on these tapes is made of, and the tapes of the run whose view is made of that.
 fn tell_third(
     alloc: Global,
-    text: &mut String,
+    lines: &mut Lines,
     program: &TypedProgram,
     inputs: &Inputs,
     tapes: &Tapes,
-) -> Result<(), AllocError>
+)
     requires sound { IsSound (typed_program_tree program.now) }
     requires accepted { IsAcceptedProgram (typed_program_tree program.now) }
     requires inputs { AreInputs inputs.now }
 {
-    let simulated = to_sim(alloc, Number::Three, program, inputs, tapes, 1000)?;
-    tell_tapes(text, "mapped", &simulated)?;
-    let again = from_sim(alloc, Number::Three, program, inputs, &simulated, 1000)?;
-    tell_tapes(text, "mapped back", &again)
+    match to_sim(alloc, Number::Three, program, inputs, tapes, 1000) {
+        Ok(simulated) => {
+            tell_tapes(lines, "mapped", &simulated);
+            let again = from_sim(alloc, Number::Three, program, inputs, &simulated, 1000);
+            tell_back(lines, again);
+        }
+        Err(AllocError) => lines.run_short(),
+    }
 }
 
 /// The lines of tapes that are mapped, and mapped back.
-pub fn tell(alloc: Global, text: &mut String) -> Result<(), AllocError> {
-    let tapes = zeros(alloc)?;
-    match (accepted(alloc, SUM), inputs_of(alloc, SIX_AND_SEVEN)) {
-        (Some(program), Some(inputs)) => tell_third(alloc, text, &program, &inputs, &tapes),
-        _ => text.push_str("not read\n"),
+pub fn tell(alloc: Global, lines: &mut Lines) {
+    match (
+        accepted(alloc, SUM),
+        inputs_of(alloc, SIX_AND_SEVEN),
+        zeros(alloc),
+    ) {
+        (Some(program), Some(inputs), Ok(tapes)) => {
+            tell_third(alloc, lines, &program, &inputs, &tapes);
+        }
+        _ => lines.add("not read\n"),
     }
 }

@@ -7,6 +7,7 @@ ghost use Rattle.value_file.specs.PublicFile.{IsWritable};
 
 use crate::sources::typed;
 use clear_eval::{BlindErr, Report, blind, eval};
+use row_files::Lines;
 use std::alloc::{AllocError, Global};
 use typed_tree::TypedProgram;
 use value_file::{Inputs, PublicPart, public_part, read};
@@ -29,41 +30,40 @@ pub fn inputs_of(alloc: Global, entries: &str) -> Option<Inputs>
     read(alloc, file.as_bytes()).ok()
 }
 
-fn tell_gates(text: &mut String, report: &Report) -> Result<(), AllocError> {
+fn tell_gates(lines: &mut Lines, report: &Report) {
     for gate in report.gates.iter() {
-        write!(text, "{gate:?}; ")?;
+        write!(lines, "{gate:?}; ");
     }
-    Ok(())
 }
 
 // The gates, the words that are needed, what is told and how the run ended.
-fn tell_report(text: &mut String, report: &Report) -> Result<(), AllocError> {
-    tell_gates(text, report)?;
+fn tell_report(lines: &mut Lines, report: &Report) {
+    tell_gates(lines, report);
     let needs = &report.needs;
     write!(
-        text,
+        lines,
         "need {} {} {} {}\n",
         needs.dealer, needs.first, needs.second, needs.third
-    )?;
+    );
     for event in report.events.iter() {
-        write!(text, "{event}")?;
+        write!(lines, "{event}");
     }
-    write!(text, "{}", report.end)
+    write!(lines, "{}", report.end);
 }
 
 fn tell_run(
     alloc: Global,
-    text: &mut String,
+    lines: &mut Lines,
     program: &TypedProgram,
     inputs: &Inputs,
     lengths: [u64; 4],
-) -> Result<(), AllocError>
+)
     requires sound { IsSound (typed_program_tree program.now) }
     requires inputs { AreInputs inputs.now }
 {
     match eval(alloc, program, inputs, 1000, lengths) {
-        Ok(report) => tell_report(text, &report),
-        Err(error) => Err(error),
+        Ok(report) => tell_report(lines, &report),
+        Err(AllocError) => lines.run_short(),
     }
 }
 
@@ -130,51 +130,40 @@ const RUNS: [(&str, &str, [u64; 4]); 14] = [
     ("publish(\"x\", 7);", NUMBER, [2, 0, 0, 0]),
 ];
 
-fn tell_body(
-    alloc: Global,
-    text: &mut String,
-    body: &str,
-    entries: &str,
-    lengths: [u64; 4],
-) -> Result<(), AllocError> {
-    write!(text, "run {body}\n")?;
+fn tell_body(alloc: Global, lines: &mut Lines, body: &str, entries: &str, lengths: [u64; 4]) {
+    write!(lines, "run {body}\n");
     match (typed_body(alloc, body), inputs_of(alloc, entries)) {
-        (Some(program), Some(inputs)) => tell_run(alloc, text, &program, &inputs, lengths),
-        _ => text.push_str("not read\n"),
+        (Some(program), Some(inputs)) => tell_run(alloc, lines, &program, &inputs, lengths),
+        _ => lines.add("not read\n"),
     }
 }
 
 fn tell_blind(
     alloc: Global,
-    text: &mut String,
+    lines: &mut Lines,
     program: &TypedProgram,
     part: &PublicPart,
     answers: &[u64],
-) -> Result<(), AllocError>
+)
     requires sound { IsSound (typed_program_tree program.now) }
     requires part { IsWritable part.now }
 {
-    write!(text, "blind {answers:?}\n")?;
+    write!(lines, "blind {answers:?}\n");
     match blind(alloc, program, part, answers, 10, [2, 1, 1, 1]) {
-        Ok(report) => tell_report(text, &report),
-        Err(BlindErr::OpenedShort { have }) => write!(text, "short {have}\n"),
-        Err(BlindErr::Memory) => Err(AllocError),
+        Ok(report) => tell_report(lines, &report),
+        Err(BlindErr::OpenedShort { have }) => write!(lines, "short {have}\n"),
+        Err(BlindErr::Memory) => lines.run_short(),
     }
 }
 
 // Blind runs of the program that opens a number, with more words than are opened, with one, and with none.
-fn tell_blind_runs(
-    alloc: Global,
-    text: &mut String,
-    program: &TypedProgram,
-    part: &PublicPart,
-) -> Result<(), AllocError>
+fn tell_blind_runs(alloc: Global, lines: &mut Lines, program: &TypedProgram, part: &PublicPart)
     requires sound { IsSound (typed_program_tree program.now) }
     requires part { IsWritable part.now }
 {
-    tell_blind(alloc, text, program, part, &[5, 9])?;
-    tell_blind(alloc, text, program, part, &[9])?;
-    tell_blind(alloc, text, program, part, &[])
+    tell_blind(alloc, lines, program, part, &[5, 9]);
+    tell_blind(alloc, lines, program, part, &[9]);
+    tell_blind(alloc, lines, program, part, &[]);
 }
 
 // The public part of the inputs of these entries.
@@ -186,12 +175,12 @@ fn part_of(alloc: Global, entries: &str) -> Option<PublicPart>
 }
 
 /// The lines of runs in the clear and of blind ones.
-pub fn tell(alloc: Global, text: &mut String) -> Result<(), AllocError> {
+pub fn tell(alloc: Global, lines: &mut Lines) {
     for (body, entries, lengths) in RUNS {
-        tell_body(alloc, text, body, entries, lengths)?;
+        tell_body(alloc, lines, body, entries, lengths);
     }
     match (typed_body(alloc, OPENED), part_of(alloc, NUMBER)) {
-        (Some(program), Some(part)) => tell_blind_runs(alloc, text, &program, &part),
-        _ => text.push_str("not read\n"),
+        (Some(program), Some(part)) => tell_blind_runs(alloc, lines, &program, &part),
+        _ => lines.add("not read\n"),
     }
 }

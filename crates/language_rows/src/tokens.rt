@@ -1,6 +1,7 @@
 // Texts, and their tokens.
+use row_files::Lines;
 use secrec_lexer::{Sign, Token, TokenKind, lex};
-use std::alloc::{AllocError, Global};
+use std::alloc::Global;
 
 // Every sign and keyword, in order.
 const SIGNS: [Sign; 58] = [
@@ -65,42 +66,42 @@ const SIGNS: [Sign; 58] = [
 ];
 
 // A token and the line and column where it begins.
-fn add_token(text: &mut String, token: &Token) -> Result<(), AllocError> {
+fn add_token(lines: &mut Lines, token: &Token) {
     match &token.kind {
-        TokenKind::Name(name) => write!(text, "{}", name.as_str())?,
-        TokenKind::Number(number) => write!(text, "{number}")?,
-        TokenKind::Text(name) => write!(text, "text {}", name.as_str())?,
-        TokenKind::Sign(_) => text.push_str("sign")?,
-        TokenKind::End => text.push_str("end")?,
+        TokenKind::Name(name) => write!(lines, "{}", name.as_str()),
+        TokenKind::Number(number) => write!(lines, "{number}"),
+        TokenKind::Text(name) => write!(lines, "text {}", name.as_str()),
+        TokenKind::Sign(_) => lines.add("sign"),
+        TokenKind::End => lines.add("end"),
     }
-    write!(text, "@{}:{} ", token.place.line, token.place.column)
+    write!(lines, "@{}:{} ", token.place.line, token.place.column);
 }
 
-fn tell_list(text: &mut String, tokens: &[Token]) -> Result<(), AllocError> {
+fn tell_list(lines: &mut Lines, tokens: &[Token]) {
     for token in tokens {
-        add_token(text, token)?;
+        add_token(lines, token);
     }
-    text.push_str("\n")
+    lines.add("\n");
 }
 
 // A text's tokens.
-fn tell_tokens(alloc: Global, text: &mut String, source: &[u8]) -> Result<(), AllocError> {
-    text.push_str("tokens ")?;
+fn tell_tokens(alloc: Global, lines: &mut Lines, source: &[u8]) {
+    lines.add("tokens ");
     match lex(alloc, source) {
-        Ok(tokens) => tell_list(text, tokens.as_slice()),
-        Err(_) => text.push_str("refused\n"),
+        Ok(tokens) => tell_list(lines, tokens.as_slice()),
+        Err(_) => lines.add("refused\n"),
     }
 }
 
 // How many of the tokens are the signs, each in its place, and how many tokens there are.
-fn tell_signs(text: &mut String, tokens: &[Token]) -> Result<(), AllocError> {
+fn tell_signs(lines: &mut Lines, tokens: &[Token]) {
     let mut count = 0usize;
     for (token, sign) in tokens.iter().zip(SIGNS.iter()) {
         if token.is(*sign) {
             count = count.saturating_add(1);
         }
     }
-    write!(text, "signs {count} of {} tokens\n", tokens.len())
+    write!(lines, "signs {count} of {} tokens\n", tokens.len());
 }
 
 const ALL_SIGNS: &[u8] =
@@ -115,12 +116,12 @@ const SOURCES: [&[u8]; 3] = [
 ];
 
 /// The lines of tokens at their places, and of all signs and keywords.
-pub fn tell(alloc: Global, text: &mut String) -> Result<(), AllocError> {
+pub fn tell(alloc: Global, lines: &mut Lines) {
     for source in SOURCES {
-        tell_tokens(alloc, text, source)?;
+        tell_tokens(alloc, lines, source);
     }
     match lex(alloc, ALL_SIGNS) {
-        Ok(tokens) => tell_signs(text, tokens.as_slice()),
-        Err(_) => text.push_str("signs refused\n"),
+        Ok(tokens) => tell_signs(lines, tokens.as_slice()),
+        Err(_) => lines.add("signs refused\n"),
     }
 }

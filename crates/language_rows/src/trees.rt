@@ -1,8 +1,9 @@
 // Expressions, and the trees that they are read as.
 use expression_parser::{Parsed, expression};
+use row_files::Lines;
 use secrec_ast::{DataType, Expression, Operator};
 use secrec_lexer::{Token, lex};
-use std::alloc::{AllocError, Global};
+use std::alloc::Global;
 
 fn sign(operator: Operator) -> &'static str {
     match operator {
@@ -56,64 +57,59 @@ fn kind(tree: &Expression) -> &'static str {
 }
 
 // Each node before its children, in square brackets, with the column where it begins.
-fn spell(text: &mut String, tree: &Expression) -> Result<(), AllocError> {
+fn spell(lines: &mut Lines, tree: &Expression) {
     write!(
-        text,
+        lines,
         " [{}{}@{}",
         kind(tree),
         word(tree),
         tree.place().column
-    )?;
+    );
     match tree {
-        Expression::Number(_, number) => write!(text, " {number}")?,
+        Expression::Number(_, number) => write!(lines, " {number}"),
         Expression::Call(_, _, arguments) => {
             for argument in arguments {
-                spell(text, argument)?;
+                spell(lines, argument);
             }
         }
         Expression::Index(_, left, right) | Expression::Binary(_, _, left, right) => {
-            spell(text, left)?;
-            spell(text, right)?;
+            spell(lines, left);
+            spell(lines, right);
         }
         Expression::Parentheses(_, inner)
         | Expression::Not(_, inner)
         | Expression::Cast(_, _, inner)
         | Expression::Declassify(_, inner)
-        | Expression::Publish(_, _, inner) => spell(text, inner)?,
+        | Expression::Publish(_, _, inner) => spell(lines, inner),
         _ => {}
     }
-    text.push_str("]")
+    lines.add("]");
 }
 
 // The height of a tree and the column of the token behind it, and the tree.
-fn tell_parsed(text: &mut String, parsed: &Parsed, rest: &[Token]) -> Result<(), AllocError> {
+fn tell_parsed(lines: &mut Lines, parsed: &Parsed, rest: &[Token]) {
     let column = match rest.first() {
         Some(token) => token.place.column,
         None => 0,
     };
-    write!(text, "{} {column}", parsed.height)?;
-    spell(text, &parsed.tree)?;
-    text.push_str("\n")
+    write!(lines, "{} {column}", parsed.height);
+    spell(lines, &parsed.tree);
+    lines.add("\n");
 }
 
-fn tell_tokens(
-    alloc: Global,
-    text: &mut String,
-    tokens: &[Token],
-    room: u8,
-) -> Result<(), AllocError> {
+fn tell_tokens(alloc: Global, lines: &mut Lines, tokens: &[Token], room: u8) {
     match expression(alloc, tokens, room) {
-        Ok((parsed, rest)) => tell_parsed(text, &parsed, rest),
-        Err(_) => text.push_str("refused\n"),
+        Ok((parsed, rest)) => tell_parsed(lines, &parsed, rest),
+        Err(_) => lines.add("refused\n"),
     }
 }
 
 // What a text is read as, with the height that it may have.
-fn tell_tree(alloc: Global, text: &mut String, source: &str, room: u8) -> Result<(), AllocError> {
-    write!(text, "tree {source} within {room}: ")?;
+fn tell_tree(alloc: Global, lines: &mut Lines, source: &str, room: u8) {
+    write!(lines, "tree {source} within {room}: ");
     match lex(alloc, source.as_bytes()) {
-        Ok(tokens) => tell_tokens(alloc, text, tokens.as_slice(), room),
-        Err(_) => text.push_str("no tokens\n"),
+        Ok(tokens) => tell_tokens(alloc, lines, tokens.as_slice(), room),
+        Err(_) => lines.add("no tokens\n"),
     }
 }
 
@@ -140,9 +136,8 @@ const SOURCES: [(&str, u8); 18] = [
 ];
 
 /// The lines of expressions as the grammar has them.
-pub fn tell(alloc: Global, text: &mut String) -> Result<(), AllocError> {
+pub fn tell(alloc: Global, lines: &mut Lines) {
     for (source, room) in SOURCES {
-        tell_tree(alloc, text, source, room)?;
+        tell_tree(alloc, lines, source, room);
     }
-    Ok(())
 }

@@ -2,8 +2,9 @@
 use crate::sources::program;
 use name_resolution::{ResolveErr, resolve};
 use program_typing::type_program;
+use row_files::Lines;
 use secrec_ast::{DataType, Program};
-use std::alloc::{AllocError, Global};
+use std::alloc::Global;
 use typed_tree::{
     Returned, Slot, SlotDomain, TypedExpression, TypedFunction, TypedProgram, TypedStatement,
 };
@@ -15,29 +16,29 @@ void main() { bool[[1]] b
 (f(2)); }
 ";
 
-fn tell_slot(text: &mut String, slot: Slot) -> Result<(), AllocError> {
+fn tell_slot(lines: &mut Lines, slot: Slot) {
     match slot.domain {
-        SlotDomain::Public => text.push_str("public ")?,
-        SlotDomain::Private(number) => write!(text, "private {number} ")?,
-        SlotDomain::Variable(number) => write!(text, "variable {number} ")?,
+        SlotDomain::Public => lines.add("public "),
+        SlotDomain::Private(number) => write!(lines, "private {number} "),
+        SlotDomain::Variable(number) => write!(lines, "variable {number} "),
     }
-    text.push_str(match slot.shape.element {
+    lines.add(match slot.shape.element {
         DataType::Uint64 => "uint64",
         DataType::Bool => "bool",
-    })?;
-    text.push_str(if slot.shape.array { "[[1]]" } else { "" })
+    });
+    lines.add(if slot.shape.array { "[[1]]" } else { "" });
 }
 
 // What a function gives back.
-fn tell_returned(text: &mut String, returned: Returned) -> Result<(), AllocError> {
+fn tell_returned(lines: &mut Lines, returned: Returned) {
     match returned {
-        Returned::Nothing => text.push_str("nothing"),
-        Returned::Value(slot) => tell_slot(text, slot),
+        Returned::Nothing => lines.add("nothing"),
+        Returned::Value(slot) => tell_slot(lines, slot),
     }
 }
 
 // The first statement of a function, where it is of the kinds that stand in the program.
-fn tell_first(text: &mut String, body: &[TypedStatement]) -> Result<(), AllocError> {
+fn tell_first(lines: &mut Lines, body: &[TypedStatement]) {
     match body.first() {
         Some(
             TypedStatement::Fill(
@@ -47,65 +48,64 @@ fn tell_first(text: &mut String, body: &[TypedStatement]) -> Result<(), AllocErr
                 TypedExpression::Truth(truth),
             ),
         ) => write!(
-            text,
+            lines,
             "line {line} fills slot {slot} with {truth}, function {function} is called in line {place}\n"
         ),
         Some(TypedStatement::Return(Some(TypedExpression::Variable(slot)))) => {
-            write!(text, "returns slot {slot}\n")
+            write!(lines, "returns slot {slot}\n")
         }
-        _ => text.push_str("another statement\n"),
+        _ => lines.add("another statement\n"),
     }
 }
 
-fn tell_function(text: &mut String, function: &TypedFunction) -> Result<(), AllocError> {
+fn tell_function(lines: &mut Lines, function: &TypedFunction) {
     write!(
-        text,
+        lines,
         "typed {}: size {}, parameters {}, gives ",
         function.name.as_str(),
         function.size,
         function.parameters
-    )?;
-    tell_returned(text, function.given)?;
-    text.push_str(": ")?;
-    tell_first(text, &function.body)
+    );
+    tell_returned(lines, function.given);
+    lines.add(": ");
+    tell_first(lines, &function.body);
 }
 
 // The functions of a program in the order of their calls.
-fn tell_functions(text: &mut String, typed: &TypedProgram) -> Result<(), AllocError> {
+fn tell_functions(lines: &mut Lines, typed: &TypedProgram) {
     for function in &typed.functions {
-        tell_function(text, function)?;
+        tell_function(lines, function);
     }
-    Ok(())
 }
 
-fn tell_typed(alloc: Global, text: &mut String, program: &Program) -> Result<(), AllocError> {
+fn tell_typed(alloc: Global, lines: &mut Lines, program: &Program) {
     match type_program(alloc, program) {
-        Ok(typed) => tell_functions(text, &typed),
-        Err(_) => text.push_str("not typed\n"),
+        Ok(typed) => tell_functions(lines, &typed),
+        Err(_) => lines.add("not typed\n"),
     }
 }
 
 // A program with a name that means nothing.
-fn tell_unresolved(alloc: Global, text: &mut String, program: &Program) -> Result<(), AllocError> {
+fn tell_unresolved(alloc: Global, lines: &mut Lines, program: &Program) {
     match resolve(alloc, program) {
-        Ok(_) => text.push_str("x is resolved\n"),
-        Err(ResolveErr::Unresolved) => text.push_str("x is not resolved\n"),
-        Err(ResolveErr::Memory) => Err(AllocError),
+        Ok(_) => lines.add("x is resolved\n"),
+        Err(ResolveErr::Unresolved) => lines.add("x is not resolved\n"),
+        Err(ResolveErr::Memory) => lines.run_short(),
     }
 }
 
-fn tell_program(alloc: Global, text: &mut String) -> Result<(), AllocError> {
+fn tell_program(alloc: Global, lines: &mut Lines) {
     match program(alloc, PROGRAM) {
-        Some(program) => tell_typed(alloc, text, &program),
-        None => text.push_str("typed: no program\n"),
+        Some(program) => tell_typed(alloc, lines, &program),
+        None => lines.add("typed: no program\n"),
     }
 }
 
 /// The lines of the typed functions, and of a name that means nothing.
-pub fn tell(alloc: Global, text: &mut String) -> Result<(), AllocError> {
-    tell_program(alloc, text)?;
+pub fn tell(alloc: Global, lines: &mut Lines) {
+    tell_program(alloc, lines);
     match program(alloc, "void main() { x; }") {
-        Some(program) => tell_unresolved(alloc, text, &program),
-        None => text.push_str("x: no program\n"),
+        Some(program) => tell_unresolved(alloc, lines, &program),
+        None => lines.add("x: no program\n"),
     }
 }

@@ -1,28 +1,36 @@
 // Gates, their copies, and what they make of clear values.
 use crate::lines::line;
 use gates::{Gate, RingKind, Values, Words, blocks, evaluated};
+use row_files::Lines;
 use std::alloc::{AllocError, Global};
 
 const COUNTS: [u64; 6] = [0, 1, 512, 513, 1_048_576, 18_446_744_073_709_551_615];
 
 // A gate, its copy, and how many values it makes.
-fn tell_gate(text: &mut String, gate: &Gate, copied: &Gate) -> Result<(), AllocError> {
-    write!(text, "{gate:?}\n{copied:?}\n")?;
-    line(text, "makes", &[gate.made_by()])
+fn tell_gate(lines: &mut Lines, gate: &Gate, copied: Result<Gate, AllocError>) {
+    match copied {
+        Ok(copied) => write!(lines, "{gate:?}\n{copied:?}\n"),
+        Err(AllocError) => lines.run_short(),
+    }
+    line(lines, "makes", &[gate.made_by()]);
 }
 
-// A gate and a list of words that are copied.
-fn tell_copies(alloc: Global, text: &mut String) -> Result<(), AllocError> {
-    let list = Words::new(vec![in alloc; 3, 0, 9]?);
-    let copied = list.copy(alloc)?.into_vec();
-    line(text, "words", &copied)?;
+fn tell_words(lines: &mut Lines, copied: Result<Words, AllocError>) {
+    match copied {
+        Ok(copied) => line(lines, "words", &copied.into_vec()),
+        Err(AllocError) => lines.run_short(),
+    }
+}
+
+// A list of words and a gate that are copied.
+fn tell_copies(alloc: Global, lines: &mut Lines, list: Words) {
+    tell_words(lines, list.copy(alloc));
     let gate = Gate::MulPub {
         ring: RingKind::Arithmetic,
         operand: 7,
         list,
     };
-    let copied = gate.copy(alloc)?;
-    tell_gate(text, &gate, &copied)
+    tell_gate(lines, &gate, gate.copy(alloc));
 }
 
 // A list of gates over one input of two words.
@@ -53,22 +61,44 @@ fn listed() -> [Gate; 8] {
     ]
 }
 
-// The values of gates over an input of two words, with 9 for the word that is drawn.
-fn tell_values(alloc: Global, text: &mut String) -> Result<(), AllocError> {
+fn inputs(alloc: Global) -> Result<Values, AllocError> {
     let mut inputs = Values::new(alloc);
     inputs.push(Words::new(vec![in alloc; 6, 1]?))?;
-    let values = evaluated(alloc, 9, &inputs, Values::new(alloc), &listed())?;
+    Ok(inputs)
+}
+
+// The values of gates over an input of two words, with 9 for the word that is drawn.
+fn values(alloc: Global) -> Result<Values, AllocError> {
+    let inputs = inputs(alloc)?;
+    evaluated(alloc, 9, &inputs, Values::new(alloc), &listed())
+}
+
+fn tell_values(lines: &mut Lines, values: &Values) {
     for number in [1u64, 5, 7, 8] {
-        line(text, "value", values.value(number))?;
+        line(lines, "value", values.value(number));
     }
-    Ok(())
+}
+
+// The lines of blocks.
+fn tell_blocks(lines: &mut Lines) {
+    for count in COUNTS {
+        line(lines, "blocks", &[count, blocks(count)]);
+    }
+}
+
+fn list(alloc: Global) -> Result<Words, AllocError> {
+    Ok(Words::new(vec![in alloc; 3, 0, 9]?))
 }
 
 /// The lines of blocks, copies and values of gates.
-pub fn tell(alloc: Global, text: &mut String) -> Result<(), AllocError> {
-    for count in COUNTS {
-        line(text, "blocks", &[count, blocks(count)])?;
+pub fn tell(alloc: Global, lines: &mut Lines) {
+    tell_blocks(lines);
+    match list(alloc) {
+        Ok(list) => tell_copies(alloc, lines, list),
+        Err(AllocError) => lines.run_short(),
     }
-    tell_copies(alloc, text)?;
-    tell_values(alloc, text)
+    match values(alloc) {
+        Ok(values) => tell_values(lines, &values),
+        Err(AllocError) => lines.run_short(),
+    }
 }

@@ -3,6 +3,7 @@ use crate::lines::{add_words, line};
 use gates::{Gate, RingKind, Words};
 use joint_run::{JointErr, JointRun, SharedValues, Tapes, joint_run};
 use proto_core::{Link, Number};
+use row_files::Lines;
 use std::alloc::{AllocError, Global};
 
 const TOP: u64 = 18_446_744_073_709_551_615;
@@ -48,17 +49,17 @@ fn counts(run: &JointRun) -> [u64; 9] {
 }
 
 // The three shares of a value.
-fn add_shares(text: &mut String, run: &JointRun, value: u64) -> Result<(), AllocError> {
-    add_words(text, run.shares.of(Number::One).value(value))?;
-    add_words(text, run.shares.of(Number::Two).value(value))?;
-    add_words(text, run.shares.of(Number::Three).value(value))
+fn add_shares(lines: &mut Lines, run: &JointRun, value: u64) {
+    add_words(lines, run.shares.of(Number::One).value(value));
+    add_words(lines, run.shares.of(Number::Two).value(value));
+    add_words(lines, run.shares.of(Number::Three).value(value));
 }
 
 // A message of a link.
-fn add_message(text: &mut String, run: &JointRun, link: Link, at: usize) -> Result<(), AllocError> {
+fn add_message(lines: &mut Lines, run: &JointRun, link: Link, at: usize) {
     match run.transcript.traffic.on(link).get(at) {
-        Some(message) => add_words(text, message.words()),
-        None => text.push_str(" no message"),
+        Some(message) => add_words(lines, message.words()),
+        None => lines.add(" no message"),
     }
 }
 
@@ -70,48 +71,56 @@ struct Asked<'a> {
 }
 
 // What a run opens and counts, the shares of some values, and some messages.
-fn tell_run(text: &mut String, run: &JointRun, asked: Asked<'_>) -> Result<(), AllocError> {
-    add_words(text, run.transcript.opened.as_slice())?;
-    add_words(text, &counts(run))?;
+fn tell_run(lines: &mut Lines, run: &JointRun, asked: Asked<'_>) {
+    add_words(lines, run.transcript.opened.as_slice());
+    add_words(lines, &counts(run));
     for value in asked.values {
-        add_shares(text, run, *value)?;
+        add_shares(lines, run, *value);
     }
     for (link, at) in asked.messages {
-        add_message(text, run, *link, *at)?;
+        add_message(lines, run, *link, *at);
     }
-    text.push_str("\n")
+    lines.add("\n");
 }
 
 // Why a run is refused.
-fn tell_refusal(text: &mut String, error: JointErr) -> Result<(), AllocError> {
+fn tell_refusal(lines: &mut Lines, error: JointErr) {
     match error {
-        JointErr::Memory => Err(AllocError),
-        JointErr::Dealt => text.push_str(" dealt\n"),
-        JointErr::Unsuited { place } => write!(text, " unsuited {place}\n"),
+        JointErr::Memory => lines.run_short(),
+        JointErr::Dealt => lines.add(" dealt\n"),
+        JointErr::Unsuited { place } => write!(lines, " unsuited {place}\n"),
         JointErr::TapeEnds {
             place,
             miner,
             need,
             have,
         } => write!(
-            text,
+            lines,
             " gate {place} miner {miner} need {need} have {have}\n"
         ),
     }
 }
 
 // A line of what a run gives, or why it is refused.
+fn tell_end(lines: &mut Lines, run: Result<JointRun, JointErr>, asked: Asked<'_>) {
+    match run {
+        Ok(run) => tell_run(lines, &run, asked),
+        Err(error) => tell_refusal(lines, error),
+    }
+}
+
+// The line of gates over what is dealt.
 fn tell_gates(
     alloc: Global,
-    text: &mut String,
+    lines: &mut Lines,
     gates: &[Gate],
-    dealt: &SharedValues,
+    dealt: Result<SharedValues, AllocError>,
     tapes: Tapes<'_>,
     asked: Asked<'_>,
-) -> Result<(), AllocError> {
-    match joint_run(alloc, gates, dealt, tapes) {
-        Ok(run) => tell_run(text, &run, asked),
-        Err(error) => tell_refusal(text, error),
+) {
+    match dealt {
+        Ok(dealt) => tell_end(lines, joint_run(alloc, gates, &dealt, tapes), asked),
+        Err(AllocError) => lines.run_short(),
     }
 }
 
@@ -160,29 +169,29 @@ const ALL_VALUES: Asked<'static> = Asked {
 };
 
 // Two inputs and their product, opened.
-fn product(alloc: Global, text: &mut String, tapes: Tapes<'_>) -> Result<(), AllocError> {
+fn product(alloc: Global, lines: &mut Lines, tapes: Tapes<'_>) {
     let gates = [
         input(0),
         input(1),
         Gate::Mul { left: 0, right: 1 },
         opened(2),
     ];
-    let dealt = two_words(alloc, [0, 0, 6], [0, 0, 7])?;
-    text.push_str("product")?;
-    tell_gates(alloc, text, &gates, &dealt, tapes, PRODUCT)
+    let dealt = two_words(alloc, [0, 0, 6], [0, 0, 7]);
+    lines.add("product");
+    tell_gates(alloc, lines, &gates, dealt, tapes, PRODUCT);
 }
 
 // A bit that becomes a number.
-fn converted(alloc: Global, text: &mut String, bit: u64) -> Result<(), AllocError> {
+fn converted(alloc: Global, lines: &mut Lines, bit: u64) {
     let gates = [input(0), Gate::Conv { operand: 0 }, opened(1)];
-    let dealt = two_words(alloc, [0, 0, bit], [0, 0, 0])?;
-    write!(text, "converted {bit}:")?;
+    let dealt = two_words(alloc, [0, 0, bit], [0, 0, 0]);
+    write!(lines, "converted {bit}:");
     let tapes = same_tapes(&[3, 2, 10, 0, 0]);
-    tell_gates(alloc, text, &gates, &dealt, tapes, FIRST_MESSAGES)
+    tell_gates(alloc, lines, &gates, dealt, tapes, FIRST_MESSAGES);
 }
 
 // 5 is 1 + 1 + 3; with the word 7 the second miner has 1 + 7, the third 3 + 1 - 7, or its negative.
-fn split(alloc: Global, text: &mut String, negated: bool) -> Result<(), AllocError> {
+fn split(alloc: Global, lines: &mut Lines, negated: bool) {
     let gates = [
         input(0),
         Gate::Split {
@@ -195,14 +204,14 @@ fn split(alloc: Global, text: &mut String, negated: bool) -> Result<(), AllocErr
         },
         Gate::Not { operand: 1 },
     ];
-    let dealt = two_words(alloc, [1, 1, 3], [0, 0, 0])?;
+    let dealt = two_words(alloc, [1, 1, 3], [0, 0, 0]);
     let tapes = Tapes {
         first: &[7, 1],
         second: &[4],
         third: &[2],
     };
-    write!(text, "split {negated}:")?;
-    tell_gates(alloc, text, &gates, &dealt, tapes, ALL_VALUES)
+    write!(lines, "split {negated}:");
+    tell_gates(alloc, lines, &gates, dealt, tapes, ALL_VALUES);
 }
 
 // Each number is the sum of three shares.
@@ -210,115 +219,160 @@ fn shares_of(number: u64) -> [u64; 3] {
     [WORD, 5, number.wrapping_sub(WORD).wrapping_sub(5)]
 }
 
-fn less(alloc: Global, text: &mut String, a: u64, b: u64) -> Result<(), AllocError> {
-    let mut gates = vec![in alloc; input(0), input(1)]?;
-    gates.append(&mut compare::plan(alloc, 2, 0, 1, 1)?)?;
-    gates.push(opened_truth(111))?;
-    let dealt = two_words(alloc, shares_of(a), shares_of(b))?;
-    write!(text, "less {a} {b}:")?;
-    tell_gates(
-        alloc,
-        text,
-        &gates,
-        &dealt,
-        same_tapes(&[WORD; 121]),
-        COUNTS,
-    )
+// The gates that make the operands of a plan, the plan, and the gate that opens a value.
+fn opened_plan(
+    mut gates: Vec<Gate>,
+    mut plan: Vec<Gate>,
+    value: u64,
+) -> Result<Vec<Gate>, AllocError> {
+    gates.append(&mut plan)?;
+    gates.push(opened_truth(value))?;
+    Ok(gates)
 }
 
-fn equal(alloc: Global, text: &mut String, a: u64, b: u64) -> Result<(), AllocError> {
-    let mut gates = vec![in alloc; input(0), input(1), Gate::Sub { left: 0, right: 1 }]?;
-    gates.append(&mut equality::plan(alloc, 3, 2, 1)?)?;
-    gates.push(opened_truth(19))?;
-    let dealt = two_words(alloc, shares_of(a), shares_of(b))?;
-    write!(text, "equal {a} {b}:")?;
-    tell_gates(alloc, text, &gates, &dealt, same_tapes(&[WORD; 20]), COUNTS)
+fn less_plan(alloc: Global) -> Result<Vec<Gate>, AllocError> {
+    let plan = compare::plan(alloc, 2, 0, 1, 1)?;
+    opened_plan(vec![in alloc; input(0), input(1)]?, plan, 111)
+}
+
+fn equal_plan(alloc: Global) -> Result<Vec<Gate>, AllocError> {
+    let plan = equality::plan(alloc, 3, 2, 1)?;
+    let operands = vec![in alloc; input(0), input(1), Gate::Sub { left: 0, right: 1 }]?;
+    opened_plan(operands, plan, 19)
+}
+
+// The line of a plan for two numbers.
+fn tell_plan(
+    alloc: Global,
+    lines: &mut Lines,
+    plan: Result<Vec<Gate>, AllocError>,
+    numbers: [u64; 2],
+    tape: &[u64],
+) {
+    match plan {
+        Ok(gates) => tell_gates(
+            alloc,
+            lines,
+            &gates,
+            two_words(alloc, shares_of(numbers[0]), shares_of(numbers[1])),
+            same_tapes(tape),
+            COUNTS,
+        ),
+        Err(AllocError) => lines.run_short(),
+    }
+}
+
+fn less(alloc: Global, lines: &mut Lines, a: u64, b: u64) {
+    write!(lines, "less {a} {b}:");
+    tell_plan(alloc, lines, less_plan(alloc), [a, b], &[WORD; 121]);
+}
+
+fn equal(alloc: Global, lines: &mut Lines, a: u64, b: u64) {
+    write!(lines, "equal {a} {b}:");
+    tell_plan(alloc, lines, equal_plan(alloc), [a, b], &[WORD; 20]);
 }
 
 // A gate that is the difference of a product and what is not there.
-fn unsuited(alloc: Global, text: &mut String) -> Result<(), AllocError> {
+fn unsuited(alloc: Global, lines: &mut Lines) {
     let gates = [
         input(0),
         input(1),
         Gate::Mul { left: 0, right: 1 },
         Gate::Sub { left: 2, right: 4 },
     ];
-    let dealt = two_words(alloc, [0, 0, 6], [0, 0, 7])?;
-    text.push_str("no such value")?;
-    tell_gates(alloc, text, &gates, &dealt, same_tapes(&[0; 3]), COUNTS)
+    let dealt = two_words(alloc, [0, 0, 6], [0, 0, 7]);
+    lines.add("no such value");
+    tell_gates(alloc, lines, &gates, dealt, same_tapes(&[0; 3]), COUNTS);
 }
 
-// The second miner is dealt one word where the others are dealt two.
-fn uneven(alloc: Global, text: &mut String) -> Result<(), AllocError> {
+fn uneven_shares(alloc: Global) -> Result<SharedValues, AllocError> {
     let mut dealt = SharedValues::new(alloc);
     dealt.push(
         Words::new(vec![in alloc; 1, 2]?),
         Words::new(vec![in alloc; 1]?),
         Words::new(vec![in alloc; 1, 2]?),
     )?;
-    text.push_str("uneven shares")?;
-    tell_gates(alloc, text, &[input(0)], &dealt, same_tapes(&[]), COUNTS)
+    Ok(dealt)
+}
+
+// The second miner is dealt one word where the others are dealt two.
+fn uneven(alloc: Global, lines: &mut Lines) {
+    let dealt = uneven_shares(alloc);
+    lines.add("uneven shares");
+    tell_gates(alloc, lines, &[input(0)], dealt, same_tapes(&[]), COUNTS);
 }
 
 // How many words are opened, how many of them are 9, and what is counted.
-fn tell_nines(text: &mut String, run: &JointRun) -> Result<(), AllocError> {
+fn tell_nines(lines: &mut Lines, run: &JointRun) {
     let words = run.transcript.opened.as_slice();
     let nines = words.iter().filter(|word| **word == 9).count();
-    add_words(text, &[words.len() as u64, nines as u64])?;
-    line(text, "", &counts(run))
+    add_words(lines, &[words.len() as u64, nines as u64]);
+    line(lines, "", &counts(run));
 }
 
-// A list of threes that is squared and opened.
-fn squared(alloc: Global, text: &mut String, n: usize) -> Result<(), AllocError> {
-    let gates = [input(0), Gate::Mul { left: 0, right: 0 }, opened(1)];
+fn tell_square(lines: &mut Lines, run: Result<JointRun, JointErr>) {
+    match run {
+        Ok(run) => tell_nines(lines, &run),
+        Err(error) => tell_refusal(lines, error),
+    }
+}
+
+fn shares_of_threes(alloc: Global, n: usize) -> Result<SharedValues, AllocError> {
     let mut dealt = SharedValues::new(alloc);
     dealt.push(
         Words::new(vec![in alloc; 1; n]?),
         Words::new(vec![in alloc; TOP; n]?),
         Words::new(vec![in alloc; 3; n]?),
     )?;
-    let tape = vec![in alloc; WORD; 2053]?;
-    text.push_str("squares")?;
-    match joint_run(alloc, &gates, &dealt, same_tapes(&tape)) {
-        Ok(run) => tell_nines(text, &run),
-        Err(error) => tell_refusal(text, error),
+    Ok(dealt)
+}
+
+// A list of threes that is squared and opened.
+fn squared(alloc: Global, lines: &mut Lines, n: usize) {
+    let gates = [input(0), Gate::Mul { left: 0, right: 0 }, opened(1)];
+    lines.add("squares");
+    match shares_of_threes(alloc, n) {
+        Ok(dealt) => {
+            let run = joint_run(alloc, &gates, &dealt, same_tapes(&[WORD; 2053]));
+            tell_square(lines, run);
+        }
+        Err(AllocError) => lines.run_short(),
     }
 }
 
 // Gates that are told by their shares and messages.
-fn tell_gate_runs(alloc: Global, text: &mut String) -> Result<(), AllocError> {
+fn tell_gate_runs(alloc: Global, lines: &mut Lines) {
     let short = Tapes {
         first: &[0, 0, 0],
         second: &[0, 0],
         third: &[0],
     };
-    product(alloc, text, same_tapes(&[0; 5]))?;
-    product(alloc, text, short)?;
-    unsuited(alloc, text)?;
-    uneven(alloc, text)?;
-    split(alloc, text, false)?;
-    split(alloc, text, true)
+    product(alloc, lines, same_tapes(&[0; 5]));
+    product(alloc, lines, short);
+    unsuited(alloc, lines);
+    uneven(alloc, lines);
+    split(alloc, lines, false);
+    split(alloc, lines, true);
 }
 
 // Plans that are told by what they open.
-fn tell_plan_runs(alloc: Global, text: &mut String) -> Result<(), AllocError> {
+fn tell_plan_runs(alloc: Global, lines: &mut Lines) {
     for bit in [0u64, 1] {
-        converted(alloc, text, bit)?;
+        converted(alloc, lines, bit);
     }
     for (a, b) in [(TOP, 1u64), (1, TOP), (7, 7)] {
-        less(alloc, text, a, b)?;
+        less(alloc, lines, a, b);
     }
     for (a, b) in [(0u64, TOP), (5, 5)] {
-        equal(alloc, text, a, b)?;
+        equal(alloc, lines, a, b);
     }
     for n in [512usize, 513, 0] {
-        squared(alloc, text, n)?;
+        squared(alloc, lines, n);
     }
-    Ok(())
 }
 
 /// The lines of joint runs.
-pub fn tell(alloc: Global, text: &mut String) -> Result<(), AllocError> {
-    tell_gate_runs(alloc, text)?;
-    tell_plan_runs(alloc, text)
+pub fn tell(alloc: Global, lines: &mut Lines) {
+    tell_gate_runs(alloc, lines);
+    tell_plan_runs(alloc, lines);
 }

@@ -1,18 +1,18 @@
 //! How a line is put together.
 use proto_core::BadMessage;
-use std::alloc::AllocError;
+use row_files::Lines;
 
 /// Adds words to a line.
-pub fn add_words(text: &mut String, words: &[u64]) -> Result<(), AllocError> {
-    write!(text, " {words:?}")
+pub fn add_words(lines: &mut Lines, words: &[u64]) {
+    write!(lines, " {words:?}");
 }
 
 /// Adds to a line why a message is refused.
-pub fn add_cause(text: &mut String, cause: BadMessage) -> Result<(), AllocError> {
-    write!(text, " {cause:?}")
+pub fn add_cause(lines: &mut Lines, cause: BadMessage) {
+    write!(lines, " {cause:?}");
 }
 
 /// A line of a name and words.
-pub fn line(text: &mut String, name: &str, words: &[u64]) -> Result<(), AllocError> {
-    write!(text, "{name} {words:?}\n")
+pub fn line(lines: &mut Lines, name: &str, words: &[u64]) {
+    write!(lines, "{name} {words:?}\n");
 }

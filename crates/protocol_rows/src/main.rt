@@ -18,31 +18,33 @@ mod rings;
 mod splitting;
 
 use anyhow::Result;
+use row_files::Lines;
 use std::alloc::{AllocError, Global};
 
 // What single protocols do.
-fn tell_protocols(text: &mut String) -> Result<(), AllocError> {
-    resharing::tell(text)?;
-    opening::tell(text)?;
-    splitting::tell(text)?;
-    converting::tell(text)?;
-    multiplying::tell(text)
+fn tell_protocols(lines: &mut Lines) {
+    resharing::tell(lines);
+    opening::tell(lines);
+    splitting::tell(lines);
+    converting::tell(lines);
+    multiplying::tell(lines);
 }
 
 // All lines.
-fn tell(alloc: Global, text: &mut String) -> Result<(), AllocError> {
-    rings::tell(text)?;
-    blocks::tell(alloc, text)?;
-    tell_protocols(text)?;
-    gate_lists::tell(alloc, text)?;
-    plans::tell(alloc, text)?;
-    joint_runs::tell(alloc, text)?;
-    miners::tell(alloc, text)
+fn told(alloc: Global) -> Result<String, AllocError> {
+    let mut lines = Lines::new(alloc);
+    rings::tell(&mut lines);
+    blocks::tell(alloc, &mut lines);
+    tell_protocols(&mut lines);
+    gate_lists::tell(alloc, &mut lines);
+    plans::tell(alloc, &mut lines);
+    joint_runs::tell(alloc, &mut lines);
+    miners::tell(alloc, &mut lines);
+    lines.whole()
 }
 
 fn main(rt: HostRuntime) -> Result<()> {
-    let mut text = String::new(rt.alloc());
-    tell(rt.alloc(), &mut text)?;
-    print!(rt; "{}", text.as_str())?;
+    let text = told(rt.alloc())?;
+    print!(rt; "{text}")?;
     Ok(())
 }

@@ -7,9 +7,10 @@ use bytecode::decode;
 use gates::{Values, Words};
 use miner_core::{End, Miner, MinerErr, Step, Task};
 use proto_core::{Link, Msg, P1, P2, Party};
+use row_files::Lines;
 use sc_text::Name;
 use secrec_ast::DataType;
-use std::alloc::{AllocError, Global};
+use std::alloc::Global;
 use typed_tree::Shape;
 use value_steps::{GivenInput, Lengths};
 use verified_code::{Verified, verify};
@@ -99,92 +100,87 @@ fn miner<P: Party>(alloc: Global, source: Source) -> Option<Miner<P>> {
 }
 
 // Where a miner stands, or why a message leads nowhere.
-fn tell_step(text: &mut String, step: Result<Step, MinerErr>) -> Result<(), AllocError> {
+fn tell_step(lines: &mut Lines, step: Result<Step, MinerErr>) {
     match step {
-        Ok(Step::Waits(link)) => write!(text, " waits for {link};"),
-        Ok(Step::Ended(End::Over(ending))) => write!(text, " ended {ending};"),
-        Ok(Step::Ended(_)) => text.push_str(" ended otherwise;"),
-        Err(MinerErr::NotAwaited { link }) => write!(text, " {link} is not awaited;"),
+        Ok(Step::Waits(link)) => write!(lines, " waits for {link};"),
+        Ok(Step::Ended(End::Over(ending))) => write!(lines, " ended {ending};"),
+        Ok(Step::Ended(_)) => lines.add(" ended otherwise;"),
+        Err(MinerErr::NotAwaited { link }) => write!(lines, " {link} is not awaited;"),
         Err(MinerErr::BadMessage { link, cause }) => {
-            write!(text, " refused on {link}")?;
-            add_cause(text, cause)?;
-            text.push_str(";")
+            write!(lines, " refused on {link}");
+            add_cause(lines, cause);
+            lines.add(";")
         }
-        Err(MinerErr::Memory) => Err(AllocError),
+        Err(MinerErr::Memory) => lines.run_short(),
     }
 }
 
-fn tell_delivery<P: Party>(
-    text: &mut String,
-    miner: &mut Miner<P>,
-    link: Link,
-    message: &Msg,
-) -> Result<(), AllocError>
+fn tell_delivery<P: Party>(lines: &mut Lines, miner: &mut Miner<P>, link: Link, message: &Msg)
     requires { receiver_of link ≡ P.me }
 {
     let step = miner.deliver(link, message);
-    tell_step(text, step)
+    tell_step(lines, step);
 }
 
 // What a miner has sent and opened, and what its run has cost.
-fn tell_done<P: Party>(text: &mut String, miner: &Miner<P>) -> Result<(), AllocError> {
+fn tell_done<P: Party>(lines: &mut Lines, miner: &Miner<P>) {
     write!(
-        text,
+        lines,
         " sent {} and {}, opened {:?}\n",
         miner.sent_to_next().len(),
         miner.sent_to_previous().len(),
         miner.opened()
-    )
+    );
 }
 
 // A message that is too long stays the oldest, and nothing more is sent.
-fn tell_long(text: &mut String, miner: &mut Miner<P1>) -> Result<(), AllocError> {
-    text.push_str("a long message:")?;
-    tell_step(text, miner.stands())?;
-    tell_delivery(text, miner, Link::Link31, &Msg::from_words(&[0, 0]))?;
-    tell_delivery(text, miner, Link::Link31, &Msg::from_words(&[0]))?;
-    tell_delivery(text, miner, Link::Link21, &Msg::from_words(&[0]))?;
-    tell_done(text, miner)
+fn tell_long(lines: &mut Lines, miner: &mut Miner<P1>) {
+    lines.add("a long message:");
+    tell_step(lines, miner.stands());
+    tell_delivery(lines, miner, Link::Link31, &Msg::from_words(&[0, 0]));
+    tell_delivery(lines, miner, Link::Link31, &Msg::from_words(&[0]));
+    tell_delivery(lines, miner, Link::Link21, &Msg::from_words(&[0]));
+    tell_done(lines, miner);
 }
 
 // The second message is not yet awaited, and is kept. After the end no message is awaited.
-fn tell_end(text: &mut String, miner: &mut Miner<P1>) -> Result<(), AllocError> {
-    text.push_str("a run to its end:")?;
-    tell_delivery(text, miner, Link::Link31, &Msg::from_words(&[0]))?;
-    tell_delivery(text, miner, Link::Link21, &Msg::from_words(&[0]))?;
-    tell_delivery(text, miner, Link::Link31, &Msg::from_words(&[1]))?;
-    tell_delivery(text, miner, Link::Link31, &Msg::from_words(&[0]))?;
-    tell_delivery(text, miner, Link::Link21, &Msg::new())?;
-    tell_done(text, miner)
+fn tell_end(lines: &mut Lines, miner: &mut Miner<P1>) {
+    lines.add("a run to its end:");
+    tell_delivery(lines, miner, Link::Link31, &Msg::from_words(&[0]));
+    tell_delivery(lines, miner, Link::Link21, &Msg::from_words(&[0]));
+    tell_delivery(lines, miner, Link::Link31, &Msg::from_words(&[1]));
+    tell_delivery(lines, miner, Link::Link31, &Msg::from_words(&[0]));
+    tell_delivery(lines, miner, Link::Link21, &Msg::new());
+    tell_done(lines, miner);
 }
 
 // The second word has to be a bit.
-fn tell_no_bit(text: &mut String, miner: &mut Miner<P2>) -> Result<(), AllocError> {
-    text.push_str("no bit:")?;
-    tell_step(text, miner.stands())?;
-    tell_delivery(text, miner, Link::Link12, &Msg::from_words(&[10, 2, 0]))?;
-    tell_done(text, miner)
+fn tell_no_bit(lines: &mut Lines, miner: &mut Miner<P2>) {
+    lines.add("no bit:");
+    tell_step(lines, miner.stands());
+    tell_delivery(lines, miner, Link::Link12, &Msg::from_words(&[10, 2, 0]));
+    tell_done(lines, miner);
 }
 
 // The first miner of a sum, once for each of two lists of messages.
-fn tell_first(alloc: Global, text: &mut String, is_long: bool) -> Result<(), AllocError> {
+fn tell_first(alloc: Global, lines: &mut Lines, is_long: bool) {
     match miner(alloc, SUM) {
-        Some(mut miner) if is_long => tell_long(text, &mut miner),
-        Some(mut miner) => tell_end(text, &mut miner),
-        None => text.push_str("no miner\n"),
+        Some(mut miner) if is_long => tell_long(lines, &mut miner),
+        Some(mut miner) => tell_end(lines, &mut miner),
+        None => lines.add("no miner\n"),
     }
 }
 
-fn tell_second(alloc: Global, text: &mut String) -> Result<(), AllocError> {
+fn tell_second(alloc: Global, lines: &mut Lines) {
     match miner(alloc, NUMBER) {
-        Some(mut miner) => tell_no_bit(text, &mut miner),
-        None => text.push_str("no miner\n"),
+        Some(mut miner) => tell_no_bit(lines, &mut miner),
+        None => lines.add("no miner\n"),
     }
 }
 
 /// The lines of single miners.
-pub fn tell(alloc: Global, text: &mut String) -> Result<(), AllocError> {
-    tell_first(alloc, text, true)?;
-    tell_first(alloc, text, false)?;
-    tell_second(alloc, text)
+pub fn tell(alloc: Global, lines: &mut Lines) {
+    tell_first(alloc, lines, true);
+    tell_first(alloc, lines, false);
+    tell_second(alloc, lines);
 }

@@ -1,6 +1,7 @@
 // Plans of equality, bits and order, with what they make of clear values.
 use crate::lines::line;
 use gates::{Gate, Values, Words, evaluated};
+use row_files::Lines;
 use std::alloc::{AllocError, Global};
 
 const TOP: u64 = 18_446_744_073_709_551_615;
@@ -16,32 +17,54 @@ fn operands(alloc: Global, operands: &[[u64; 3]]) -> Result<Values, AllocError> 
     Ok(values)
 }
 
-// How many gates a plan has, a word that may be drawn, how many values there are behind its operands then, and the last.
-fn tell_plan(
+// What the gates of a plan make of its operands.
+fn made(
     alloc: Global,
-    text: &mut String,
-    name: &str,
+    mask: u64,
     gates: &[Gate],
     before: &[[u64; 3]],
-) -> Result<(), AllocError> {
-    let inputs = Values::new(alloc);
+) -> Result<Values, AllocError> {
+    let before = operands(alloc, before)?;
+    evaluated(alloc, mask, &Values::new(alloc), before, gates)
+}
+
+fn tell_made(lines: &mut Lines, name: &str, gates: usize, mask: u64, values: &Values) {
+    let count = values.len() as u64;
+    line(lines, name, &[gates as u64, mask, count]);
+    line(lines, "", values.value(count.saturating_sub(1)));
+}
+
+// How many gates a plan has, a word that may be drawn, how many values there are behind its operands then, and the last.
+fn tell_masks(alloc: Global, lines: &mut Lines, name: &str, gates: &[Gate], before: &[[u64; 3]]) {
     for mask in MASKS {
-        let values = evaluated(alloc, mask, &inputs, operands(alloc, before)?, gates)?;
-        let made = values.len() as u64;
-        line(text, name, &[gates.len() as u64, mask, made])?;
-        line(text, "", values.value(made.saturating_sub(1)))?;
+        match made(alloc, mask, gates, before) {
+            Ok(values) => tell_made(lines, name, gates.len(), mask, &values),
+            Err(AllocError) => lines.run_short(),
+        }
     }
-    Ok(())
+}
+
+fn tell_plan(
+    alloc: Global,
+    lines: &mut Lines,
+    name: &str,
+    plan: Result<Vec<Gate>, AllocError>,
+    before: &[[u64; 3]],
+) {
+    match plan {
+        Ok(gates) => tell_masks(alloc, lines, name, &gates, before),
+        Err(AllocError) => lines.run_short(),
+    }
 }
 
 /// The lines of the three plans.
-pub fn tell(alloc: Global, text: &mut String) -> Result<(), AllocError> {
+pub fn tell(alloc: Global, lines: &mut Lines) {
     let words = [[0, TOP, 5]];
     let numbers = [[TOP, 1, 5], [1, TOP, 5]];
-    let gates = equality::plan(alloc, 1, 0, 3)?;
-    tell_plan(alloc, text, "equality", &gates, &words)?;
-    let gates = bit_extract::plan(alloc, 1, 0, 3)?;
-    tell_plan(alloc, text, "bits", &gates, &words)?;
-    let gates = compare::plan(alloc, 2, 0, 1, 3)?;
-    tell_plan(alloc, text, "less", &gates, &numbers)
+    let plan = equality::plan(alloc, 1, 0, 3);
+    tell_plan(alloc, lines, "equality", plan, &words);
+    let plan = bit_extract::plan(alloc, 1, 0, 3);
+    tell_plan(alloc, lines, "bits", plan, &words);
+    let plan = compare::plan(alloc, 2, 0, 1, 3);
+    tell_plan(alloc, lines, "less", plan, &numbers);
 }

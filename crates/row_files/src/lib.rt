@@ -1,7 +1,10 @@
 //! Row files: calls of the program that stand in text files, with what each must answer and leave; and how what came out differs from it.
+//!
+//! And the lines of a program that prints what it tried.
 #![tactic(auto)]
 
 mod compared;
+mod lines;
 mod pieces;
 mod reader;
 mod row;
@@ -11,6 +14,7 @@ mod tally;
 mod wrong;
 
 pub use compared::{Outcome, judge};
+pub use lines::Lines;
 pub use reader::{Refused, read_rows};
 pub use row::{Failing, Kind, Object, Row, Text, peer_of};
 pub use slow::SlowSink;
