@@ -1,4 +1,7 @@
-"""What crates.txt says: the crates, each with what it stands on; and where an imported file of definitions or lemmas stands."""
+"""What crates.txt says: the crates, each with what it stands on; and where an imported file of definitions or lemmas stands.
+
+Run by itself, it prints for each crate all crates of the repository below it, as `NAME: CRATE ..`.
+"""
 import functools
 import os
 import re
@@ -12,6 +15,16 @@ def listed(path="crates.txt"):
             name, colon, rest = line.split("#")[0].partition(":")
             if colon:
                 found[name.split()[0]] = rest.split()
+    return found
+
+
+def all_below(crates, crate, found=None):
+    """All crates of the repository that a crate stands on, itself or through others."""
+    found = set() if found is None else found
+    for name in crates[crate]:
+        if name in crates and name not in found:
+            found.add(name)
+            all_below(crates, name, found)
     return found
 
 
@@ -31,3 +44,9 @@ def at_home(parts):
     while len(parts) > 2 and parts[2] in passed_on(parts[0], parts[1]):
         parts = [*passed_on(parts[0], parts[1])[parts[2]], *parts[3:]]
     return parts
+
+
+if __name__ == "__main__":
+    CRATES = listed()
+    for each in CRATES:
+        print(f"{each}: {' '.join(sorted(all_below(CRATES, each)))}")
