@@ -18,8 +18,8 @@ MAIN = HEAD + """void main() {
 }
 """
 CALLED = HEAD + """p uint64[[1]] stored(p uint64[[1]] a, p uint64 x) {
-    uint64 i = 0;
-    for (i = 0; i < size(a); i++) { a[i] = x; }
+    uint64 n = size(a); uint64 i = 0;
+    for (i = 0; i < n; i++) { a[i] = x; }
     return a;
 }
 void main() {

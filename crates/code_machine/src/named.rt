@@ -94,7 +94,7 @@ fn count_kept(callers: &[Caller]) -> u128
 impl Machine {
     /// Whether it has no value of this number, in its registers or in those of its callers. Where they are more than `most` they aren't looked
     /// through, and it may have one.
-    pub fn frees(&self, number: u64, most: usize) -> bool
+    pub fn is_free_of(&self, number: u64, most: usize) -> bool
         ensures exactly { result ≡ nat_le (length self.now.registers.items + count_kept self.now.callers.items) most
             && (not (is_in self.now.registers.items number) && not (is_in_any self.now.callers.items number)) }
         ensures frees { result ≡ true → (code : RawCode) → MachineNames (machine_seen code self.now) number → ⊥ }

@@ -30,7 +30,7 @@ pub(crate) fn put_element(registers: &mut Vec<Value>, register: Register, elemen
         ≡ put register.0 (written (registers_seen registers.old.items register.0) element) (registers_seen registers.old.items) }
     ensures count { length registers.new.items ≡ length registers.old.items }
 {
-    element.into_array(&mut registers[register.0 as usize]);
+    element.write_to(&mut registers[register.0 as usize]);
 }
 
 /// The value of a register, taken out, or the other value where no register is named.

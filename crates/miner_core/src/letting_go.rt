@@ -27,7 +27,8 @@ const LARGE: usize = 4096;
 /// How many words an array has, at least, that is let go where it is stored into.
 const ARRAY: usize = 32;
 
-/// When values are let go: how many there were when it was done last, and from how many on it is done again, whatever their size.
+/// When values are let go: how many there were when it was done last, or when an array was last stored into in place; and from how many on it is
+/// done again, whatever their size.
 #[derive(Clone, Copy)]
 pub(crate) struct Letting {
     pub done: usize,
@@ -109,7 +110,7 @@ impl<P: Party> Engine<P> {
             return None;
         };
         let size = values.value(*operand).len();
-        if size >= ARRAY && self.machine.frees(*operand, size) {
+        if size >= ARRAY && self.machine.is_free_of(*operand, size) {
             Some(*operand)
         } else {
             None

@@ -1,4 +1,5 @@
-//! The commands that need no miners (`check`, `compile`, `eval`, `need` and `deal`), and the programs and files that commands read.
+//! The commands `check`, `compile`, `eval`, `need` and `deal`, and what the others share with them: programs and files that are read, orders of delivery,
+//! files that are written.
 #![tactic(auto)]
 
 mod check;

@@ -165,6 +165,7 @@ pub fn secrec<F: Files, O: Sink, E: Sink, L: Links, C: Spawner>(
 
     // A command that comes to its end says nothing; one that stops for another reason than output or memory
     // prints nothing. Only paths that the words name to be written change, of them only those of the answer, and nothing else.
+    // No peer and no child stops a command of today.
     ensures end_says_nothing { is_end result ≡ true → can_refuse result ≡ false →
         SameSink (E.state err.old) (E.state err.new) }
     ensures refused_prints_nothing { is_end result ≡ false → result ≢ Status.Write → result ≢ Status.Memory →

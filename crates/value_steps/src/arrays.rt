@@ -96,14 +96,17 @@ pub fn element_of_array(
 /// What becomes of an array by an element that is written: the word at an index, and who may see the array then.
 #[derive(Clone, Copy)]
 pub struct WrittenElement {
+    /// Where it stands in the array, from 0.
     pub index: u64,
+    /// Its word; of a private element the word that who takes the steps has in its place.
     pub word: u64,
+    /// Who may see the array, with the number of the value that it has then.
     pub secrecy: Secrecy,
 }
 
 impl WrittenElement {
-    /// The array with the element, which is written in place.
-    pub fn into_array(self, array: &mut Value)
+    /// Writes the element into the array, in place.
+    pub fn write_to(self, array: &mut Value)
         requires { self.index < size (value_seen array.old) }
         ensures { value_seen array.new ≡ written (value_seen array.old) self }
     {
@@ -159,7 +162,7 @@ pub fn element_written(
 pub fn with_element(
     stage: &mut Stage<'_>,
     line: u32,
-    array: Value,
+    mut array: Value,
     index: &Value,
     element: &Value,
 ) -> Result<Value, Halt>
@@ -167,10 +170,9 @@ pub fn with_element(
         (stage_seen stage.old) result (stage_seen stage.new) }
     ensures spends { stage.new.left ≤ stage.old.left }
 {
-    let mut array = array;
     let alloc = *array.words.allocator();
     let written = element_written(alloc, stage, line, &array, index, element)?;
-    written.into_array(&mut array);
+    written.write_to(&mut array);
     Ok(array)
 }
 

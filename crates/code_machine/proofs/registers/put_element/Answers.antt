@@ -6,8 +6,8 @@ use Rattle.code_machine.specs.Views.{registers_seen}
 use Rattle.code_machine.proofs.Frames.{registers-at, registers-put}
 use Rattle.code_machine.proofs.registers.put_element.Goals as goal
 
-pub into_array-requires : goal.into_array-requires
-into_array-requires c =
+pub write_to-requires : goal.write_to-requires
+write_to-requires c =
     let items = c.args.registers.now.items in
     let x = c.index_mut.result.now in
     let e : registers_seen items c.args.register.0 ≡ value_seen x =
@@ -21,4 +21,4 @@ returns-clause-put c =
     let e : registers_seen items c.args.register.0 ≡ value_seen x =
     registers-at items c.args.register.0 x c.requires.there ∙ ap value_seen (sym c.index_mut.ensures.value) in
     registers-put items c.args.register.0 _ c.requires.there
-    ∙ ap (λ v. put c.args.register.0 v (registers_seen items)) (c.into_array.ensures ∙ ap (λ v. written v c.args.element) (sym e))
+    ∙ ap (λ v. put c.args.register.0 v (registers_seen items)) (c.write_to.ensures ∙ ap (λ v. written v c.args.element) (sym e))

@@ -1,4 +1,4 @@
 use Rattle.miner_core.proofs.engine.Engine.spent.Goals as goal
 
-pub returns-then-frees-clause-frees : goal.returns-then-frees-clause-frees
-returns-then-frees-clause-frees g c = c.frees.ensures.frees c.if-frees.true
+pub returns-then-is_free_of-clause-frees : goal.returns-then-is_free_of-clause-frees
+returns-then-is_free_of-clause-frees g c = c.is_free_of.ensures.frees c.if-is_free_of.true

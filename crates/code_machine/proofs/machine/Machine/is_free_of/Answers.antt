@@ -2,7 +2,7 @@ use Rattle.std.proofs.Common.{sym, ap, ◌∙◌}
 use Rattle.std.specs.Prelude.{not}
 use Rattle.code_machine.specs.Named.{is_in, is_in_any}
 use Rattle.code_machine.proofs.Naming.{names_none}
-use Rattle.code_machine.proofs.machine.Machine.frees.Goals as goal
+use Rattle.code_machine.proofs.machine.Machine.is_free_of.Goals as goal
 
 pub returns-then-not-is_in-clause-frees : goal.returns-then-not-is_in-clause-frees
 returns-then-not-is_in-clause-frees c =
