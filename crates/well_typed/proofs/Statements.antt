@@ -70,6 +70,10 @@ use Rattle.well_typed.proofs.Typed.{AreChecked, none_checked, both_checked, give
 use Rattle.well_typed.proofs.Calling.{known_in, Frame, setting, here, AreMade, shape_of_type}
 use Rattle.well_typed.proofs.Values.{SameVariable, Same, same_append, slot_named, good_value_of, good_call}
 
+-- what isn't true
+not_true : {X : Type 0} → IsTrue false → X
+not_true is = cc
+
 -- WHAT IS SAID OF STEPS
 
 -- a piece that is read: the place stays
@@ -298,27 +302,27 @@ module _ (p : ProgramTree) (z : Frame p) (g : Returned) where
   good_from inside s k (argument q x) held a c w h =
       read_done (here z) s (IfHeld inside held k) (input_statement q.line k x)
       (λ o. record { typed = (o.slot, o.at); returns_so = refl; called = none_checked p })
-  good_from inside s k (number q n) held a c w (inl h) = absurd h
+  good_from inside s k (number q n) held a c w (inl h) = not_true h
   good_from inside s k (number q n) held a c w (inr h) = stores inside s k (number q n) held a c w h
-  good_from inside s k (truth q b) held a c w (inl h) = absurd h
+  good_from inside s k (truth q b) held a c w (inl h) = not_true h
   good_from inside s k (truth q b) held a c w (inr h) = stores inside s k (truth q b) held a c w h
-  good_from inside s k (variable q x) held a c w (inl h) = absurd h
+  good_from inside s k (variable q x) held a c w (inl h) = not_true h
   good_from inside s k (variable q x) held a c w (inr h) = stores inside s k (variable q x) held a c w h
-  good_from inside s k (call q x es) held a c w (inl h) = absurd h
+  good_from inside s k (call q x es) held a c w (inl h) = not_true h
   good_from inside s k (call q x es) held a c w (inr h) = stores inside s k (call q x es) held a c w h
-  good_from inside s k (index q b i) held a c w (inl h) = absurd h
+  good_from inside s k (index q b i) held a c w (inl h) = not_true h
   good_from inside s k (index q b i) held a c w (inr h) = stores inside s k (index q b i) held a c w h
-  good_from inside s k (parentheses q e) held a c w (inl h) = absurd h
+  good_from inside s k (parentheses q e) held a c w (inl h) = not_true h
   good_from inside s k (parentheses q e) held a c w (inr h) = stores inside s k (parentheses q e) held a c w h
-  good_from inside s k (negation q e) held a c w (inl h) = absurd h
+  good_from inside s k (negation q e) held a c w (inl h) = not_true h
   good_from inside s k (negation q e) held a c w (inr h) = stores inside s k (negation q e) held a c w h
-  good_from inside s k (cast q d e) held a c w (inl h) = absurd h
+  good_from inside s k (cast q d e) held a c w (inl h) = not_true h
   good_from inside s k (cast q d e) held a c w (inr h) = stores inside s k (cast q d e) held a c w h
-  good_from inside s k (binary q op b d) held a c w (inl h) = absurd h
+  good_from inside s k (binary q op b d) held a c w (inl h) = not_true h
   good_from inside s k (binary q op b d) held a c w (inr h) = stores inside s k (binary q op b d) held a c w h
-  good_from inside s k (declassify q e) held a c w (inl h) = absurd h
+  good_from inside s k (declassify q e) held a c w (inl h) = not_true h
   good_from inside s k (declassify q e) held a c w (inr h) = stores inside s k (declassify q e) held a c w h
-  good_from inside s k (publish q x e) held a c w (inl h) = absurd h
+  good_from inside s k (publish q x e) held a c w (inl h) = not_true h
   good_from inside s k (publish q x e) held a c w (inr h) = stores inside s k (publish q x e) held a c w h
 
   fills : (inside : Bool) (k line : ℕ) (held given : ValueType) (m t : TypedTree) → held.array ≡ true → typing.FitsInto (scalar_of held) given
