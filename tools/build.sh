@@ -5,8 +5,8 @@
 # renamed when it is whole, so nobody ever meets half of one; a lock lets one build at a time work in a checkout.
 
 # What a build from nothing took: processor minutes in all, and minutes on four processors, which its longest chain of crates sets (docs/performance.md).
-build_work=70
-build_chain=24
+build_work=73
+build_chain=22
 
 # Ends the script with a status that no run of the program has.
 give_up() {
