@@ -44,6 +44,15 @@ pub record Landed (t to : ℕ) (m : Machine) (secret : Bool) (v : Value) (m' : M
   pub here : m'.registers t ≡ v
   pub private : IsSecret secret v
 
+-- the value of an operand stands in register r: its own one, t, or that of a variable
+pub record Read (here : Setting) (r t to : ℕ) (m : Machine) (secret : Bool) (v : Value) (m' : Machine) : Type 0 where
+  pub near : Near t m m'
+  pub pc : m'.pc ≡ to
+  pub held : m'.registers r ≡ v
+  pub private : IsSecret secret v
+  pub low : r ≤ t
+  pub apart : (i : ℕ) → first_free here.slots ≤ i → i < t → r ≢ i
+
 -- ---- WHAT THE REGISTERS HOLD
 
 -- the slots are the frame's, each as private as it is declared; and the defaults are there

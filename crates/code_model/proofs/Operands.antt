@@ -1,6 +1,10 @@
 -- The code of nodes with one operand and with two, where the operands' code does what the operands do.
-use Rattle.std.proofs.Common.{◌≡◌, ◌≢◌, ℕ, ◌+◌, ◌<◌, ◌≤◌, List, [], ◌∷◌, ◌++◌, length, Some, Bool, true, false, not, ◌&&◌, ◌||◌, refl, sym, ap, ◌∙◌}
+use Rattle.std.proofs.Common.{◌≡◌, ◌≢◌, ℕ, ◌+◌, ◌<◌, ◌≤◌, List, [], ◌∷◌, ◌++◌, length, Option, Some, None, Bool, true, false, not, ◌&&◌, ◌||◌, refl, sym, ap}
+use Rattle.std.proofs.Common.{◌∙◌}
 use Rattle.std.proofs.Common.{subst, arith, length-append}
+use Rattle.std.proofs.lemmas.Option.{none-some, same_Some}
+use Rattle.secrec_ast.specs.declared.expression.DataType.TheVariants.{Uint64}
+use Rattle.typed_tree.specs.Shapes.{shape_of}
 use Rattle.typed_tree.specs.declared.operators.BinaryOperator.{BinaryOperator}
 use Rattle.typed_tree.specs.declared.operators.Operands.{Operands}
 use Rattle.typed_tree.specs.Tree.{TypedTree, word_node, truth_node, slot_node, call_node, size_node, cat_node, sum_node, bits_node, element_node}
@@ -16,12 +20,15 @@ use Rattle.language_model.specs.Evaluation.{Frame, Calls, is_private, gives_priv
 use Rattle.verified_code.specs.Steps.{Step, Function, Binary, Cat, At}
 use Rattle.code_model.specs.Machine.{Machine, next, step}
 use Rattle.code_model.specs.Kinds.{width}
-use Rattle.code_model.specs.Expressions.{Numbers, classifying, picked, lacks, mixes, binary_code, element_code, expression_code}
+use Rattle.code_model.specs.Expressions.{Numbers, classifying, picked, lacks, mixes, variable_of, read_code, read_at, one_code}
+use Rattle.code_model.specs.Expressions.{expression_code, operand_code}
+use Rattle.code_model.specs.Statements.{first_free}
 use Rattle.code_model.specs.Fit.{MayStand}
 use Rattle.code_model.proofs.Places.{put_same}
 use Rattle.code_model.proofs.Gives.{Gives, IsSecret, operated_gives, concatenated_gives, element_gives}
-use Rattle.code_model.proofs.Follows.{Runs, runs_bind, instruct}
-use Rattle.code_model.proofs.Near.{Near, near_on, near_less, near_set, Landed, Ready, ready_front, ready_back, ready_step, Wanting, near_wanting}
+use Rattle.code_model.proofs.Follows.{Runs, runs_bind, runs_done, runs_more, instruct}
+use Rattle.code_model.proofs.Near.{Near, near_on, near_less, near_set, Landed, Read, below_free, Ready, ready_front, ready_back, ready_step, Wanting}
+use Rattle.code_model.proofs.Near.{near_wanting}
 use Rattle.code_model.proofs.Near.{ready_classify, ready_wanting, classifying_runs, wanting_runs}
 
 pub width_some : (e : TypedTree) → 0 < width e
@@ -63,13 +70,38 @@ joined_both d e = go (is_private (joined_domain d e))
     go false = refl
 
 -- the picked register of a left operand is not the one of the right operand's classification, and stands before the right operand's
-apart : (l : Bool) (t : ℕ) → picked l (t + 1) (t + 3) ≢ t + 2
-apart true t = omega arith
-apart false t = omega arith
+apart : (l : Bool) (t r : ℕ) → r ≢ t + 2 → picked l (t + 1) r ≢ t + 2
+apart true t r n = omega arith
+apart false t r n = n
 
-before : (l : Bool) (t : ℕ) → picked l (t + 1) (t + 3) < t + 4
-before true t = omega arith
-before false t = omega arith
+before : (l : Bool) (t r : ℕ) → r ≤ t + 3 → picked l (t + 1) r < t + 4
+before true t r n = omega arith
+before false t r n = omega (arith, n)
+
+-- ---- VARIABLES
+
+-- the variable that an operand is stands there
+abbrev pub IsVariableThere : Setting → TypedTree → Type 0
+IsVariableThere here e = (k : ℕ) → variable_of e ≡ Some k → k < length here.slots
+
+pub variable_there : (here : Setting) (k : ℕ) → k < length here.slots → IsVariableThere here (slot_node k)
+variable_there here k l j q = subst (λ z. z < length here.slots) (same_Some _ _ q) l
+
+variable_is : (e : TypedTree) (k : ℕ) → variable_of e ≡ Some k → e ≡ slot_node k
+variable_is (slot_node j) k q = ap slot_node (same_Some _ _ q)
+variable_is (word_node n) k q = absurd (none-some _ q)
+variable_is (truth_node b) k q = absurd (none-some _ q)
+variable_is (call_node line j es) k q = absurd (none-some _ q)
+variable_is (size_node e) k q = absurd (none-some _ q)
+variable_is (cat_node line a b) k q = absurd (none-some _ q)
+variable_is (sum_node e) k q = absurd (none-some _ q)
+variable_is (bits_node line e) k q = absurd (none-some _ q)
+variable_is (element_node line a i) k q = absurd (none-some _ q)
+variable_is (not_node e) k q = absurd (none-some _ q)
+variable_is (cast_node c e) k q = absurd (none-some _ q)
+variable_is (binary_node line op ds a b) k q = absurd (none-some _ q)
+variable_is (cut_node c a b) k q = absurd (none-some _ q)
+variable_is (declassify_node e) k q = absurd (none-some _ q)
 
 either_secret : (np ga gb : Bool) → (((np && (gb && not ga)) || ga) || ((np && (ga && not gb)) || gb)) ≡ (ga || gb)
 either_secret true true true = refl
@@ -81,11 +113,14 @@ either_secret false true false = refl
 either_secret false false true = refl
 either_secret false false false = refl
 
--- two operands stand in their registers
-pub record Both (ga gb : Bool) (t ta u : ℕ) (m : Machine) (x y : Value) (m2 : Machine) : Type 0 where
+-- two operands stand in their registers, the left one where it is apart from those of the node
+pub record Both (here : Setting) (ga gb : Bool) (t ta v u : ℕ) (m : Machine) (x y : Value) (m2 : Machine) : Type 0 where
   pub near : Near t m m2
-  pub left : m2.registers ta ≡ x
+  pub left : m2.registers v ≡ x
   pub right : m2.registers u ≡ y
+  pub low : v ≤ ta
+  pub apart : (i : ℕ) → first_free here.slots ≤ i → i < ta → v ≢ i
+  pub apart_right : (i : ℕ) → first_free here.slots ≤ i → i < ta → u ≢ i
   pub left_private : IsSecret ga x
   pub right_private : IsSecret gb y
 
@@ -99,59 +134,102 @@ module _ (w : World) (p : List Function) (number : Numbers) (calls : Calls) (d :
       (t pc : ℕ) (fr : Frame) (m : Machine) → Ready d here fr t pc (code here t pc e) m → Runs w p m (value w calls here e fr)
       (Landed t (pc + length (code here t pc e)) m (gives_private here e))
 
-  pub unary_runs : (here : Setting) (e : TypedTree) (t pc : ℕ) (fr : Frame) (m : Machine) (last : Step) (c : Value → Effect Value) (out : Bool) → Evaluates
-      here e
-      → ((x : Value) (m1 : Machine) (s : Stage) → m1.registers (t + 1) ≡ x → step w p (Some last) m1 s ≡ carry (c x s) (λ v. done (next t v m1)))
-      → ((x : Value) → IsSecret (gives_private here e) x → Gives (c x) (IsSecret out)) → Ready d here fr t pc (code here (t + 1) pc e ++ last ∷ []) m
-      → Runs w p m (value w calls here e fr >>= c) (Landed t (pc + length (code here (t + 1) pc e ++ last ∷ [])) m out)
-  unary_runs here e t pc fr m last c out ev st gives r =
-      let ce = code here (t + 1) pc e in
-      runs_bind (ev (t + 1) pc fr m (ready_front (t + 1) ce (last ∷ []) (omega arith) r)) (λ x m1 h.
-      let r1 = ready_back t (t + 1) ce (last ∷ []) (omega arith) (omega arith) r h.near h.pc in
-      instruct m1 last (c x) (λ v. next t v m1) (IsSecret out) _ (ready_step r1) (λ s. st x m1 s h.here) (gives x h.private)
+  abbrev pub operand : Setting → (t pc : ℕ) → TypedTree → List Step
+  operand = operand_code number
+
+  -- an operand is read where it stands
+  pub reads : (here : Setting) (e : TypedTree) → IsVariableThere here e → Evaluates here e → (t pc : ℕ) (fr : Frame) (m : Machine)
+      → Ready d here fr t pc (operand here t pc e) m
+      → Runs w p m (value w calls here e fr) (Read here (read_at (variable_of e) t) t (pc + length (operand here t pc e)) m (gives_private here e))
+  unfolding value
+  reads here e there ev t pc fr m ready = go (variable_of e) refl ready
+    where
+      go : (o : Option ℕ) → variable_of e ≡ o → Ready d here fr t pc (read_code o (code here t pc e)) m
+          → Runs w p m (value w calls here e fr) (Read here (read_at o t) t (pc + length (read_code o (code here t pc e))) m (gives_private here e))
+      go None q r =
+          runs_more (ev t pc fr m r) (λ v m1 h. runs_done (record {
+            near = h.near;
+            pc = h.pc;
+            held = h.here;
+            private = h.private;
+            low = omega arith;
+            apart = λ i l k. omega (arith, k);
+          }))
+      go (Some k) q r =
+          let inside : k < length here.slots = there k q in
+          let below = below_free here.slots (shape_of Uint64 false) (omega (arith, inside)) in
+          subst (λ z. Runs w p m (value w calls here z fr) (Read here k t (pc + 0) m (gives_private here z))) (sym (variable_is e k q)) (runs_done (record {
+            near = record { steps = refl; stack = refl; kept = λ i l. refl };
+            pc = omega (arith, r.place);
+            held = r.holds.agree k inside;
+            private = r.holds.fits k;
+            low = omega (arith, inside, below, r.free);
+            apart = λ i l j. omega (arith, inside, below, l);
+          }))
+
+  pub unary_runs : (here : Setting) (e : TypedTree) (t pc : ℕ) (fr : Frame) (m : Machine) (last : ℕ → Step) (c : Value → Effect Value) (out : Bool)
+      → IsVariableThere here e → Evaluates here e
+      → ((r : ℕ) (x : Value) (m1 : Machine) (s : Stage) → m1.registers r ≡ x → step w p (Some (last r)) m1 s ≡ carry (c x s) (λ v. done (next t v m1)))
+      → ((x : Value) → IsSecret (gives_private here e) x → Gives (c x) (IsSecret out))
+      → Ready d here fr t pc (one_code last (read_at (variable_of e) (t + 1)) (operand here (t + 1) pc e)) m
+      → Runs w p m (value w calls here e fr >>= c)
+      (Landed t (pc + length (one_code last (read_at (variable_of e) (t + 1)) (operand here (t + 1) pc e))) m out)
+  unary_runs here e t pc fr m last c out there ev st gives r =
+      let ce = operand here (t + 1) pc e in
+      let x' = read_at (variable_of e) (t + 1) in
+      runs_bind (reads here e there ev (t + 1) pc fr m (ready_front (t + 1) ce (last x' ∷ []) (omega arith) r)) (λ x m1 h.
+      let r1 = ready_back t (t + 1) ce (last x' ∷ []) (omega arith) (omega arith) r h.near h.pc in
+      instruct m1 (last x') (c x) (λ v. next t v m1) (IsSecret out) _ (ready_step r1) (λ s. st x' x m1 s h.held) (gives x h.private)
       (λ v q. record {
         near = near_on (omega arith) (near_less t (omega arith) h.near) (near_set t t v m1 (omega arith));
         pc = omega
-            (arith, h.pc, length-append ce (last ∷ []));
+            (arith, h.pc, length-append ce (last x' ∷ []));
         here = put_same t v m1.registers;
         private = q;
       }))
 
   pub operands_run : {A : Type 0} (here : Setting) (a b : TypedTree) (t ta u pc : ℕ) (fr : Frame) (m : Machine) (rest : List Step)
-      (f : Value → Value → Effect A) (Q : A → Machine → Type 0) → t ≤ ta → ta < u → Evaluates here a → Evaluates here b
-      → Ready d here fr t pc (code here ta pc a ++ (code here u (pc + length (code here ta pc a)) b ++ rest)) m
-      → ((x y : Value) (m2 : Machine) → Both (gives_private here a) (gives_private here b) t ta u m x y m2 → Ready d here fr t
-      (pc + length (code here ta pc a) + length (code here u (pc + length (code here ta pc a)) b)) rest m2 → Runs w p m2 (f x y) Q)
+      (f : Value → Value → Effect A) (Q : A → Machine → Type 0) → t ≤ ta → ta < u → IsVariableThere here a → IsVariableThere here b
+      → Evaluates here a → Evaluates here b
+      → Ready d here fr t pc (operand here ta pc a ++ (operand here u (pc + length (operand here ta pc a)) b ++ rest)) m
+      → ((x y : Value) (m2 : Machine) → Both here (gives_private here a) (gives_private here b) t ta (read_at (variable_of a) ta) (read_at (variable_of b) u) m
+      x y m2 → Ready d here fr t
+      (pc + length (operand here ta pc a) + length (operand here u (pc + length (operand here ta pc a)) b)) rest m2 → Runs w p m2 (f x y) Q)
       → Runs w p m (value w calls here a fr >>= λ x. value w calls here b fr >>= λ y. f x y) Q
-  operands_run here a b t ta u pc fr m rest f Q la lu eva evb r k =
-      let ca = code here ta pc a in
-      let cb = code here u (pc + length ca) b in
-      runs_bind (eva ta pc fr m (ready_front ta ca (cb ++ rest) la r)) (λ x m1 h1.
+  operands_run here a b t ta u pc fr m rest f Q la lu tha thb eva evb r k =
+      let ca = operand here ta pc a in
+      let cb = operand here u (pc + length ca) b in
+      runs_bind (reads here a tha eva ta pc fr m (ready_front ta ca (cb ++ rest) la r)) (λ x m1 h1.
       let r1 = ready_back t ta ca (cb ++ rest) (omega arith) la r h1.near h1.pc in
-      runs_bind (evb u (pc + length ca) fr m1 (ready_front u cb rest (omega (arith, la, lu)) r1)) (λ y m2 h2.
+      runs_bind (reads here b thb evb u (pc + length ca) fr m1 (ready_front u cb rest (omega (arith, la, lu)) r1)) (λ y m2 h2.
       let r2 = ready_back t u cb rest (omega arith) (omega (arith, la, lu)) r1 h2.near h2.pc in
+      let low = h1.low in
       k x y m2 (record {
         near = near_on (omega (arith, la, lu)) (near_less t la h1.near) h2.near;
-        left = h2.near.kept ta lu ∙ h1.here;
-        right = h2.here;
+        left = h2.near.kept (read_at (variable_of a) ta) (omega (arith, low, lu)) ∙ h1.held;
+        right = h2.held;
+        low = low;
+        apart = h1.apart;
+        apart_right = λ i l j. h2.apart i l (omega (arith, j, lu));
         left_private = h1.private;
         right_private = h2.private;
       }) r2))
 
-  pub element_runs : (here : Setting) (a i : TypedTree) (t pc line : ℕ) (fr : Frame) (m : Machine) → Evaluates here a → Evaluates here i
-      → Ready d here fr t pc (element_code t (t + 1 + width a) pc line (code here (t + 1) pc a) (λ q. code here (t + 1 + width a) q i)) m
+  pub element_runs : (here : Setting) (a i : TypedTree) (t pc line : ℕ) (fr : Frame) (m : Machine) → IsVariableThere here a → IsVariableThere here i
+      → Evaluates here a → Evaluates here i → Ready d here fr t pc (code here t pc (element_node line a i)) m
       → Runs w p m (value w calls here a fr >>= λ x. value w calls here i fr >>= λ j. row.element_of_array line x j)
-      (Landed t (pc + length (element_code t (t + 1 + width a) pc line (code here (t + 1) pc a) (λ q. code here (t + 1 + width a) q i))) m
-      (gives_private here a))
-  element_runs here a i t pc line fr m eva evi r =
+      (Landed t (pc + length (code here t pc (element_node line a i))) m (gives_private here a))
+  element_runs here a i t pc line fr m tha thi eva evi r =
       let u = t + 1 + width a in
-      let ca = code here (t + 1) pc a in
-      let ci = code here u (pc + length ca) i in
-      let last = At line t (t + 1) u ∷ [] in
+      let v' = read_at (variable_of a) (t + 1) in
+      let u' = read_at (variable_of i) u in
+      let ca = operand here (t + 1) pc a in
+      let ci = operand here u (pc + length ca) i in
+      let last = At line t v' u' ∷ [] in
       let some = width_some a in
-      operands_run here a i t (t + 1) u pc fr m last (row.element_of_array line) _ (omega arith) (omega (arith, some)) eva evi r (λ x j m2 h r2.
-      instruct m2 (At line t (t + 1) u) (row.element_of_array line x j) (λ v. next t v m2) (IsSecret (gives_private here a)) _ (ready_step r2)
-      (λ s. ap (λ z. carry (row.element_of_array line z (m2.registers u) s) (λ v. done (next t v m2))) h.left ∙ ap
+      operands_run here a i t (t + 1) u pc fr m last (row.element_of_array line) _ (omega arith) (omega (arith, some)) tha thi eva evi r (λ x j m2 h r2.
+      instruct m2 (At line t v' u') (row.element_of_array line x j) (λ v. next t v m2) (IsSecret (gives_private here a)) _ (ready_step r2)
+      (λ s. ap (λ z. carry (row.element_of_array line z (m2.registers u') s) (λ v. done (next t v m2))) h.left ∙ ap
       (λ z. carry (row.element_of_array line x z s) (λ v. done (next t v m2))) h.right)
       (subst (λ z. Gives (row.element_of_array line x j) (IsSecret z)) h.left_private (element_gives w line x j))
       (λ v q. record {
@@ -161,43 +239,47 @@ module _ (w : World) (p : List Function) (number : Numbers) (calls : Calls) (d :
         private = q;
       }))
 
-  pub binary_runs : (here : Setting) (a b : TypedTree) (t pc line : ℕ) (op : BinaryOperator) (ds : Operands) (fr : Frame) (m : Machine) → Evaluates here a
-      → Evaluates here b
-      → Ready d here fr t pc (binary_code t (t + 3 + width a) pc line op ds (gives_private here a) (gives_private here b) (code here (t + 3) pc a)
-      (λ q. code here (t + 3 + width a) q b)) m
+  pub binary_runs : (here : Setting) (a b : TypedTree) (t pc line : ℕ) (op : BinaryOperator) (ds : Operands) (fr : Frame) (m : Machine)
+      → IsVariableThere here a → IsVariableThere here b → Evaluates here a → Evaluates here b
+      → Ready d here fr t pc (code here t pc (binary_node line op ds a b)) m
       → Runs w p m (value w calls here a fr >>= λ x. value w calls here b fr >>= λ y. operation w line op ds x y)
-      (Landed t (pc + length (binary_code t (t + 3 + width a) pc line op ds (gives_private here a) (gives_private here b) (code here (t + 3) pc a)
-      (λ q. code here (t + 3 + width a) q b))) m (is_private (joined_domain (domain here a) (domain here b))))
-  binary_runs here a b t pc line op ds fr m eva evb r =
+      (Landed t (pc + length (code here t pc (binary_node line op ds a b))) m (is_private (joined_domain (domain here a) (domain here b))))
+  binary_runs here a b t pc line op ds fr m tha thb eva evb r =
       let ga = gives_private here a in
       let gb = gives_private here b in
       let f1 = mixes op ga gb in
       let f2 = mixes op gb ga in
-      let u = t + 3 + width a in
-      let ca = code here (t + 3) pc a in
-      let cb = code here u (pc + length ca) b in
-      let cl = classifying f1 (t + 1) (t + 3) in
+      let u0 = t + 3 + width a in
+      let x' = read_at (variable_of a) (t + 3) in
+      let u = read_at (variable_of b) u0 in
+      let ca = operand here (t + 3) pc a in
+      let cb = operand here u0 (pc + length ca) b in
+      let cl = classifying f1 (t + 1) x' in
       let cr = classifying f2 (t + 2) u in
-      let last = Binary line op ds t (picked f1 (t + 1) (t + 3)) (picked f2 (t + 2) u) ∷ [] in
+      let last = Binary line op ds t (picked f1 (t + 1) x') (picked f2 (t + 2) u) ∷ [] in
       let some = width_some a in
-      operands_run here a b t (t + 3) u pc fr m (cl ++ (cr ++ last)) (operation w line op ds) _ (omega arith) (omega (arith, some)) eva evb r (λ x y m2 h r2.
+      operands_run here a b t (t + 3) u0 pc fr m (cl ++ (cr ++ last)) (operation w line op ds) _ (omega arith) (omega (arith, some)) tha thb eva evb r (λ x y
+      m2 h r2.
       let flags : is_classified op x y ≡ f1 = ap (λ z. not (is_product op) && (z && not (is_secret x.secrecy))) h.right_private ∙ ap
       (λ z. not (is_product op) && (gb && not z)) h.left_private in
       let other_flags : is_classified op y x ≡ f2 = ap (λ z. not (is_product op) && (z && not (is_secret y.secrecy))) h.left_private ∙ ap
       (λ z. not (is_product op) && (ga && not z)) h.right_private in
-      runs_bind (subst (λ z. Runs w p m2 (wanted z x) (Wanting f1 (t + 1) (t + 3) m2 (f1 || ga))) (sym flags)
-      (subst (λ z. Runs w p m2 (wanted f1 x) (Wanting f1 (t + 1) (t + 3) m2 (f1 || z))) h.left_private
-      (classifying_runs f1 (t + 1) (t + 3) x m2 h.left (ready_classify f1 (t + 1) (t + 3) (cr ++ last) r2)))) (λ a' m3 h3.
-      let r3 = ready_wanting f1 (t + 1) (t + 3) (cr ++ last) (omega arith) r2 h3 in
+      let free = r.free in
+      runs_bind (subst (λ z. Runs w p m2 (wanted z x) (Wanting f1 (t + 1) x' m2 (f1 || ga))) (sym flags)
+      (subst (λ z. Runs w p m2 (wanted f1 x) (Wanting f1 (t + 1) x' m2 (f1 || z))) h.left_private
+      (classifying_runs f1 (t + 1) x' x m2 h.left (ready_classify f1 (t + 1) x' (cr ++ last) r2)))) (λ a' m3 h3.
+      let r3 = ready_wanting f1 (t + 1) x' (cr ++ last) (omega arith) r2 h3 in
       runs_bind (subst (λ z. Runs w p m3 (wanted z y) (Wanting f2 (t + 2) u m3 (f2 || gb))) (sym other_flags)
       (subst (λ z. Runs w p m3 (wanted f2 y) (Wanting f2 (t + 2) u m3 (f2 || z))) h.right_private
-      (classifying_runs f2 (t + 2) u y m3 (h3.kept u (omega arith) ∙ h.right) (ready_classify f2 (t + 2) u last r3)))) (λ b' m4 h4.
+      (classifying_runs f2 (t + 2) u y m3 (h3.kept u (h.apart_right (t + 1) (omega (arith, free)) (omega arith)) ∙ h.right)
+      (ready_classify f2 (t + 2) u last r3)))) (λ b' m4 h4.
       let r4 = ready_wanting f2 (t + 2) u last (omega arith) r3 h4 in
-      let left : m4.registers (picked f1 (t + 1) (t + 3)) ≡ a' = h4.kept (picked f1 (t + 1) (t + 3)) (apart f1 t) ∙ h3.here in
+      let left : m4.registers (picked f1 (t + 1) x') ≡ a' = h4.kept (picked f1 (t + 1) x')
+      (apart f1 t x' (h.apart (t + 2) (omega (arith, free)) (omega arith))) ∙ h3.here in
       let secret : (is_secret a'.secrecy || is_secret b'.secrecy) ≡ is_private (joined_domain (domain here a) (domain here b)) =
       ap (λ z. z || is_secret b'.secrecy) h3.private ∙ ap (λ z. (f1 || ga) || z) h4.private ∙ either_secret (not (is_product op)) ga gb ∙ sym
       (private_joined (domain here a) (domain here b)) in
-      instruct m4 (Binary line op ds t (picked f1 (t + 1) (t + 3)) (picked f2 (t + 2) u)) (operated w line op ds a' b') (λ v. next t v m4)
+      instruct m4 (Binary line op ds t (picked f1 (t + 1) x') (picked f2 (t + 2) u)) (operated w line op ds a' b') (λ v. next t v m4)
       (IsSecret (is_private (joined_domain (domain here a) (domain here b)))) _ (ready_step r4)
       (λ s. ap (λ z. carry (operated w line op ds z (m4.registers (picked f2 (t + 2) u)) s) (λ v. done (next t v m4))) left ∙ ap
       (λ z. carry (operated w line op ds a' z s) (λ v. done (next t v m4))) h4.here)
@@ -217,41 +299,46 @@ module _ (w : World) (p : List Function) (number : Numbers) (calls : Calls) (d :
         private = q;
       }))))
 
-  pub cat_runs : (here : Setting) (a b : TypedTree) (t pc line : ℕ) (fr : Frame) (m : Machine) → Evaluates here a → Evaluates here b
+  pub cat_runs : (here : Setting) (a b : TypedTree) (t pc line : ℕ) (fr : Frame) (m : Machine) → IsVariableThere here a → IsVariableThere here b
+      → Evaluates here a → Evaluates here b
       → Ready d here fr t pc (code here t pc (cat_node line a b)) m
       → Runs w p m (value w calls here (cat_node line a b) fr) (Landed t (pc + length (code here t pc (cat_node line a b))) m
       (gives_private here (cat_node line a b)))
   unfolding value
-  cat_runs here a b t pc line fr m eva evb r =
+  cat_runs here a b t pc line fr m tha thb eva evb r =
       let ga = gives_private here a in
       let gb = gives_private here b in
       let g = gives_private here (cat_node line a b) in
       let f1 = lacks g ga in
       let f2 = lacks g gb in
-      let u = t + 3 + width a in
-      let ca = code here (t + 3) pc a in
-      let cl = classifying f1 (t + 1) (t + 3) in
+      let u0 = t + 3 + width a in
+      let x0 = read_at (variable_of a) (t + 3) in
+      let u = read_at (variable_of b) u0 in
+      let ca = operand here (t + 3) pc a in
+      let cl = classifying f1 (t + 1) x0 in
       let pb = pc + length ca + length cl in
-      let cb = code here u pb b in
+      let cb = operand here u0 pb b in
       let cr = classifying f2 (t + 2) u in
-      let last = Cat line t (picked f1 (t + 1) (t + 3)) (picked f2 (t + 2) u) ∷ [] in
+      let last = Cat line t (picked f1 (t + 1) x0) (picked f2 (t + 2) u) ∷ [] in
       let some = width_some a in
-      runs_bind (eva (t + 3) pc fr m (ready_front (t + 3) ca (cl ++ (cb ++ (cr ++ last))) (omega arith) r)) (λ x m1 h1.
+      let free = r.free in
+      runs_bind (reads here a tha eva (t + 3) pc fr m (ready_front (t + 3) ca (cl ++ (cb ++ (cr ++ last))) (omega arith) r)) (λ x m1 h1.
       let r1 = ready_back t (t + 3) ca (cl ++ (cb ++ (cr ++ last))) (omega arith) (omega arith) r h1.near h1.pc in
-      runs_bind (wanting_runs g ga (t + 1) (t + 3) x m1 h1.private (left_may (domain here a) (domain here b)) h1.here
-      (ready_classify f1 (t + 1) (t + 3) (cb ++ (cr ++ last)) r1)) (λ x' m2 h2.
-      let r2 = ready_wanting f1 (t + 1) (t + 3) (cb ++ (cr ++ last)) (omega arith) r1 h2 in
-      runs_bind (evb u pb fr m2 (ready_front u cb (cr ++ last) (omega arith) r2)) (λ y m3 h3.
-      let r3 = ready_back t u cb (cr ++ last) (omega arith) (omega arith) r2 h3.near h3.pc in
-      runs_bind (wanting_runs g gb (t + 2) u y m3 h3.private (right_may (domain here a) (domain here b)) h3.here (ready_classify f2 (t + 2) u last r3))
+      runs_bind (wanting_runs g ga (t + 1) x0 x m1 h1.private (left_may (domain here a) (domain here b)) h1.held
+      (ready_classify f1 (t + 1) x0 (cb ++ (cr ++ last)) r1)) (λ x' m2 h2.
+      let r2 = ready_wanting f1 (t + 1) x0 (cb ++ (cr ++ last)) (omega arith) r1 h2 in
+      runs_bind (reads here b thb evb u0 pb fr m2 (ready_front u0 cb (cr ++ last) (omega arith) r2)) (λ y m3 h3.
+      let r3 = ready_back t u0 cb (cr ++ last) (omega arith) (omega arith) r2 h3.near h3.pc in
+      runs_bind (wanting_runs g gb (t + 2) u y m3 h3.private (right_may (domain here a) (domain here b)) h3.held (ready_classify f2 (t + 2) u last r3))
       (λ y' m4 h4.
       let r4 = ready_wanting f2 (t + 2) u last (omega arith) r3 h4 in
-      let low = before f1 t in
-      let left : m4.registers (picked f1 (t + 1) (t + 3)) ≡ x' = h4.kept (picked f1 (t + 1) (t + 3)) (apart f1 t) ∙ h3.near.kept (picked f1 (t + 1) (t + 3))
+      let low = before f1 t x0 h1.low in
+      let left : m4.registers (picked f1 (t + 1) x0) ≡ x' = h4.kept (picked f1 (t + 1) x0)
+      (apart f1 t x0 (h1.apart (t + 2) (omega (arith, free)) (omega arith))) ∙ h3.near.kept (picked f1 (t + 1) x0)
       (omega (arith, low, some)) ∙ h2.here in
       let secret : (is_secret x'.secrecy || is_secret y'.secrecy) ≡ g = ap (λ z. z || is_secret y'.secrecy) h2.private ∙ ap (λ z. g || z) h4.private
       ∙ joined_both (domain here a) (domain here b) in
-      instruct m4 (Cat line t (picked f1 (t + 1) (t + 3)) (picked f2 (t + 2) u)) (row.concatenated line x' y') (λ v. next t v m4) (IsSecret g) _ (ready_step r4)
+      instruct m4 (Cat line t (picked f1 (t + 1) x0) (picked f2 (t + 2) u)) (row.concatenated line x' y') (λ v. next t v m4) (IsSecret g) _ (ready_step r4)
       (λ s. ap (λ z. carry (row.concatenated line z (m4.registers (picked f2 (t + 2) u)) s) (λ v. done (next t v m4))) left ∙ ap
       (λ z. carry (row.concatenated line x' z s) (λ v. done (next t v m4))) h4.here)
       (subst (λ z. Gives (row.concatenated line x' y') (IsSecret z)) secret (concatenated_gives w line x' y'))

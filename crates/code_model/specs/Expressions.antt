@@ -1,7 +1,7 @@
 -- The code of an expression.
 --
--- Its registers are counted up from t, and its value stands in t. Targets of branches are places in the function's code, so that the
--- code hangs on the place pc where it stands.
+-- Its registers are counted up from t, and its value stands in t. A variable that is an operand is read where it stands. Targets of
+-- branches are places in the function's code, so that the code hangs on the place pc where it stands.
 use Rattle.std.specs.Prelude.{ℕ, ◌+◌, Bool, true, false, not, ◌&&◌, List, [], ◌∷◌, ◌++◌, length, Option, Some, None}
 use Rattle.std.specs.List.{slice_get}
 use Rattle.secrec_ast.specs.declared.expression.DataType.TheVariants.{Uint64}
@@ -60,25 +60,47 @@ lacks wanted given = wanted && not given
 abbrev pub mixes : BinaryOperator → (this other : Bool) → Bool
 mixes op this other = not (is_product op) && lacks other this
 
--- ---- NODES WITH TWO OPERANDS: ca is the code of the left one, cb that of the right one at its place, u the right one's register
+-- ---- OPERANDS
+
+-- the variable that an expression is, if it is one
+abbrev pub variable_of : TypedTree → Option ℕ
+variable_of (slot_node k) = Some k
+variable_of e = None
+
+-- the code of an operand, where c is that of its expression: a variable is read without a step
+abbrev pub read_code : Option ℕ → (c : List Step) → List Step
+read_code None c = c
+read_code (Some k) c = []
+
+-- where its value stands, t being the register of its own
+abbrev pub read_at : Option ℕ → (t : ℕ) → ℕ
+read_at None t = t
+read_at (Some k) t = k
+
+-- ---- NODES WITH ONE OPERAND: c is its code, r the register where it stands
+
+abbrev pub one_code : (ℕ → Step) → (r : ℕ) → (c : List Step) → List Step
+one_code step r c = c ++ step r ∷ []
+
+-- ---- NODES WITH TWO OPERANDS: ca is the code of the left one, cb that of the right one at its place, v and u the registers where they stand
 
 -- both operands, and then the classification of one of them
-abbrev pub binary_code : (t u pc line : ℕ) → BinaryOperator → Operands → (left right : Bool) → List Step → (ℕ → List Step) → List Step
-binary_code t u pc line op ds ga gb ca cb =
+abbrev pub binary_code : (t v u pc line : ℕ) → BinaryOperator → Operands → (left right : Bool) → List Step → (ℕ → List Step) → List Step
+binary_code t v u pc line op ds ga gb ca cb =
     let l = mixes op ga gb in
     let r = mixes op gb ga in
-    ca ++ (cb (pc + length ca) ++ (classifying l (t + 1) (t + 3)
-    ++ (classifying r (t + 2) u ++ Binary line op ds t (picked l (t + 1) (t + 3)) (picked r (t + 2) u) ∷ [])))
+    ca ++ (cb (pc + length ca) ++ (classifying l (t + 1) v
+    ++ (classifying r (t + 2) u ++ Binary line op ds t (picked l (t + 1) v) (picked r (t + 2) u) ∷ [])))
 
 -- each operand is classified right behind its code, where it lacks that
-abbrev pub cat_code : (t u pc line : ℕ) → (left right : Bool) → List Step → (ℕ → List Step) → List Step
-cat_code t u pc line l r ca cb =
-    let cl = classifying l (t + 1) (t + 3) in
+abbrev pub cat_code : (t v u pc line : ℕ) → (left right : Bool) → List Step → (ℕ → List Step) → List Step
+cat_code t v u pc line l r ca cb =
+    let cl = classifying l (t + 1) v in
     ca ++ (cl ++ (cb (pc + length ca + length cl)
-    ++ (classifying r (t + 2) u ++ Cat line t (picked l (t + 1) (t + 3)) (picked r (t + 2) u) ∷ [])))
+    ++ (classifying r (t + 2) u ++ Cat line t (picked l (t + 1) v) (picked r (t + 2) u) ∷ [])))
 
-abbrev pub element_code : (t u pc line : ℕ) → List Step → (ℕ → List Step) → List Step
-element_code t u pc line ca cb = ca ++ (cb (pc + length ca) ++ At line t (t + 1) u ∷ [])
+abbrev pub element_code : (t v u pc line : ℕ) → List Step → (ℕ → List Step) → List Step
+element_code t v u pc line ca cb = ca ++ (cb (pc + length ca) ++ At line t v u ∷ [])
 
 -- the left operand that decides alone
 abbrev pub deciding : Connective → Bool
@@ -91,11 +113,11 @@ settling true t r = Classify t r
 settling false t r = Move t r
 
 -- the test of the left operand; the right one; and what stands in its place where the left one decides
-abbrev pub cut_code : (t u pc : ℕ) → Connective → (secret : Bool) → List Step → (ℕ → List Step) → List Step
-cut_code t u pc c secret ca cb =
+abbrev pub cut_code : (t v u pc : ℕ) → Connective → (secret : Bool) → List Step → (ℕ → List Step) → List Step
+cut_code t v u pc c secret ca cb =
     let pb = pc + length ca + 1 in
     let pd = pb + length (cb pb) + 2 in
-    ca ++ (Branch (t + 3) (deciding c) pd ∷ (cb pb ++ (Move t u ∷ Jump (pd + 2)
+    ca ++ (Branch v (deciding c) pd ∷ (cb pb ++ (Move t u ∷ Jump (pd + 2)
     ∷ Literal (t + 1) datatype.Bool (truth_word (deciding c)) ∷ settling secret t (t + 1) ∷ [])))
 
 -- ---- EXPRESSIONS
@@ -110,45 +132,58 @@ module _ (number : Numbers) where
         let b = bound_at (slice_get here.functions k) (domains here es) in
         let ss = slots_of (slice_get here.functions k) in
         arguments_code here b ss (t + 1) pc es ++ Call line (number k b) (Some t) (arguments_places here b ss (t + 1) es) ∷ []
-    expression_code here t pc (size_node e) = expression_code here (t + 1) pc e ++ Size t (t + 1) ∷ []
+    expression_code here t pc (size_node e) =
+        one_code (Size t) (read_at (variable_of e) (t + 1)) (read_code (variable_of e) (expression_code here (t + 1) pc e))
     expression_code here t pc (cat_node line a b) =
         let g = gives_private here (cat_node line a b) in
         let u = t + 3 + width a in
-        cat_code t u pc line (lacks g (gives_private here a)) (lacks g (gives_private here b)) (expression_code here (t + 3) pc a)
-        (λ p. expression_code here u p b)
-    expression_code here t pc (sum_node e) = expression_code here (t + 1) pc e ++ Sum t (t + 1) ∷ []
-    expression_code here t pc (bits_node line e) = expression_code here (t + 1) pc e ++ Bits line t (t + 1) ∷ []
+        cat_code t (read_at (variable_of a) (t + 3)) (read_at (variable_of b) u) pc line (lacks g (gives_private here a)) (lacks g (gives_private here b))
+        (read_code (variable_of a) (expression_code here (t + 3) pc a)) (λ p. read_code (variable_of b) (expression_code here u p b))
+    expression_code here t pc (sum_node e) =
+        one_code (Sum t) (read_at (variable_of e) (t + 1)) (read_code (variable_of e) (expression_code here (t + 1) pc e))
+    expression_code here t pc (bits_node line e) =
+        one_code (Bits line t) (read_at (variable_of e) (t + 1)) (read_code (variable_of e) (expression_code here (t + 1) pc e))
     expression_code here t pc (element_node line a i) =
         let u = t + 1 + width a in
-        element_code t u pc line (expression_code here (t + 1) pc a) (λ p. expression_code here u p i)
-    expression_code here t pc (not_node e) = expression_code here (t + 1) pc e ++ Not t (t + 1) ∷ []
-    expression_code here t pc (cast_node c e) = expression_code here (t + 1) pc e ++ Cast c t (t + 1) ∷ []
+        element_code t (read_at (variable_of a) (t + 1)) (read_at (variable_of i) u) pc line
+        (read_code (variable_of a) (expression_code here (t + 1) pc a)) (λ p. read_code (variable_of i) (expression_code here u p i))
+    expression_code here t pc (not_node e) =
+        one_code (Not t) (read_at (variable_of e) (t + 1)) (read_code (variable_of e) (expression_code here (t + 1) pc e))
+    expression_code here t pc (cast_node c e) =
+        one_code (Cast c t) (read_at (variable_of e) (t + 1)) (read_code (variable_of e) (expression_code here (t + 1) pc e))
     expression_code here t pc (binary_node line op ds a b) =
         let u = t + 3 + width a in
-        binary_code t u pc line op ds (gives_private here a) (gives_private here b) (expression_code here (t + 3) pc a)
-        (λ p. expression_code here u p b)
+        binary_code t (read_at (variable_of a) (t + 3)) (read_at (variable_of b) u) pc line op ds (gives_private here a) (gives_private here b)
+        (read_code (variable_of a) (expression_code here (t + 3) pc a)) (λ p. read_code (variable_of b) (expression_code here u p b))
     expression_code here t pc (cut_node c a b) =
+        let v = read_at (variable_of a) (t + 3) in
         let u = t + 3 + width a in
-        let ca = expression_code here (t + 3) pc a in
+        let ub = read_at (variable_of b) u in
+        let ca = read_code (variable_of a) (expression_code here (t + 3) pc a) in
+        let cb = λ (p : ℕ). read_code (variable_of b) (expression_code here u p b) in
         let gb = gives_private here b in
         either (gives_private here a)
-        (binary_code t u pc 0 (binary.Bools (connective c)) Scalars (gives_private here a) gb ca (λ p. expression_code here u p b))
-        (cut_code t u pc c gb ca (λ p. expression_code here u p b))
-    expression_code here t pc (declassify_node e) = expression_code here (t + 1) pc e ++ Declassify t (t + 1) ∷ []
+        (binary_code t v ub pc 0 (binary.Bools (connective c)) Scalars (gives_private here a) gb ca cb)
+        (cut_code t v ub pc c gb ca cb)
+    expression_code here t pc (declassify_node e) =
+        one_code (Declassify t) (read_at (variable_of e) (t + 1)) (read_code (variable_of e) (expression_code here (t + 1) pc e))
 
     -- each argument, classified right behind its code where its parameter is private
     pub arguments_code : Setting → List BoundDomain → List Slot → (t pc : ℕ) → TypedTrees → List Step
     arguments_code here b ss t pc Tree'.none = []
     arguments_code here b ss t pc (Tree'.also e es) =
-        let ce = expression_code here (t + 1) pc e in
-        let cl = classifying (lacks (next_is_private b ss) (gives_private here e)) t (t + 1) in
+        let ce = read_code (variable_of e) (expression_code here (t + 1) pc e) in
+        let cl = classifying (lacks (next_is_private b ss) (gives_private here e)) t (read_at (variable_of e) (t + 1)) in
         ce ++ (cl ++ arguments_code here b (behind_next ss) (t + 1 + width e) (pc + length ce + length cl) es)
 
     pub arguments_places : Setting → List BoundDomain → List Slot → ℕ → TypedTrees → List ℕ
     arguments_places here b ss t Tree'.none = []
     arguments_places here b ss t (Tree'.also e es) =
-        picked (lacks (next_is_private b ss) (gives_private here e)) t (t + 1)
+        picked (lacks (next_is_private b ss) (gives_private here e)) t (read_at (variable_of e) (t + 1))
         ∷ arguments_places here b (behind_next ss) (t + 1 + width e) es
+
+  abbrev pub operand_code : Setting → (t pc : ℕ) → TypedTree → List Step
+  operand_code here t pc e = read_code (variable_of e) (expression_code here t pc e)
 
   -- where nobody reads what a call gives, it has a register only if there is something
   abbrev pub unread_code : Setting → (t pc : ℕ) → TypedTree → List Step

@@ -151,13 +151,13 @@ sample_code =
         parameters = 0;
         gives = None;
         registers = private_word ∷ default_registers (private_word ∷ word_kind ∷ private_word ∷ private_word ∷ private_word ∷ []);
-        body = raw.Argument 5 0 1 ∷ raw.Store 0 5 ∷ raw.Move 9 0 ∷ raw.Call 1 7 (9 ∷ []) 1 ∷ raw.Declassify 6 7 ∷ raw.Publish 1 6 ∷ raw.ReturnNone ∷ [];
+        body = raw.Argument 5 0 1 ∷ raw.Store 0 5 ∷ raw.Call 1 7 (0 ∷ []) 1 ∷ raw.Declassify 6 7 ∷ raw.Publish 1 6 ∷ raw.ReturnNone ∷ [];
       } ∷ record {
         parameters = 1;
         gives = Some private_word;
         registers = private_word
             ∷ default_registers (private_word ∷ private_word ∷ private_word ∷ private_word ∷ private_word ∷ word_kind ∷ private_word ∷ []);
-        body = raw.Move 9 0 ∷ raw.Literal 10 1 ∷ raw.Classify 8 10 ∷ raw.Binary 0 6 9 8 1 ∷ raw.Return 6 ∷ raw.Return 11 ∷ [];
+        body = raw.Literal 10 1 ∷ raw.Classify 8 10 ∷ raw.Binary 0 6 0 8 1 ∷ raw.Return 6 ∷ raw.Return 11 ∷ [];
       } ∷ [];
     }
 

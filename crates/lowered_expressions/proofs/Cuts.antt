@@ -16,11 +16,12 @@ set_behind ps x y m e =
     let flat : ((ps ++ x ∷ []) ++ m) ++ e ≡ ps ++ x ∷ (m ++ e) = simp append_assoc in
     ap (λ (z : List BodyPiece). slice_set z (length ps) y) flat ∙ set_at ps x (m ++ e) y (length ps) refl
 
-pub cut_made : (b d f g : Built) (held : Step) (kb : List Kind) (cb : (t pc : ℕ) → List Step) (c : Connective) (secret : Bool) (to value branch : ℕ)
-    → d ≡ with_step b held → f ≡ with_code d kb (cb (length d.kinds) (length d.pieces)) → g ≡ cut_closed f c secret to value branch
-    → value ≡ length d.kinds → branch ≡ length b.pieces
-    → g ≡ with_code b kb (cut_rest to (length b.kinds) (length b.pieces) c secret (cb (length b.kinds)))
-cut_made b d f g held kb cb c secret to value branch e h i v at =
+pub cut_made : (b d f g : Built) (held : Step) (kb : List Kind) (cb : (t pc : ℕ) → List Step) (vb : ℕ → ℕ) (c : Connective) (secret : Bool)
+    (to left value branch : ℕ)
+    → d ≡ with_step b held → f ≡ with_code d kb (cb (length d.kinds) (length d.pieces)) → g ≡ cut_closed f c secret to left value branch
+    → value ≡ vb (length d.kinds) → branch ≡ length b.pieces
+    → g ≡ with_code b kb (cut_rest to left (vb (length b.kinds)) (length b.pieces) c secret (cb (length b.kinds)))
+cut_made b d f g held kb cb vb c secret to left value branch e h i v at =
     let u = length b.kinds in
     let p = length b.pieces in
     let n : length d.kinds ≡ u = ap (λ (z : Built). length z.kinds) e in
@@ -34,13 +35,13 @@ cut_made b d f g held kb cb c secret to value branch e h i v at =
     let pd = p + 1 + length code + 2 in
     let over : length f.pieces + 4 ≡ pd + 2 = omega (arith, m) in
     let there : length f.pieces + 2 ≡ pd = omega (arith, m) in
-    let value_is : value ≡ u = v ∙ n in
-    let tail = cut_end c secret to u (pd + 2) in
+    let value_is : value ≡ vb u = v ∙ ap vb n in
+    let tail = cut_end c secret to (vb u) (pd + 2) in
     let end : cut_end c secret to value (length f.pieces + 4) ≡ tail = ap₂ (λ (x y : ℕ). cut_end c secret to x y) value_is over in
-    let set = whole (Branch (to + 3) (deciding c) pd) in
+    let set = whole (Branch left (deciding c) pd) in
     i
-    ∙ ap (λ (z : List Step). body_of f.kinds (slice_set (f.pieces ++ map whole z) branch (whole (Branch (to + 3) (deciding c) (length f.pieces + 2))))) end
-    ∙ ap (λ (z : ℕ). body_of f.kinds (slice_set (f.pieces ++ map whole tail) branch (whole (Branch (to + 3) (deciding c) z)))) there
+    ∙ ap (λ (z : List Step). body_of f.kinds (slice_set (f.pieces ++ map whole z) branch (whole (Branch left (deciding c) (length f.pieces + 2))))) end
+    ∙ ap (λ (z : ℕ). body_of f.kinds (slice_set (f.pieces ++ map whole tail) branch (whole (Branch left (deciding c) z)))) there
     ∙ ap (λ (z : ℕ). body_of f.kinds (slice_set (f.pieces ++ map whole tail) z set)) at
     ∙ ap (λ (z : Built). body_of z.kinds (slice_set (z.pieces ++ map whole tail) p set)) q
     ∙ ap (body_of (b.kinds ++ kb)) (set_behind b.pieces (whole held) set (map whole code) (map whole tail))

@@ -25,11 +25,12 @@ pub enum One {
     Declassify,
 }
 
-/// Of an operation on two operands, of which the left one's code is there: the register of its value, and whether the left operand
-/// is private.
+/// Of an operation on two operands, of which the left one's code is there: the register of its value, that where the left operand
+/// stands, and whether this is private.
 #[derive(Clone, Copy)]
 pub struct LeftOperand {
     pub to: usize,
+    pub value: usize,
     pub secret: bool,
 }
 
@@ -89,14 +90,15 @@ pub fn close_cut(
     body: &mut Body<'_>,
     connective: Connective,
     secret: bool,
-    to: usize,
+    left: LeftOperand,
     value: usize,
     branch: usize,
 ) -> Result<(), AllocError>
     requires branch { branch < length (built body.old).pieces }
-    requires registers { to + 3 ≤ value }
-    ensures { OnOk result (built body.new ≡ cut_closed (built body.old) connective secret to value branch) }
+    requires registers { left.to + 3 ≤ length (built body.old).kinds }
+    ensures { OnOk result (built body.new ≡ cut_closed (built body.old) connective secret left.to left.value value branch) }
 {
+    let to = left.to;
     let end = body.next_place() + 4;
     body.push(Step::Move { to, source: value })?;
     body.push(Step::Jump { target: end })?;
@@ -110,7 +112,7 @@ pub fn close_cut(
     body.set(
         branch,
         Step::Branch {
-            condition: to + 3,
+            condition: left.value,
             value: deciding(connective),
             target: decided,
         },

@@ -1,13 +1,14 @@
-// The code of expressions. They call one another, so they stand together. Each node has a register of its own; its kind is read off
-// the notes of the tree, of which each function takes those of its own expressions: the time grows with the size of a tree.
+// The code of expressions. They call one another, so they stand together. Each node has a register of its own, and a variable that is
+// an operand is read in its slot. Kinds are read off the notes of the tree, of which each function takes those of its own expressions:
+// the time grows with the size of a tree.
 ghost use Rattle.std.specs.Prelude.{◌≡◌, ◌+◌, ◌≤◌, ◌++◌, ◌∷◌, [], IfOk, OnOk, Some, length, map};
 ghost use Rattle.typed_tree.specs.Tree.{binary_node, call_node, cat_node, cut_node, element_node, typed_tree, typed_trees_of};
 ghost use Rattle.verified_code.specs.Steps as S;
 ghost use Rattle.language_model.specs.Evaluation.{gives_private};
-ghost use Rattle.code_model.specs.Expressions.{arguments_code, arguments_places, classifying, expression_code, lacks, picked};
+ghost use Rattle.code_model.specs.Expressions.{arguments_code, arguments_places, classifying, lacks, operand_code, picked, read_at, variable_of};
 ghost use Rattle.code_model.specs.Kinds.{arguments_kinds, expression_kinds, private_kind_in};
 ghost use Rattle.lowered_expressions.specs.Built.{with_code};
-ghost use Rattle.lowered_expressions.specs.Parts.{binary_rest, cut_rest, one_node, with_call, with_expression, with_operand};
+ghost use Rattle.lowered_expressions.specs.Parts.{binary_rest, cut_rest, one_node, with_call, with_expression, with_operand, with_read};
 ghost use Rattle.lowered_expressions.specs.Views.{built, here_of, numbers_of};
 ghost use Rattle.lowered_expressions.specs.inner.Notes.{arguments_notes, notes_of};
 
@@ -87,6 +88,28 @@ fn variable(body: &mut Body<'_>, kind: Kind, slot: usize) -> Result<(), AllocErr
     body.push(Step::Move { to, source: slot })
 }
 
+/// Puts the registers and the code of an operand behind a body; the register where its value stands. That of a variable is its slot,
+/// and no step leads there. An error comes where memory runs short.
+#[cycle(expressions)]
+pub fn read(
+    body: &mut Body<'_>,
+    around: &Around<'_>,
+    notes: &[Note],
+    e: &TypedExpression,
+) -> Result<usize, AllocError>
+    requires { notes.now ≡ notes_of (here_of around.now) (typed_tree e.now) }
+    ensures built { OnOk result (built body.new ≡ with_read (numbers_of around.now) (here_of around.now) (built body.old) (typed_tree e.now)) }
+    ensures register { IfOk result (λ r. r ≡ read_at (variable_of (typed_tree e.now)) (length (built body.old).kinds)) }
+{
+    let own = body.next_register();
+    if let TypedExpression::Variable(slot) = e {
+        body.fresh(first_kind(notes))?;
+        return Ok(*slot);
+    }
+    expression(body, around, notes, e)?;
+    Ok(own)
+}
+
 /// The code of an operand, and its classification into a register where it is wanted private and isn't; the register where it
 /// stands then. An error comes where memory runs short.
 #[cycle(expressions)]
@@ -101,12 +124,11 @@ pub fn operand(
     requires { notes.now ≡ notes_of (here_of around.now) (typed_tree e.now) }
     ensures built { OnOk result (built body.new ≡
         with_operand (numbers_of around.now) (here_of around.now) (built body.old) private classified (typed_tree e.now)) }
-    ensures register { IfOk result (λ r. r ≡
-        picked (lacks private (gives_private (here_of around.now) (typed_tree e.now))) classified (length (built body.old).kinds)) }
+    ensures register { IfOk result (λ r. r ≡ picked (lacks private (gives_private (here_of around.now) (typed_tree e.now))) classified
+        (read_at (variable_of (typed_tree e.now)) (length (built body.old).kinds))) }
 {
     let given = first_is_private(notes);
-    let value = body.next_register();
-    expression(body, around, notes, e)?;
+    let value = read(body, around, notes, e)?;
     wanted(
         body,
         WantedOperand {
@@ -131,8 +153,7 @@ fn one(
         with_expression (numbers_of around.now) (here_of around.now) (built body.old) (one_node one (typed_tree x.now))) }
 {
     let to = body.fresh(first_kind(notes))?;
-    let source = body.next_register();
-    expression(body, around, behind_first(notes), x)?;
+    let source = read(body, around, behind_first(notes), x)?;
     body.push(one_step(one, to, source))
 }
 
@@ -152,10 +173,8 @@ fn element(
 {
     let (left, right) = parted(behind_first(notes));
     let to = body.fresh(first_kind(notes))?;
-    let from = body.next_register();
-    expression(body, around, left, array)?;
-    let at = body.next_register();
-    expression(body, around, right, index)?;
+    let from = read(body, around, left, array)?;
+    let at = read(body, around, right, index)?;
     body.push(Step::At {
         line,
         to,
@@ -213,9 +232,10 @@ fn binary(
     let to = body.fresh(first_kind(notes))?;
     body.fresh(first_private_kind(left))?;
     body.fresh(first_private_kind(right))?;
-    expression(body, around, left, a)?;
+    let value = read(body, around, left, a)?;
     let left_operand = LeftOperand {
         to,
+        value,
         secret: private,
     };
     both(body, around, left_operand, operation, right, b)
@@ -234,18 +254,21 @@ fn both(
     requires notes { notes.now ≡ notes_of (here_of around.now) (typed_tree b.now) }
     requires registers { left.to + 3 ≤ length (built body.old).kinds }
     ensures { OnOk result (built body.new ≡ with_code (built body.old) (expression_kinds (here_of around.now) (typed_tree b.now))
-        (binary_rest left.to (length (built body.old).kinds) (length (built body.old).pieces) operation.line operation.operator operation.operands
-        left.secret (gives_private (here_of around.now) (typed_tree b.now))
-        (λ p. expression_code (numbers_of around.now) (here_of around.now) (length (built body.old).kinds) p (typed_tree b.now)))) }
+        (binary_rest left.to left.value (read_at (variable_of (typed_tree b.now)) (length (built body.old).kinds)) (length (built body.old).pieces)
+        operation.line operation.operator operation.operands left.secret (gives_private (here_of around.now) (typed_tree b.now))
+        (λ p. operand_code (numbers_of around.now) (here_of around.now) (length (built body.old).kinds) p (typed_tree b.now)))) }
 {
-    let LeftOperand { to, secret } = left;
+    let LeftOperand {
+        to,
+        value: first,
+        secret,
+    } = left;
     let right = first_is_private(notes);
-    let value = body.next_register();
-    expression(body, around, notes, b)?;
+    let value = read(body, around, notes, b)?;
     let left_operand = WantedOperand {
         lacks: mixes(operation.operator, secret, right),
         classified: to + 1,
-        value: to + 3,
+        value: first,
     };
     let right_operand = WantedOperand {
         lacks: mixes(operation.operator, right, secret),
@@ -274,23 +297,17 @@ fn cut(
     let to = body.fresh(first_kind(notes))?;
     body.fresh(kind_of(secret, Shape::scalar(DataType::Bool)))?;
     body.fresh(kind_of(true, Shape::scalar(DataType::Bool)))?;
-    expression(body, around, left, a)?;
+    let value = read(body, around, left, a)?;
+    let left_operand = LeftOperand { to, value, secret };
     if secret {
         let operation = Operation {
             line: 0,
             operator: BinaryOperator::Bools(connective.operator()),
             operands: Operands::Scalars,
         };
-        both(
-            body,
-            around,
-            LeftOperand { to, secret },
-            operation,
-            right,
-            b,
-        )
+        both(body, around, left_operand, operation, right, b)
     } else {
-        cut_short(body, around, to, connective, right, b)
+        cut_short(body, around, left_operand, connective, right, b)
     }
 }
 
@@ -299,24 +316,23 @@ fn cut(
 fn cut_short(
     body: &mut Body<'_>,
     around: &Around<'_>,
-    to: usize,
+    left: LeftOperand,
     connective: Connective,
     notes: &[Note],
     b: &TypedExpression,
 ) -> Result<(), AllocError>
     requires notes { notes.now ≡ notes_of (here_of around.now) (typed_tree b.now) }
-    requires registers { to + 3 ≤ length (built body.old).kinds }
+    requires registers { left.to + 3 ≤ length (built body.old).kinds }
     ensures { OnOk result (built body.new ≡ with_code (built body.old) (expression_kinds (here_of around.now) (typed_tree b.now))
-        (cut_rest to (length (built body.old).kinds) (length (built body.old).pieces) connective
+        (cut_rest left.to left.value (read_at (variable_of (typed_tree b.now)) (length (built body.old).kinds)) (length (built body.old).pieces) connective
         (gives_private (here_of around.now) (typed_tree b.now))
-        (λ p. expression_code (numbers_of around.now) (here_of around.now) (length (built body.old).kinds) p (typed_tree b.now)))) }
+        (λ p. operand_code (numbers_of around.now) (here_of around.now) (length (built body.old).kinds) p (typed_tree b.now)))) }
 {
     let secret = first_is_private(notes);
     let branch = body.next_place();
     body.push(Step::ReturnNone)?;
-    let value = body.next_register();
-    expression(body, around, notes, b)?;
-    close_cut(body, connective, secret, to, value, branch)
+    let value = read(body, around, notes, b)?;
+    close_cut(body, connective, secret, left, value, branch)
 }
 
 // A call whose value is read.
@@ -412,11 +428,11 @@ pub fn argument(
     requires { notes.now ≡ notes_of (here_of around.now) (typed_tree e.now) }
     ensures built { OnOk result (built body.new ≡ with_code (built body.old)
         (private_kind_in (here_of around.now) (typed_tree e.now) ∷ expression_kinds (here_of around.now) (typed_tree e.now))
-        (expression_code (numbers_of around.now) (here_of around.now) (length (built body.old).kinds + 1) (length (built body.old).pieces) (typed_tree e.now)
+        (operand_code (numbers_of around.now) (here_of around.now) (length (built body.old).kinds + 1) (length (built body.old).pieces) (typed_tree e.now)
         ++ classifying (lacks private (gives_private (here_of around.now) (typed_tree e.now))) (length (built body.old).kinds)
-        (length (built body.old).kinds + 1))) }
+        (read_at (variable_of (typed_tree e.now)) (length (built body.old).kinds + 1)))) }
     ensures register { IfOk result (λ r. r ≡ picked (lacks private (gives_private (here_of around.now) (typed_tree e.now)))
-        (length (built body.old).kinds) (length (built body.old).kinds + 1)) }
+        (length (built body.old).kinds) (read_at (variable_of (typed_tree e.now)) (length (built body.old).kinds + 1))) }
 {
     let classified = body.fresh(first_private_kind(notes))?;
     operand(body, around, private, classified, notes, e)

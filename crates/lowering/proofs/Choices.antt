@@ -21,16 +21,16 @@ behind_all b0 b1 b2 b3 b4 b5 ke k1 k2 c a b e1 e2 e3 e4 e5 =
     ∙ ap (λ (z : Built). with_pieces z k1 a) (e2 ∙ ap (λ (z : Built). with_step z ReturnNone) e1)))
     ∙ ap (λ (z : List Kind). body_of z (((((b0.pieces ++ map whole c) ++ whole ReturnNone ∷ []) ++ a) ++ whole ReturnNone ∷ []) ++ b)) kinds
 
-pub if_made : (b0 b1 b2 b3 b4 b5 b6 b7 : Built) (ke k1 k2 : List Kind) (ce : (t pc : ℕ) → List Step) (a b : (t pc : ℕ) → List BodyPiece)
+pub if_made : (b0 b1 b2 b3 b4 b5 b6 b7 : Built) (ke k1 k2 : List Kind) (ce : (t pc : ℕ) → List Step) (ve : ℕ → ℕ) (a b : (t pc : ℕ) → List BodyPiece)
     (w w1 condition branch jump target end : ℕ)
     → b1 ≡ with_code b0 ke (ce (length b0.kinds) (length b0.pieces)) → b2 ≡ with_step b1 ReturnNone
     → b3 ≡ with_pieces b2 k1 (a (length b2.kinds) (length b2.pieces)) → b4 ≡ with_step b3 ReturnNone
     → b5 ≡ with_pieces b4 k2 (b (length b4.kinds) (length b4.pieces)) → b6 ≡ with_step_at b5 branch (Branch condition false target)
-    → b7 ≡ with_step_at b6 jump (Jump end) → length ke ≡ w → length k1 ≡ w1 → condition ≡ length b0.kinds → branch ≡ length b1.pieces
+    → b7 ≡ with_step_at b6 jump (Jump end) → length ke ≡ w → length k1 ≡ w1 → condition ≡ ve (length b0.kinds) → branch ≡ length b1.pieces
     → jump ≡ length b3.pieces → target ≡ length b4.pieces → end ≡ length b5.pieces
-    → b7 ≡ with_pieces b0 (ke ++ (k1 ++ k2)) (if_pieces (length b0.pieces) (length b0.kinds) (ce (length b0.kinds) (length b0.pieces))
+    → b7 ≡ with_pieces b0 (ke ++ (k1 ++ k2)) (if_pieces (length b0.pieces) (ve (length b0.kinds)) (ce (length b0.kinds) (length b0.pieces))
     (a (length b0.kinds + w)) (b (length b0.kinds + w + w1)))
-if_made b0 b1 b2 b3 b4 b5 b6 b7 ke k1 k2 ce a b w w1 condition branch jump target end e1 e2 e3 e4 e5 e6 e7 many many1 at_condition at_branch at_jump
+if_made b0 b1 b2 b3 b4 b5 b6 b7 ke k1 k2 ce ve a b w w1 condition branch jump target end e1 e2 e3 e4 e5 e6 e7 many many1 at_condition at_branch at_jump
     at_target at_end =
     let t = length b0.kinds in
     let pc = length b0.pieces in
@@ -63,7 +63,7 @@ if_made b0 b1 b2 b3 b4 b5 b6 b7 ke k1 k2 ce a b w w1 condition branch jump targe
     e7
     ∙ ap (λ (z : Built). with_step_at z jump (Jump end)) (e6 ∙ ap (λ (z : Built). with_step_at z branch (Branch condition false target)) all)
     ∙ ap (λ (z : ℕ). body_of ks (slice_set (slice_set held branch (whole (Branch z false target))) jump (whole (Jump end)))) at_condition
-    ∙ ap₂ (λ (x y : ℕ). body_of ks (slice_set (slice_set held branch (whole (Branch t false x))) jump (whole (Jump y)))) to_target to_end
+    ∙ ap₂ (λ (x y : ℕ). body_of ks (slice_set (slice_set held branch (whole (Branch (ve t) false x))) jump (whole (Jump y)))) to_target to_end
     ∙ ap (body_of ks)
-    (two_writes front ca cb (whole ReturnNone) (whole ReturnNone) (whole (Branch t false pb)) (whole (Jump (pb + length cb))) branch jump there here
-    ∙ append_assoc b0.pieces (map whole c) (whole (Branch t false pb) ∷ (ca ++ whole (Jump (pb + length cb)) ∷ cb)))
+    (two_writes front ca cb (whole ReturnNone) (whole ReturnNone) (whole (Branch (ve t) false pb)) (whole (Jump (pb + length cb))) branch jump there here
+    ∙ append_assoc b0.pieces (map whole c) (whole (Branch (ve t) false pb) ∷ (ca ++ whole (Jump (pb + length cb)) ∷ cb)))

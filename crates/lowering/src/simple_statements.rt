@@ -12,7 +12,7 @@ ghost use Rattle.lowering.specs.inner.Views.{numbers_at, place_seen};
 use crate::place::LoweringContext;
 use lowered_expressions::{
     Around, Body, Step, WantedOperand, argument, call, expression, given_to, kind, kind_of, lacks,
-    operand, private_kind, wanted,
+    operand, private_kind, read, wanted,
 };
 use reached_instances::{slot_is_private, slot_shape};
 use sc_text::Name;
@@ -46,8 +46,7 @@ pub fn assertion(
     ensures { OnOk result (built body.new ≡
         with_leaf (numbers_of around.now) (here_of around.now) (built body.old) (assert_statement line (typed_tree e.now))) }
 {
-    let condition = body.next_register();
-    expression(body, around, e)?;
+    let condition = read(body, around, e)?;
     body.push(Step::Assert { line, condition })
 }
 
@@ -61,8 +60,7 @@ pub fn publishing<'p>(
     ensures { OnOk result (built body.new ≡
         with_leaf (numbers_of around.now) (here_of around.now) (built body.old) (publish_statement text.now (typed_tree e.now))) }
 {
-    let source = body.next_register();
-    expression(body, around, e)?;
+    let source = read(body, around, e)?;
     body.push(Step::Publish { text, source })
 }
 
@@ -192,8 +190,7 @@ pub fn pair_store(
 {
     let private = slot_is_private(&around.here, store.slot);
     let classified = body.fresh(private_kind(&around.here, e))?;
-    let first = body.next_register();
-    expression(body, around, number)?;
+    let first = read(body, around, number)?;
     let second = operand(body, around, private, classified, e)?;
     body.push(pair_step(store, first, second))
 }

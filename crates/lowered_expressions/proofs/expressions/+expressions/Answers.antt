@@ -10,7 +10,7 @@ use Rattle.typed_tree.specs.Tree.{binary_node, cat_node, cut_node, element_node,
 use Rattle.language_model.specs.Evaluation.{gives_private, connective, next_is_private}
 use Rattle.verified_code.specs.Steps.{ReturnNone}
 use Rattle.code_model.specs.Kinds.{width, widths, kind_of, kind_in, private_kind_in, truth_kind, expression_kinds, arguments_kinds}
-use Rattle.code_model.specs.Expressions.{expression_code, arguments_code, arguments_places, lacks, picked}
+use Rattle.code_model.specs.Expressions.{variable_of, read_at, operand_code, arguments_code, arguments_places, lacks, picked}
 use Rattle.code_model.proofs.Widths.{expression_registers}
 use Rattle.lowered_expressions.specs.Built.{Built, with_kind, with_code}
 use Rattle.lowered_expressions.specs.Parts.{binary_rest, cut_rest, cut_closed}
@@ -25,12 +25,12 @@ use Rattle.lowered_expressions.proofs.expressions.+expressions.Goals as goal
 
 -- ---- ELEMENTS
 
-pub element-expression-requires : goal.element-expression-requires
-element-expression-requires t c =
+pub element-read-requires : goal.element-read-requires
+element-read-requires t c =
     let here = here_of c.args.around.now in
     let a = typed_tree c.args.array.now in
     let i = typed_tree c.args.index.now in
-    let smaller : 3 * width a < 3 * (width a + width i) + 1 = omega arith in
+    let smaller : 4 * width a + 1 < 4 * (width a + width i) + 2 = omega arith in
     let found : c.parted.result.0.now ≡ notes_of here a =
     left_found here _ a i c.args.notes.now c.behind_first.result.now c.parted.result.0.now c.requires c.behind_first.ensures c.parted.ensures.first in
     search rules
@@ -43,13 +43,13 @@ element-returns t c =
     let i = typed_tree c.args.index.now in
     let b = built c.args.body.now in
     on_ok_weaker c.push.result
-    (λ p. element_made b (built c.fresh.new.self) (built c.expression.new.body) (built c.expression-2.new.body) (built c.push.new.self)
+    (λ p. element_made b (built c.fresh.new.self) (built c.read.new.body) (built c.read-2.new.body) (built c.push.new.self)
     (kind_in here (element_node c.args.line a i)) (expression_kinds here a) (expression_kinds here i)
-    (λ n q. expression_code number here n q a) (λ n q. expression_code number here n q i) c.args.line c.in_ok-to.to c.next_register-from.result
-    c.next_register-at.result (width a)
-    (c.in_ok-to.ensures.built ∙ ap (with_kind b) (c.first_kind.ensures ∙ ap first_kind c.requires)) c.in_ok-expression.ensures
-    c.in_ok-expression-2.ensures p c.in_ok-to.ensures.number
-    c.next_register-from.ensures c.next_register-at.ensures (expression_registers here a))
+    (λ n q. operand_code number here n q a) (λ n q. operand_code number here n q i) (read_at (variable_of a)) (read_at (variable_of i)) c.args.line
+    c.in_ok-to.to c.in_ok-from.from c.in_ok-at.at (width a)
+    (c.in_ok-to.ensures.built ∙ ap (with_kind b) (c.first_kind.ensures ∙ ap first_kind c.requires)) c.in_ok-from.ensures.built
+    c.in_ok-at.ensures.built p c.in_ok-to.ensures.number
+    c.in_ok-from.ensures.register c.in_ok-at.ensures.register (expression_registers here a))
     c.push.ensures
 
 -- ---- ARRAYS ONE BEHIND ANOTHER
@@ -59,7 +59,7 @@ cat-operand-requires t c =
     let here = here_of c.args.around.now in
     let x = typed_tree c.args.a.now in
     let y = typed_tree c.args.b.now in
-    let smaller : 3 * width x + 1 < 3 * (width x + width y) + 2 = omega arith in
+    let smaller : 4 * width x + 2 < 4 * (width x + width y) + 3 = omega arith in
     let left : c.parted.result.0.now ≡ notes_of here x =
     left_found here _ x y c.args.notes.now c.behind_first.result.now c.parted.result.0.now c.requires c.behind_first.ensures c.parted.ensures.first in
     search rules
@@ -92,7 +92,7 @@ cat-returns t c =
     on_ok_weaker c.push.result
     (λ p. cat_made b (built c.fresh-3.new.self) (built c.operand.new.body) (built c.operand-2.new.body) (built c.push.new.self)
     (kind_in here node ∷ private_kind_in here x ∷ private_kind_in here y ∷ []) (expression_kinds here x) (expression_kinds here y)
-    (λ n q. expression_code number here n q x) (λ n q. expression_code number here n q y)
+    (λ n q. operand_code number here n q x) (λ n q. operand_code number here n q y) (read_at (variable_of x)) (read_at (variable_of y))
     (lacks c.first_is_private-private.result (gives_private here x)) (lacks c.first_is_private-private.result (gives_private here y)) c.args.line
     c.in_ok-to.to c.in_ok-first.first
     c.in_ok-second.second c.in_ok-left.left c.in_ok-right.right (width x)
@@ -104,12 +104,12 @@ cat-returns t c =
 
 -- ---- OPERATIONS ON TWO OPERANDS
 
-pub binary-expression-requires : goal.binary-expression-requires
-binary-expression-requires t c =
+pub binary-read-requires : goal.binary-read-requires
+binary-read-requires t c =
     let here = here_of c.args.around.now in
     let x = typed_tree c.args.a.now in
     let y = typed_tree c.args.b.now in
-    let smaller : 3 * width x < 3 * (width x + width y) + 2 = omega arith in
+    let smaller : 4 * width x + 1 < 4 * (width x + width y) + 3 = omega arith in
     let left : c.parted.result.0.now ≡ notes_of here x =
     left_found here _ x y c.args.notes.now c.behind_first.result.now c.parted.result.0.now c.requires c.behind_first.ensures c.parted.ensures.first in
     search rules
@@ -119,16 +119,16 @@ binary-both-requires t c =
     let here = here_of c.args.around.now in
     let x = typed_tree c.args.a.now in
     let y = typed_tree c.args.b.now in
-    let smaller : 3 * width y + 1 < 3 * (width x + width y) + 2 = omega arith in
+    let smaller : 4 * width y + 2 < 4 * (width x + width y) + 3 = omega arith in
     let begun = begun_three (built c.args.body.now) (built c.fresh.new.self) (built c.fresh-2.new.self) (built c.fresh-3.new.self)
     c.first_kind.result c.first_private_kind.result c.first_private_kind-2.result c.in_ok-to.ensures.built c.in_ok-fresh.ensures.built
     c.in_ok-fresh-2.ensures.built in
     let right : c.parted.result.1.now ≡ notes_of here y =
     right_found here _ x y c.args.notes.now c.behind_first.result.now c.parted.result.1.now c.requires c.behind_first.ensures c.parted.ensures.behind in
-    let there : length (built c.expression.new.body).kinds ≡ c.in_ok-to.to + 3 + width x =
-    part_registers (built c.args.body.now) (built c.fresh-3.new.self) (built c.expression.new.body) _ 3 (expression_kinds here x) _ (width x) c.in_ok-to.to
-    begun c.in_ok-expression.ensures (expression_registers here x) c.in_ok-to.ensures.number in
-    let within : c.in_ok-to.to + 3 ≤ length (built c.expression.new.body).kinds = omega (arith, there) in
+    let there : length (built c.read.new.body).kinds ≡ c.in_ok-to.to + 3 + width x =
+    part_registers (built c.args.body.now) (built c.fresh-3.new.self) (built c.read.new.body) _ 3 (expression_kinds here x) _ (width x) c.in_ok-to.to
+    begun c.in_ok-value.ensures.built (expression_registers here x) c.in_ok-to.ensures.number in
+    let within : c.in_ok-to.to + 3 ≤ length (built c.read.new.body).kinds = omega (arith, there) in
     search rules
 
 pub binary-returns : goal.binary-returns
@@ -151,25 +151,28 @@ binary-returns t c =
     (c.in_ok-to.ensures.built ∙ ap (with_kind b) kind)
     (c.in_ok-fresh.ensures.built ∙ ap (with_kind (built c.fresh.new.self)) (c.first_private_kind.ensures ∙ ap first_private_kind left))
     (c.in_ok-fresh-2.ensures.built ∙ ap (with_kind (built c.fresh-2.new.self)) (c.first_private_kind-2.ensures ∙ ap first_private_kind right)) in
-    let rest = λ (g : Bool) (n u q : ℕ). binary_rest n u q o.line o.operator o.operands g (gives_private here y) (λ r. expression_code number here u r y) in
+    let left_is : c.in_ok-value.value ≡ read_at (variable_of x) (c.in_ok-to.to + 3) =
+    c.in_ok-value.ensures.register ∙ ap (read_at (variable_of x)) (begun.registers ∙ sym (ap (λ n. n + 3) c.in_ok-to.ensures.number)) in
+    let rest = λ (g : Bool) (v n u q : ℕ).
+    binary_rest n v (read_at (variable_of y) u) q o.line o.operator o.operands g (gives_private here y) (λ r. operand_code number here u r y) in
     on_ok_weaker c.both.result
-    (λ p. two_parts b (built c.fresh-3.new.self) (built c.expression.new.body) (built c.both.new.body)
+    (λ p. two_parts b (built c.fresh-3.new.self) (built c.read.new.body) (built c.both.new.body)
     (kind_in here node ∷ private_kind_in here x ∷ private_kind_in here y ∷ []) 3 (expression_kinds here x) (expression_kinds here y)
-    (λ n q. expression_code number here n q x)
-    (rest (gives_private here x)) c.in_ok-to.to (width x) begun c.in_ok-expression.ensures
-    (p ∙ ap (λ (g : Bool). with_code (built c.expression.new.body) (expression_kinds here y)
-    (rest g c.in_ok-to.to (length (built c.expression.new.body).kinds) (length (built c.expression.new.body).pieces))) secret)
+    (λ n q. operand_code number here n q x)
+    (λ n u q. rest (gives_private here x) (read_at (variable_of x) (n + 3)) n u q) c.in_ok-to.to (width x) begun c.in_ok-value.ensures.built
+    (p ∙ ap₂ (λ (g : Bool) (v : ℕ). with_code (built c.read.new.body) (expression_kinds here y)
+    (rest g v c.in_ok-to.to (length (built c.read.new.body).kinds) (length (built c.read.new.body).pieces))) secret left_is)
     c.in_ok-to.ensures.number (expression_registers here x))
     c.both.ensures
 
 -- ---- CONNECTIVES
 
-pub cut-expression-requires : goal.cut-expression-requires
-cut-expression-requires t c =
+pub cut-read-requires : goal.cut-read-requires
+cut-read-requires t c =
     let here = here_of c.args.around.now in
     let x = typed_tree c.args.a.now in
     let y = typed_tree c.args.b.now in
-    let smaller : 3 * width x < 3 * (width x + width y) + 2 = omega arith in
+    let smaller : 4 * width x + 1 < 4 * (width x + width y) + 3 = omega arith in
     let left : c.parted.result.0.now ≡ notes_of here x =
     left_found here _ x y c.args.notes.now c.behind_first.result.now c.parted.result.0.now c.requires c.behind_first.ensures c.parted.ensures.first in
     search rules
@@ -179,15 +182,15 @@ cut-both-requires t c =
     let here = here_of c.args.around.now in
     let x = typed_tree c.args.a.now in
     let y = typed_tree c.args.b.now in
-    let smaller : 3 * width y + 1 < 3 * (width x + width y) + 2 = omega arith in
+    let smaller : 4 * width y + 2 < 4 * (width x + width y) + 3 = omega arith in
     let begun = begun_three (built c.args.body.now) (built c.fresh.new.self) (built c.fresh-2.new.self) (built c.fresh-3.new.self)
     c.first_kind.result c.kind_of.result c.kind_of-2.result c.in_ok-to.ensures.built c.in_ok-fresh.ensures.built c.in_ok-fresh-2.ensures.built in
     let right : c.parted.result.1.now ≡ notes_of here y =
     right_found here _ x y c.args.notes.now c.behind_first.result.now c.parted.result.1.now c.requires c.behind_first.ensures c.parted.ensures.behind in
-    let there : length (built c.expression.new.body).kinds ≡ c.in_ok-to.to + 3 + width x =
-    part_registers (built c.args.body.now) (built c.fresh-3.new.self) (built c.expression.new.body) _ 3 (expression_kinds here x) _ (width x) c.in_ok-to.to
-    begun c.in_ok-expression.ensures (expression_registers here x) c.in_ok-to.ensures.number in
-    let within : c.in_ok-to.to + 3 ≤ length (built c.expression.new.body).kinds = omega (arith, there) in
+    let there : length (built c.read.new.body).kinds ≡ c.in_ok-to.to + 3 + width x =
+    part_registers (built c.args.body.now) (built c.fresh-3.new.self) (built c.read.new.body) _ 3 (expression_kinds here x) _ (width x) c.in_ok-to.to
+    begun c.in_ok-value.ensures.built (expression_registers here x) c.in_ok-to.ensures.number in
+    let within : c.in_ok-to.to + 3 ≤ length (built c.read.new.body).kinds = omega (arith, there) in
     search rules
 
 pub cut-cut_short-requires : goal.cut-cut_short-requires
@@ -195,15 +198,15 @@ cut-cut_short-requires t c =
     let here = here_of c.args.around.now in
     let x = typed_tree c.args.a.now in
     let y = typed_tree c.args.b.now in
-    let smaller : 3 * width y + 1 < 3 * (width x + width y) + 2 = omega arith in
+    let smaller : 4 * width y + 2 < 4 * (width x + width y) + 3 = omega arith in
     let begun = begun_three (built c.args.body.now) (built c.fresh.new.self) (built c.fresh-2.new.self) (built c.fresh-3.new.self)
     c.first_kind.result c.kind_of.result c.kind_of-2.result c.in_ok-to.ensures.built c.in_ok-fresh.ensures.built c.in_ok-fresh-2.ensures.built in
     let right : c.parted.result.1.now ≡ notes_of here y =
     right_found here _ x y c.args.notes.now c.behind_first.result.now c.parted.result.1.now c.requires c.behind_first.ensures c.parted.ensures.behind in
-    let there : length (built c.expression.new.body).kinds ≡ c.in_ok-to.to + 3 + width x =
-    part_registers (built c.args.body.now) (built c.fresh-3.new.self) (built c.expression.new.body) _ 3 (expression_kinds here x) _ (width x) c.in_ok-to.to
-    begun c.in_ok-expression.ensures (expression_registers here x) c.in_ok-to.ensures.number in
-    let within : c.in_ok-to.to + 3 ≤ length (built c.expression.new.body).kinds = omega (arith, there) in
+    let there : length (built c.read.new.body).kinds ≡ c.in_ok-to.to + 3 + width x =
+    part_registers (built c.args.body.now) (built c.fresh-3.new.self) (built c.read.new.body) _ 3 (expression_kinds here x) _ (width x) c.in_ok-to.to
+    begun c.in_ok-value.ensures.built (expression_registers here x) c.in_ok-to.ensures.number in
+    let within : c.in_ok-to.to + 3 ≤ length (built c.read.new.body).kinds = omega (arith, there) in
     search rules
 
 pub cut-returns-then-secret : goal.cut-returns-then-secret
@@ -227,15 +230,19 @@ cut-returns-then-secret t c =
     (c.in_ok-to.ensures.built ∙ ap (with_kind b) kind)
     (c.in_ok-fresh.ensures.built ∙ ap (with_kind (built c.fresh.new.self)) first)
     (c.in_ok-fresh-2.ensures.built ∙ ap (with_kind (built c.fresh-2.new.self)) second) in
-    let rest = λ (g : Bool) (o : BoolOperator) (n u q : ℕ). binary_rest n u q 0 (binary.Bools o) Scalars g (gives_private here y)
-    (λ r. expression_code number here u r y) in
+    let left_is : c.in_ok-value.value ≡ read_at (variable_of x) (c.in_ok-to.to + 3) =
+    c.in_ok-value.ensures.register ∙ ap (read_at (variable_of x)) (begun.registers ∙ sym (ap (λ n. n + 3) c.in_ok-to.ensures.number)) in
+    let rest = λ (g : Bool) (o : BoolOperator) (v n u q : ℕ). binary_rest n v (read_at (variable_of y) u) q 0 (binary.Bools o) Scalars g
+    (gives_private here y) (λ r. operand_code number here u r y) in
     on_ok_weaker c.both.result
-    (λ p. two_parts b (built c.fresh-3.new.self) (built c.expression.new.body) (built c.both.new.body)
+    (λ p. two_parts b (built c.fresh-3.new.self) (built c.read.new.body) (built c.both.new.body)
     (kind_in here node ∷ truth_kind (gives_private here x) ∷ truth_kind true ∷ []) 3 (expression_kinds here x) (expression_kinds here y)
-    (λ n q. expression_code number here n q x) (rest (gives_private here x) (connective n))
-    c.in_ok-to.to (width x) begun c.in_ok-expression.ensures
-    (p ∙ ap₂ (λ (g : Bool) (o : BoolOperator). with_code (built c.expression.new.body) (expression_kinds here y)
-    (rest g o c.in_ok-to.to (length (built c.expression.new.body).kinds) (length (built c.expression.new.body).pieces))) secret c.operator.ensures)
+    (λ n q. operand_code number here n q x) (λ k u q. rest (gives_private here x) (connective n) (read_at (variable_of x) (k + 3)) k u q)
+    c.in_ok-to.to (width x) begun c.in_ok-value.ensures.built
+    (p ∙ ap₂ (λ (g : Bool) (o : BoolOperator). with_code (built c.read.new.body) (expression_kinds here y)
+    (rest g o c.in_ok-value.value c.in_ok-to.to (length (built c.read.new.body).kinds) (length (built c.read.new.body).pieces))) secret c.operator.ensures
+    ∙ ap (λ (v : ℕ). with_code (built c.read.new.body) (expression_kinds here y)
+    (rest (gives_private here x) (connective n) v c.in_ok-to.to (length (built c.read.new.body).kinds) (length (built c.read.new.body).pieces))) left_is)
     c.in_ok-to.ensures.number (expression_registers here x)
     ∙ ap (λ (g : Bool). with_code b (expression_kinds here node) (cut_of number here n x y b g)) (sym private))
     c.both.ensures
@@ -261,12 +268,18 @@ cut-returns-else-secret t c =
     (c.in_ok-to.ensures.built ∙ ap (with_kind b) kind)
     (c.in_ok-fresh.ensures.built ∙ ap (with_kind (built c.fresh.new.self)) first)
     (c.in_ok-fresh-2.ensures.built ∙ ap (with_kind (built c.fresh-2.new.self)) second) in
+    let left_is : c.in_ok-value.value ≡ read_at (variable_of x) (c.in_ok-to.to + 3) =
+    c.in_ok-value.ensures.register ∙ ap (read_at (variable_of x)) (begun.registers ∙ sym (ap (λ n. n + 3) c.in_ok-to.ensures.number)) in
     on_ok_weaker c.cut_short.result
-    (λ p. two_parts b (built c.fresh-3.new.self) (built c.expression.new.body) (built c.cut_short.new.body)
+    (λ p. two_parts b (built c.fresh-3.new.self) (built c.read.new.body) (built c.cut_short.new.body)
     (kind_in here node ∷ truth_kind (gives_private here x) ∷ truth_kind true ∷ []) 3 (expression_kinds here x) (expression_kinds here y)
-    (λ n q. expression_code number here n q x)
-    (λ m u q. cut_rest m u q n (gives_private here y) (λ r. expression_code number here u r y))
-    c.in_ok-to.to (width x) begun c.in_ok-expression.ensures p c.in_ok-to.ensures.number (expression_registers here x)
+    (λ n q. operand_code number here n q x)
+    (λ m u q. cut_rest m (read_at (variable_of x) (m + 3)) (read_at (variable_of y) u) q n (gives_private here y) (λ r. operand_code number here u r y))
+    c.in_ok-to.to (width x) begun c.in_ok-value.ensures.built
+    (p ∙ ap (λ (v : ℕ). with_code (built c.read.new.body) (expression_kinds here y) (cut_rest c.in_ok-to.to v
+    (read_at (variable_of y) (length (built c.read.new.body).kinds)) (length (built c.read.new.body).pieces) n (gives_private here y)
+    (λ r. operand_code number here (length (built c.read.new.body).kinds) r y))) left_is)
+    c.in_ok-to.ensures.number (expression_registers here x)
     ∙ ap (λ (g : Bool). with_code b (expression_kinds here node) (cut_of number here n x y b g)) (sym private))
     c.cut_short.ensures
 
@@ -277,12 +290,12 @@ cut_short-returns t c =
     let y = typed_tree c.args.b.now in
     let b = built c.args.body.now in
     on_ok_weaker c.close_cut.result
-    (λ p. cut_made b (built c.push.new.self) (built c.expression.new.body) (built c.close_cut.new.body) ReturnNone (expression_kinds here y)
-    (λ n q. expression_code number here n q y) c.args.connective (gives_private here y) c.args.to c.next_register-value.result c.next_place-branch.result
-    c.in_ok-push.ensures c.in_ok-expression.ensures
-    (p ∙ ap (λ (g : Bool). cut_closed (built c.expression.new.body) c.args.connective g c.args.to c.next_register-value.result c.next_place-branch.result)
-    (c.first_is_private-secret.ensures ∙ ap first_is_private c.requires.notes))
-    c.next_register-value.ensures c.next_place-branch.ensures)
+    (λ p. cut_made b (built c.push.new.self) (built c.read.new.body) (built c.close_cut.new.body) ReturnNone (expression_kinds here y)
+    (λ n q. operand_code number here n q y) (read_at (variable_of y)) c.args.connective (gives_private here y) c.args.left.to c.args.left.value
+    c.in_ok-value.value c.next_place-branch.result c.in_ok-push.ensures c.in_ok-value.ensures.built
+    (p ∙ ap (λ (g : Bool). cut_closed (built c.read.new.body) c.args.connective g c.args.left.to c.args.left.value c.in_ok-value.value
+    c.next_place-branch.result) (c.first_is_private-secret.ensures ∙ ap first_is_private c.requires.notes))
+    c.in_ok-value.ensures.register c.next_place-branch.ensures)
     c.close_cut.ensures
 
 -- ---- ARGUMENTS
@@ -296,7 +309,7 @@ arguments-argument-requires t c =
     subst (λ ys. width (typed_tree x) + 1 ≤ widths (typed_trees_of (map typed_tree ys))) c.deref-e-items.ensures.value
     (subst (λ (y : TypedExpression). width (typed_tree y) + 1 ≤ widths (typed_trees_of (map typed_tree es))) (sym c.e-item.is)
     (several.widths_item es i x c.loop-e-test.true)) in
-    let smaller : 3 * width (typed_tree x) + 2 < 3 * widths (typed_trees_of (map typed_tree c.args.list.now.items)) = omega arith in
+    let smaller : 4 * width (typed_tree x) + 3 < 4 * widths (typed_trees_of (map typed_tree c.args.list.now.items)) = omega arith in
     let here = here_of c.args.around.now in
     let own : c.parted.result.0.now ≡ notes_of here (typed_tree x) =
     c.parted.ensures.first
@@ -354,7 +367,7 @@ arguments-loop-e-preserved t c =
           c.in_ok-push.ensures.items
           ∙ ap₂ (λ l r. l ++ r ∷ []) c.loop-e.invariant.places
           (c.in_ok-register.ensures.register
-          ∙ ap (λ (g : Bool). picked (lacks g (gives_private here e)) (length before.kinds) (length before.kinds + 1)) private)
+          ∙ ap (λ (g : Bool). picked (lacks g (gives_private here e)) (length before.kinds) (read_at (variable_of e) (length before.kinds + 1))) private)
           ∙ sym (several.places_more number here bound ts e ss (length b.kinds) (drop i ss) (length before.kinds) slots n)
           ∙ ap (λ l. arguments_places number here bound ss (length b.kinds) (typed_trees_of l)) (sym more);
     }

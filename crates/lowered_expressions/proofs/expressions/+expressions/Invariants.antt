@@ -9,43 +9,46 @@ use Rattle.lowered_expressions.specs.inner.Notes.{arguments_notes}
 use Rattle.lowered_expressions.proofs.expressions.+expressions.Given as goal
 
 abbrev pub decreases-expression : goal.decreases-expression
-decreases-expression l = 3 * width (typed_tree l.e.now)
+decreases-expression l = 4 * width (typed_tree l.e.now)
+
+abbrev pub decreases-read : goal.decreases-read
+decreases-read l = 4 * width (typed_tree l.e.now) + 1
 
 abbrev pub decreases-operand : goal.decreases-operand
-decreases-operand l = 3 * width (typed_tree l.e.now) + 1
+decreases-operand l = 4 * width (typed_tree l.e.now) + 2
 
 abbrev pub decreases-one : goal.decreases-one
-decreases-one l = 3 * width (typed_tree l.x.now) + 1
+decreases-one l = 4 * width (typed_tree l.x.now) + 2
 
 abbrev pub decreases-element : goal.decreases-element
-decreases-element l = 3 * (width (typed_tree l.array.now) + width (typed_tree l.index.now)) + 1
+decreases-element l = 4 * (width (typed_tree l.array.now) + width (typed_tree l.index.now)) + 2
 
 abbrev pub decreases-cat : goal.decreases-cat
-decreases-cat l = 3 * (width (typed_tree l.a.now) + width (typed_tree l.b.now)) + 2
+decreases-cat l = 4 * (width (typed_tree l.a.now) + width (typed_tree l.b.now)) + 3
 
 abbrev pub decreases-binary : goal.decreases-binary
-decreases-binary l = 3 * (width (typed_tree l.a.now) + width (typed_tree l.b.now)) + 2
+decreases-binary l = 4 * (width (typed_tree l.a.now) + width (typed_tree l.b.now)) + 3
 
 abbrev pub decreases-both : goal.decreases-both
-decreases-both l = 3 * width (typed_tree l.b.now) + 1
+decreases-both l = 4 * width (typed_tree l.b.now) + 2
 
 abbrev pub decreases-cut : goal.decreases-cut
-decreases-cut l = 3 * (width (typed_tree l.a.now) + width (typed_tree l.b.now)) + 2
+decreases-cut l = 4 * (width (typed_tree l.a.now) + width (typed_tree l.b.now)) + 3
 
 abbrev pub decreases-cut_short : goal.decreases-cut_short
-decreases-cut_short l = 3 * width (typed_tree l.b.now) + 1
+decreases-cut_short l = 4 * width (typed_tree l.b.now) + 2
 
 abbrev pub decreases-read_call : goal.decreases-read_call
-decreases-read_call l = 3 * widths (typed_trees_of (map typed_tree l.list.now.items)) + 2
+decreases-read_call l = 4 * widths (typed_trees_of (map typed_tree l.list.now.items)) + 2
 
 abbrev pub decreases-call : goal.decreases-call
-decreases-call l = 3 * widths (typed_trees_of (map typed_tree l.list.now.items)) + 1
+decreases-call l = 4 * widths (typed_trees_of (map typed_tree l.list.now.items)) + 1
 
 abbrev pub decreases-arguments : goal.decreases-arguments
-decreases-arguments l = 3 * widths (typed_trees_of (map typed_tree l.list.now.items))
+decreases-arguments l = 4 * widths (typed_trees_of (map typed_tree l.list.now.items))
 
 abbrev pub decreases-argument : goal.decreases-argument
-decreases-argument l = 3 * width (typed_tree l.e.now) + 2
+decreases-argument l = 4 * width (typed_tree l.e.now) + 3
 
 abbrev pub invariant-arguments-loop-e : goal.invariant-arguments-loop-e
 invariant-arguments-loop-e l = record {
