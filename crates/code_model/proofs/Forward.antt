@@ -203,7 +203,7 @@ module _ (number : Numbers) where
         let jump : pc < pt = omega arith in (
           jump,
           both_on (pc + 1) ca (cb ++ (ce ++ Branch (read_at (variable_of e) te) true (pc + 1) ∷ [])) (statement_on at body t out over (pc + 1)
-          (omega (arith, ey)) (omega (arith, ey)))
+              (omega (arith, ey)) (omega (arith, ey)))
               (both_on py cb (ce ++ Branch (read_at (variable_of e) te) true (pc + 1) ∷ []) (statement_on at step ts out again py (omega (arith, ez))
               (omega (arith, ez)))
               (both_on pt ce (Branch (read_at (variable_of e) te) true (pc + 1) ∷ []) (operand_on at.here e te pt) (tt, tt))),
