@@ -1,5 +1,5 @@
 #!/usr/bin/env bash
-# Times `secrec run` over as many stores into a private array as it has elements, at three sizes each: in `main`; where each reads the element before; in
+# Times `secrec run` over as many stores into a private array as it has elements, at three sizes each: in `main`; where each reads its element first; in
 # a loop that asks for the size in its test; and in a function that was passed the array; and over the same loop without a store. Prints the processor time
 # and the peak memory of the run of three that took least, and how they grow. The sizes grow by four: so does the time of stores that are done in place, and
 # that of copies would grow by sixteen. It measures; it tests nothing. It wants bash and python3; another program than the one that `./secrec` runs can be

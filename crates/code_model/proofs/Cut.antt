@@ -17,12 +17,12 @@ use Rattle.language_model.specs.Evaluation.{Frame, Calls, gives_private, connect
 use Rattle.verified_code.specs.Steps.{Step, Literal, Move, Classify, Branch, Jump, Function}
 use Rattle.code_model.specs.Machine.{Machine, at, next, step, same_bool}
 use Rattle.code_model.specs.Kinds.{width}
-use Rattle.code_model.specs.Expressions.{Numbers, variable_of, read_at, deciding, settling, cut_code}
+use Rattle.code_model.specs.Expressions.{Numbers, stands_at, deciding, settling, cut_code}
 use Rattle.code_model.proofs.Places.{HasAt, has_front, has_back, put_same, put_other}
 use Rattle.code_model.proofs.Gives.{IsSecret, class_gives}
 use Rattle.code_model.proofs.Follows.{Runs, runs_bind, runs_more, runs_first, instruct, silent}
 use Rattle.code_model.proofs.Near.{Near, near_on, near_less, near_set, Landed, Read, Ready, ready_front, ready_back, ready_step, ready_at, branch_runs}
-use Rattle.code_model.proofs.Operands.{private_joined, IsVariableThere, code, operand, Evaluates, reads, binary_runs}
+use Rattle.code_model.proofs.Operands.{private_joined, code, Evaluates, binary_runs}
 
 decides_same : (c : Connective) (o : Bool) → same_bool o (deciding c) ≡ decides c o
 decides_same AndAlso true = refl
@@ -42,19 +42,19 @@ module _ (w : World) (p : List Function) (number : Numbers) (calls : Calls) (d :
     u0 = t + 3 + width a
 
     abbrev x0 : ℕ
-    x0 = read_at (variable_of a) (t + 3)
+    x0 = stands_at a (t + 3)
 
     abbrev u : ℕ
-    u = read_at (variable_of b) u0
+    u = stands_at b u0
 
     abbrev ca : List Step
-    ca = operand w p number calls d here (t + 3) pc a
+    ca = code w p number calls d here (t + 3) pc a
 
     abbrev pb : ℕ
     pb = pc + length ca + 1
 
     abbrev cb : List Step
-    cb = operand w p number calls d here u0 pb b
+    cb = code w p number calls d here u0 pb b
 
     abbrev pd : ℕ
     pd = pb + length cb + 2
@@ -66,7 +66,7 @@ module _ (w : World) (p : List Function) (number : Numbers) (calls : Calls) (d :
     last = Move t u ∷ Jump (pd + 2) ∷ Literal (t + 1) datatype.Bool (truth_word (deciding c)) ∷ settling secret t (t + 1) ∷ []
 
     abbrev whole : List Step
-    whole = cut_code t x0 u pc c secret ca (λ q. operand w p number calls d here u0 q b)
+    whole = cut_code t x0 u pc c secret ca (λ q. code w p number calls d here u0 q b)
 
     abbrev Q : Value → Machine → Type 0
     Q = Landed t (pc + length whole) m secret
@@ -138,32 +138,32 @@ module _ (w : World) (p : List Function) (number : Numbers) (calls : Calls) (d :
           private = h3.private;
         })))
 
-    chosen : Standing → HasAt m.steps pb cb → IsVariableThere here b → Evaluates w p number calls d here b → Ready d here fr t pc whole m → (o : Bool)
+    chosen : Standing → HasAt m.steps pb cb → Evaluates w p number calls d here b → Ready d here fr t pc whole m → (o : Bool)
         (m2 : Machine) → Near t m m2
         → (e : Bool) → decides c o ≡ e → m2.pc ≡ either e pd pb
         → Runs w p m2 (either e (wanted secret (truth_value o)) (value w calls here b fr)) Q
-    chosen has right thb evb r o m2 n true q e = subst (λ z. Runs w p m2 (wanted secret (truth_value z)) Q) (sym (decides_value c o q)) (decided has m2 n e)
-    chosen has right thb evb r o m2 n false q e =
-        other has m2 n (value w calls here b fr) (reads w p number calls d here b thb evb u0 pb fr m2 (ready_at u0 pb cb (omega arith) r n e right))
+    chosen has right evb r o m2 n true q e = subst (λ z. Runs w p m2 (wanted secret (truth_value z)) Q) (sym (decides_value c o q)) (decided has m2 n e)
+    chosen has right evb r o m2 n false q e =
+        other has m2 n (value w calls here b fr) (evb u0 pb fr m2 (ready_at u0 pb cb (omega arith) r n e right))
 
-    pub cut_short_runs : IsVariableThere here a → IsVariableThere here b → Evaluates w p number calls d here a → Evaluates w p number calls d here b
+    pub cut_short_runs : Evaluates w p number calls d here a → Evaluates w p number calls d here b
         → Ready d here fr t pc whole m
         → Runs w p m (value w calls here a fr >>= λ x. cut_short c secret x (value w calls here b fr)) Q
     unfolding Standing
-    cut_short_runs tha thb eva evb r =
+    cut_short_runs eva evb r =
         let rest = Branch x0 (deciding c) pd ∷ (cb ++ last) in
         let behind = (has_back m.steps pc ca rest r.has).1 in
-        runs_bind (reads w p number calls d here a tha eva (t + 3) pc fr m (ready_front (t + 3) ca rest (omega arith) r)) (λ x m1 h1.
+        runs_bind (eva (t + 3) pc fr m (ready_front (t + 3) ca rest (omega arith) r)) (λ x m1 h1.
         let r1 = ready_back t (t + 3) ca rest (omega arith) (omega arith) r h1.near h1.pc in
         let n1 = near_less t (omega arith) h1.near in
         runs_bind (branch_runs x0 (deciding c) pd x m1 h1.held (ready_step r1)) (λ o m2 h2.
         let n2 : Near t m m2 = record { steps = h2.steps ∙ n1.steps; stack = h2.stack ∙ n1.stack; kept = λ i l. h2.registers i ∙ n1.kept i l } in
         let place : m2.pc ≡ either (decides c o) pd pb = h2.pc ∙ ap (λ z. either z pd (m1.pc + 1)) (decides_same c o) ∙ ap
         (λ z. either (decides c o) pd (z + 1)) h1.pc in
-        chosen (has_back m.steps pb cb last behind) (has_front m.steps pb cb last behind) thb evb r o m2 n2 (decides c o) refl place))
+        chosen (has_back m.steps pb cb last behind) (has_front m.steps pb cb last behind) evb r o m2 n2 (decides c o) refl place))
 
   -- whether the left operand is private decides which code stands there
-  pub cut_runs : (here : Setting) (c : Connective) (a b : TypedTree) (t pc : ℕ) (fr : Frame) (m : Machine) → IsVariableThere here a → IsVariableThere here b
+  pub cut_runs : (here : Setting) (c : Connective) (a b : TypedTree) (t pc : ℕ) (fr : Frame) (m : Machine)
       → Evaluates w p number calls d here a → Evaluates w p number calls d here b
       → (g : Bool) → gives_private here a ≡ g
       → Ready d here fr t pc (either g (code w p number calls d here t pc (binary_node 0 (binary.Bools (connective c)) Scalars a b)) (whole here c a b t pc fr
@@ -172,11 +172,11 @@ module _ (w : World) (p : List Function) (number : Numbers) (calls : Calls) (d :
       (cut_short c (gives_private here b) x (value w calls here b fr)))
       (Landed t (pc + length (either g (code w p number calls d here t pc (binary_node 0 (binary.Bools (connective c)) Scalars a b)) (whole here c a b t pc fr
       m))) m (gives_private here (cut_node c a b)))
-  cut_runs here c a b t pc fr m tha thb eva evb true e r =
-      binary_runs w p number calls d here a b t pc 0 (binary.Bools (connective c)) Scalars fr m tha thb eva evb r
-  cut_runs here c a b t pc fr m tha thb eva evb false e r =
+  cut_runs here c a b t pc fr m eva evb true e r =
+      binary_runs w p number calls d here a b t pc 0 (binary.Bools (connective c)) Scalars fr m eva evb r
+  cut_runs here c a b t pc fr m eva evb false e r =
       let same : gives_private here (cut_node c a b) ≡ gives_private here b = private_joined (domain here a) (domain here b) ∙ ap
       (λ z. z || gives_private here b) e in
       subst (λ z. Runs w p m (value w calls here a fr >>= λ x. cut_short c (gives_private here b) x (value w calls here b fr))
       (Landed t (pc + length (whole here c a b t pc fr m)) m z)) (sym same)
-      (cut_short_runs here c a b t pc fr m tha thb eva evb r)
+      (cut_short_runs here c a b t pc fr m eva evb r)

@@ -1,34 +1,35 @@
 -- The code of an expression does what the expression does.
-use Rattle.std.proofs.Common.{◌≡◌, ℕ, ◌+◌, ◌<◌, ◌≤◌, List, [], ◌∷◌, ◌++◌, length, Option, Some, None, Ok, Bool, true, false, refl, sym, ap, ◌∙◌}
+use Rattle.std.proofs.Common.{◌≡◌, ℕ, ◌+◌, ◌<◌, ◌≤◌, List, [], ◌∷◌, ◌++◌, length, Option, Some, None, Bool, true, false, refl, sym, ap, ◌∙◌}
 use Rattle.std.proofs.Common.{subst, arith, length-append}
 use Rattle.std.specs.Prelude.{slice_get}
-use Rattle.std.proofs.lemmas.Option.{none-some}
 use Rattle.secrec_ast.specs.declared.expression.DataType.TheVariants.{Uint64}
 use Rattle.secrec_ast.specs.declared.expression.DataType.TheVariants as datatype
 use Rattle.typed_tree.specs.declared.kinds.Slot.{Slot}
+use Rattle.typed_tree.specs.Shapes.{shape_of}
 use Rattle.typed_tree.specs.Tree.{TypedTree, TypedTrees, word_node, truth_node, slot_node, call_node, size_node, cat_node, sum_node, bits_node, element_node}
 use Rattle.typed_tree.specs.Tree.{not_node, cast_node, binary_node, cut_node, declassify_node}
 use Rattle.typed_tree.specs.Tree as Tree'
 use Rattle.typed_tree.specs.Programs.{TypedFunctionTree}
 use Rattle.reached_instances.specs.declared.instance.BoundDomain.{BoundDomain}
 use Rattle.reached_instances.specs.Domains.{Setting, domains, given_domain, call_domain}
-use Rattle.language_model.specs.Effects.{World, carry, done}
+use Rattle.language_model.specs.Effects.{World, Effect, carry, done}
 use Rattle.language_model.specs.Values.{Value}
 use Rattle.language_model.specs.Words.{truth_word}
 use Rattle.language_model.specs.Operations as row
-use Rattle.language_model.specs.Evaluation.{Frame, Calls, is_private, gives_private, slot_is_private, slots_of, bound_at, next_is_private}
+use Rattle.language_model.specs.Evaluation.{Frame, Calls, is_private, gives_private, slots_of, bound_at, next_is_private}
 use Rattle.language_model.specs.Evaluation.{truth_value, value, arguments}
-use Rattle.verified_code.specs.Steps.{Literal, Move, Not, Cast, Size, Sum, Bits, Declassify, Call, Function}
+use Rattle.verified_code.specs.Steps.{Literal, Not, Cast, Size, Sum, Bits, Declassify, Call, Function}
 use Rattle.code_model.specs.Machine.{Machine, next, received, values_at, limit}
 use Rattle.code_model.specs.Kinds.{width}
-use Rattle.code_model.specs.Expressions.{Numbers, classifying, picked, lacks, variable_of, read_at, operand_code, arguments_code, arguments_places}
+use Rattle.code_model.specs.Expressions.{Numbers, classifying, picked, lacks, stands_at, expression_code, arguments_code, arguments_places}
 use Rattle.code_model.specs.Fit.{IsFit, AreFit}
 use Rattle.code_model.proofs.Places.{put_same, put_other}
 use Rattle.code_model.proofs.Gives.{Gives, IsSecret, gives_done, size_gives, negated_gives, cast_gives, summed_gives, bits_gives, declassified_gives}
 use Rattle.code_model.proofs.Follows.{Runs, runs_bind, runs_done, runs_more, instruct}
-use Rattle.code_model.proofs.Near.{Near, near_on, near_less, near_set, Ready, ready_front, ready_back, ready_at, ready_step, near_wanting}
+use Rattle.code_model.proofs.Near.{Near, near_on, near_less, near_set, Landed, Read, read_own, below_free, Ready, ready_front, ready_back, ready_at}
+use Rattle.code_model.proofs.Near.{ready_step, near_wanting}
 use Rattle.code_model.proofs.Near.{ready_classify, ready_wanting, wanting_runs}
-use Rattle.code_model.proofs.Operands.{width_some, IsVariableThere, variable_there, Evaluates, reads, unary_runs, element_runs, binary_runs, cat_runs}
+use Rattle.code_model.proofs.Operands.{width_some, Evaluates, unary_runs, element_runs, binary_runs, cat_runs}
 use Rattle.code_model.proofs.Cut.{cut_runs}
 
 -- ---- CALLS
@@ -64,6 +65,10 @@ pub record Passed (t to : ℕ) (m : Machine) (places : List ℕ) (b : List Bound
   pub here : values_at m'.registers places ≡ xs
   pub fit : ArgumentsFit b ss xs
 
+own_runs : {w : World} {p : List Function} {here : Setting} {c : Effect Value} {t to : ℕ} {m : Machine} {secret : Bool} → Runs w p m c (Landed t to m secret)
+    → Runs w p m c (Read here t t to m secret)
+own_runs h = runs_more h (λ v m1 k. runs_done (read_own k))
+
 picked_below : (b : Bool) (t r : ℕ) → r ≤ t + 1 → picked b t r < t + 2
 picked_below true t r l = omega arith
 picked_below false t r l = omega (arith, l)
@@ -80,23 +85,6 @@ module _ (w : World) (p : List Function) (number : Numbers) (fs : List TypedFunc
   module _ (calls : Calls) (d : ℕ) (ok : CallsRun d calls) where
     abbrev pub Expressed : Setting → TypedTree → Type 0
     Expressed = Evaluates w p number calls d
-
-    -- where an expression fits, the variable that it may be is there
-    pub variable_fits : (here : Setting) (e : TypedTree) → IsFit Known here e → IsVariableThere here e
-    variable_fits here (slot_node k) fit = variable_there here k fit
-    variable_fits here (word_node n) fit = λ k q. absurd (none-some _ q)
-    variable_fits here (truth_node b) fit = λ k q. absurd (none-some _ q)
-    variable_fits here (call_node line k es) fit = λ k q. absurd (none-some _ q)
-    variable_fits here (size_node e) fit = λ k q. absurd (none-some _ q)
-    variable_fits here (cat_node line a b) fit = λ k q. absurd (none-some _ q)
-    variable_fits here (sum_node e) fit = λ k q. absurd (none-some _ q)
-    variable_fits here (bits_node line e) fit = λ k q. absurd (none-some _ q)
-    variable_fits here (element_node line a i) fit = λ k q. absurd (none-some _ q)
-    variable_fits here (not_node e) fit = λ k q. absurd (none-some _ q)
-    variable_fits here (cast_node c e) fit = λ k q. absurd (none-some _ q)
-    variable_fits here (binary_node line op ds a b) fit = λ k q. absurd (none-some _ q)
-    variable_fits here (cut_node c a b) fit = λ k q. absurd (none-some _ q)
-    variable_fits here (declassify_node e) fit = λ k q. absurd (none-some _ q)
 
     -- where arguments are there, the call follows
     pub call_runs : (here : Setting) → here.functions ≡ fs → (line k : ℕ) (b : List BoundDomain) (ss : List Slot) (t : Option ℕ) (t1 pc : ℕ)
@@ -116,27 +104,33 @@ module _ (w : World) (p : List Function) (number : Numbers) (fs : List TypedFunc
 
       pub expression_runs : (here : Setting) → here.functions ≡ fs → (e : TypedTree) → IsFit Known here e → Expressed here e
       expression_runs here hf (word_node k) fit t pc fr m r =
-          instruct m (Literal t Uint64 k) (done (row.scalar_word k)) (λ v. next t v m) (IsSecret false) _ (ready_step r) (λ s. refl) (gives_done refl)
-          (λ v q. record { near = near_set t t v m (omega arith); pc = ap (λ z. z + 1) r.place; here = put_same t v m.registers; private = q })
+          own_runs (instruct m (Literal t Uint64 k) (done (row.scalar_word k)) (λ v. next t v m) (IsSecret false) _ (ready_step r) (λ s. refl) (gives_done refl)
+          (λ v q. record { near = near_set t t v m (omega arith); pc = ap (λ z. z + 1) r.place; here = put_same t v m.registers; private = q }))
       expression_runs here hf (truth_node b) fit t pc fr m r =
-          instruct m (Literal t datatype.Bool (truth_word b)) (done (truth_value b)) (λ v. next t v m) (IsSecret false) _ (ready_step r) (λ s. refl)
+          own_runs (instruct m (Literal t datatype.Bool (truth_word b)) (done (truth_value b)) (λ v. next t v m) (IsSecret false) _ (ready_step r) (λ s. refl)
           (gives_done refl) (λ v q. record {
             near = near_set t t v m (omega arith);
             pc = ap (λ z. z + 1) r.place;
             here = put_same t v m.registers;
             private = q;
-          })
+          }))
       expression_runs here hf (slot_node k) fit t pc fr m r =
-          instruct m (Move t k) (done (fr k)) (λ v. next t v m) (IsSecret (slot_is_private here k)) _ (ready_step r)
-          (λ s. ap (λ z. Ok (next t z m, s)) (r.holds.agree k fit)) (gives_done (r.holds.fits k))
-          (λ v q. record { near = near_set t t v m (omega arith); pc = ap (λ z. z + 1) r.place; here = put_same t v m.registers; private = q })
+          let below = below_free here.slots (shape_of Uint64 false) (omega (arith, fit)) in
+          runs_done (record {
+            near = record { steps = refl; stack = refl; kept = λ i l. refl };
+            pc = omega (arith, r.place);
+            held = r.holds.agree k fit;
+            private = r.holds.fits k;
+            low = omega (arith, fit, below, r.free);
+            apart = λ i l j. omega (arith, fit, below, l);
+          })
       expression_runs here hf (call_node line k es) fit t pc fr m r =
           let b = bound_at (slice_get here.functions k) (domains here es) in
           let ss = slots_of (slice_get here.functions k) in
           let ca = arguments_code number here b ss (t + 1) pc es in
           let places = arguments_places number here b ss (t + 1) es in
           let last = Call line (number k b) (Some t) places ∷ [] in
-          runs_bind (arguments_run here hf b ss es fit.1 (t + 1) pc fr m (ready_front (t + 1) ca last (omega arith) r)) (λ xs m1 h1.
+          own_runs (runs_bind (arguments_run here hf b ss es fit.1 (t + 1) pc fr m (ready_front (t + 1) ca last (omega arith) r)) (λ xs m1 h1.
           let r1 = ready_back (t + 1) (t + 1) ca last (omega arith) (omega arith) r h1.near h1.pc in
           runs_more (call_runs here hf line k b ss (Some t) (t + 1) (pc + length ca) places fr m m1 xs refl fit.0 r1 h1) (λ v m2 h2. runs_done (record {
             near = record {
@@ -148,42 +142,42 @@ module _ (w : World) (p : List Function) (number : Numbers) (fs : List TypedFunc
             pc = omega (arith, h2.pc, h1.pc, length-append ca last);
             here = h2.registers t ∙ put_same t v m1.registers;
             private = h2.private ∙ sym (call_secret (slice_get here.functions k) (domains here es));
-          })))
+          }))))
       expression_runs here hf (size_node e) fit t pc fr m r =
-          unary_runs w p number calls d here e t pc fr m (Size t) row.size_told false (variable_fits here e fit) (expression_runs here hf e fit)
-          (λ i x m1 s q. ap (λ z. carry (row.size_told z s) (λ v. done (next t v m1))) q) (λ x q. size_gives w x) r
+          own_runs (unary_runs w p number calls d here e t pc fr m (Size t) row.size_told false (expression_runs here hf e fit)
+          (λ i x m1 s q. ap (λ z. carry (row.size_told z s) (λ v. done (next t v m1))) q) (λ x q. size_gives w x) r)
       expression_runs here hf (cat_node line a b) fit t pc fr m r =
-          cat_runs w p number calls d here a b t pc line fr m (variable_fits here a fit.0) (variable_fits here b fit.1) (expression_runs here hf a fit.0)
-          (expression_runs here hf b fit.1) r
+          own_runs (cat_runs w p number calls d here a b t pc line fr m (expression_runs here hf a fit.0)
+          (expression_runs here hf b fit.1) r)
       expression_runs here hf (sum_node e) fit t pc fr m r =
-          unary_runs w p number calls d here e t pc fr m (Sum t) row.summed (gives_private here e) (variable_fits here e fit) (expression_runs here hf e fit)
+          own_runs (unary_runs w p number calls d here e t pc fr m (Sum t) row.summed (gives_private here e) (expression_runs here hf e fit)
           (λ i x m1 s q. ap (λ z. carry (row.summed z s) (λ v. done (next t v m1))) q) (λ x q. subst (λ z. Gives (row.summed x) (IsSecret z)) q
-          (summed_gives w x)) r
+          (summed_gives w x)) r)
       expression_runs here hf (bits_node line e) fit t pc fr m r =
-          unary_runs w p number calls d here e t pc fr m (Bits line t) (row.bits_extracted w line) (gives_private here e) (variable_fits here e fit)
+          own_runs (unary_runs w p number calls d here e t pc fr m (Bits line t) (row.bits_extracted w line) (gives_private here e)
           (expression_runs here hf e fit) (λ i x m1 s q. ap (λ z. carry (row.bits_extracted w line z s) (λ v. done (next t v m1))) q)
-          (λ x q. subst (λ z. Gives (row.bits_extracted w line x) (IsSecret z)) q (bits_gives w line x)) r
+          (λ x q. subst (λ z. Gives (row.bits_extracted w line x) (IsSecret z)) q (bits_gives w line x)) r)
       expression_runs here hf (element_node line a i) fit t pc fr m r =
-          element_runs w p number calls d here a i t pc line fr m (variable_fits here a fit.0) (variable_fits here i fit.1)
-          (expression_runs here hf a fit.0) (expression_runs here hf i fit.1) r
+          own_runs (element_runs w p number calls d here a i t pc line fr m
+          (expression_runs here hf a fit.0) (expression_runs here hf i fit.1) r)
       expression_runs here hf (not_node e) fit t pc fr m r =
-          unary_runs w p number calls d here e t pc fr m (Not t) row.negated (gives_private here e) (variable_fits here e fit) (expression_runs here hf e fit)
+          own_runs (unary_runs w p number calls d here e t pc fr m (Not t) row.negated (gives_private here e) (expression_runs here hf e fit)
           (λ i x m1 s q. ap (λ z. carry (row.negated z s) (λ v. done (next t v m1))) q) (λ x q. subst (λ z. Gives (row.negated x) (IsSecret z)) q
-          (negated_gives w x)) r
+          (negated_gives w x)) r)
       expression_runs here hf (cast_node c e) fit t pc fr m r =
-          unary_runs w p number calls d here e t pc fr m (Cast c t) (row.cast_to w c) (gives_private here e) (variable_fits here e fit)
+          own_runs (unary_runs w p number calls d here e t pc fr m (Cast c t) (row.cast_to w c) (gives_private here e)
           (expression_runs here hf e fit)
           (λ i x m1 s q. ap (λ z. carry (row.cast_to w c z s) (λ v. done (next t v m1))) q) (λ x q. subst (λ z. Gives (row.cast_to w c x) (IsSecret z)) q
-          (cast_gives w c x)) r
+          (cast_gives w c x)) r)
       expression_runs here hf (binary_node line op ds a b) fit t pc fr m r =
-          binary_runs w p number calls d here a b t pc line op ds fr m (variable_fits here a fit.0) (variable_fits here b fit.1)
-          (expression_runs here hf a fit.0) (expression_runs here hf b fit.1) r
+          own_runs (binary_runs w p number calls d here a b t pc line op ds fr m
+          (expression_runs here hf a fit.0) (expression_runs here hf b fit.1) r)
       expression_runs here hf (cut_node c a b) fit t pc fr m r =
-          cut_runs w p number calls d here c a b t pc fr m (variable_fits here a fit.0) (variable_fits here b fit.1) (expression_runs here hf a fit.0)
-          (expression_runs here hf b fit.1) (gives_private here a) refl r
+          own_runs (cut_runs w p number calls d here c a b t pc fr m (expression_runs here hf a fit.0)
+          (expression_runs here hf b fit.1) (gives_private here a) refl r)
       expression_runs here hf (declassify_node e) fit t pc fr m r =
-          unary_runs w p number calls d here e t pc fr m (Declassify t) (row.declassified w) false (variable_fits here e fit) (expression_runs here hf e fit)
-          (λ i x m1 s q. ap (λ z. carry (row.declassified w z s) (λ v. done (next t v m1))) q) (λ x q. declassified_gives w x) r
+          own_runs (unary_runs w p number calls d here e t pc fr m (Declassify t) (row.declassified w) false (expression_runs here hf e fit)
+          (λ i x m1 s q. ap (λ z. carry (row.declassified w z s) (λ v. done (next t v m1))) q) (λ x q. declassified_gives w x) r)
 
       pub arguments_run : (here : Setting) → here.functions ≡ fs → (b : List BoundDomain) (ss : List Slot) (es : TypedTrees) → AreFit Known here b ss es
           → (t pc : ℕ) (fr : Frame) (m : Machine) → Ready d here fr t pc (arguments_code number here b ss t pc es) m → Runs w p m
@@ -195,13 +189,13 @@ module _ (w : World) (p : List Function) (number : Numbers) (fs : List TypedFunc
       arguments_run here hf b (s ∷ ss) (Tree'.also e es) fit t pc fr m r =
           let want = next_is_private b (s ∷ ss) in
           let flag = lacks want (gives_private here e) in
-          let ce = operand_code number here (t + 1) pc e in
-          let at = read_at (variable_of e) (t + 1) in
+          let ce = expression_code number here (t + 1) pc e in
+          let at = stands_at e (t + 1) in
           let cl = classifying flag t at in
           let v' = t + 1 + width e in
           let cs = arguments_code number here b ss v' (pc + length ce + length cl) es in
           let some = width_some e in
-          runs_bind (reads w p number calls d here e (variable_fits here e fit.0) (expression_runs here hf e fit.0) (t + 1) pc fr m
+          runs_bind (expression_runs here hf e fit.0 (t + 1) pc fr m
           (ready_front (t + 1) ce (cl ++ cs) (omega arith) r)) (λ x m1 h1.
           let r1 = ready_back t (t + 1) ce (cl ++ cs) (omega arith) (omega arith) r h1.near h1.pc in
           runs_bind (wanting_runs want (gives_private here e) t at x m1 h1.private fit.1 h1.held (ready_classify flag t at cs r1)) (λ a m2 h2.

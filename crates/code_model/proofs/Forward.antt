@@ -30,7 +30,7 @@ use Rattle.language_model.specs.Evaluation.{either, place_in}
 use Rattle.verified_code.specs.Steps.{Step, Literal, Move, Store, Fill, Put, Return, Branch, Jump, Function}
 use Rattle.code_model.specs.Kinds.{width}
 use Rattle.code_model.specs.Expressions.{Numbers, classifying, lacks, mixes, binary_code, cat_code, element_code, deciding, settling, cut_code}
-use Rattle.code_model.specs.Expressions.{variable_of, read_code, read_at, expression_code, operand_code, arguments_code, unread_code}
+use Rattle.code_model.specs.Expressions.{stands_at, expression_code, arguments_code, unread_code}
 use Rattle.code_model.specs.Statements.{shape_number, first_free, statement_width, statements_width, behind_classifying, statement_code, statements_code}
 use Rattle.code_model.specs.Programs.{last_step, function_code, body_end, code_of_found, instance_code, numbers_in, code_of}
 use Rattle.code_model.specs.Meaning.{IsForward, AreForward}
@@ -89,10 +89,6 @@ cut_on t v u pc c secret a b h k =
     both_on pc a (Branch v (deciding c) pd ∷ (b pb ++ last)) h
     (tt, both_on pb (b pb) last (k pb) (tt, (jump, (tt, (settling_on secret t (t + 1) _, tt)))))
 
-read_on : (o : Option ℕ) (pc : ℕ) (c : List Step) → GoOn pc c → GoOn pc (read_code o c)
-read_on None pc c h = h
-read_on (Some k) pc c h = tt
-
 either_on : (g : Bool) (pc : ℕ) (a b : List Step) → GoOn pc a → GoOn pc b → GoOn pc (either g a b)
 either_on true pc a b h k = h
 either_on false pc a b h k = k
@@ -102,42 +98,39 @@ module _ (number : Numbers) where
     expression_on : (here : Setting) (e : TypedTree) (t pc : ℕ) → GoOn pc (expression_code number here t pc e)
     expression_on here (word_node n) t pc = (tt, tt)
     expression_on here (truth_node b) t pc = (tt, tt)
-    expression_on here (slot_node k) t pc = (tt, tt)
+    expression_on here (slot_node k) t pc = tt
     expression_on here (call_node line k es) t pc =
         both_on pc _ _ (arguments_on here (bound_at (slice_get here.functions k) (domains here es)) (slots_of (slice_get here.functions k)) es (t + 1) pc)
         (tt, tt)
-    expression_on here (size_node e) t pc = both_on pc _ _ (read_on (variable_of e) pc _ (expression_on here e (t + 1) pc)) (tt, tt)
+    expression_on here (size_node e) t pc = both_on pc _ _ (expression_on here e (t + 1) pc) (tt, tt)
     expression_on here (cat_node line a b) t pc =
         cat_on t _ _ pc line (lacks (gives_private here (cat_node line a b)) (gives_private here a))
-        (lacks (gives_private here (cat_node line a b)) (gives_private here b)) _ _ (read_on (variable_of a) pc _ (expression_on here a (t + 3) pc))
-        (λ q. read_on (variable_of b) q _ (expression_on here b (t + 3 + width a) q))
-    expression_on here (sum_node e) t pc = both_on pc _ _ (read_on (variable_of e) pc _ (expression_on here e (t + 1) pc)) (tt, tt)
-    expression_on here (bits_node line e) t pc = both_on pc _ _ (read_on (variable_of e) pc _ (expression_on here e (t + 1) pc)) (tt, tt)
-    expression_on here (element_node line a i) t pc = element_on t _ _ pc line _ _ (read_on (variable_of a) pc _ (expression_on here a (t + 1) pc))
-        (λ q. read_on (variable_of i) q _ (expression_on here i (t + 1 + width a) q))
-    expression_on here (not_node e) t pc = both_on pc _ _ (read_on (variable_of e) pc _ (expression_on here e (t + 1) pc)) (tt, tt)
-    expression_on here (cast_node c e) t pc = both_on pc _ _ (read_on (variable_of e) pc _ (expression_on here e (t + 1) pc)) (tt, tt)
+        (lacks (gives_private here (cat_node line a b)) (gives_private here b)) _ _ (expression_on here a (t + 3) pc)
+        (λ q. expression_on here b (t + 3 + width a) q)
+    expression_on here (sum_node e) t pc = both_on pc _ _ (expression_on here e (t + 1) pc) (tt, tt)
+    expression_on here (bits_node line e) t pc = both_on pc _ _ (expression_on here e (t + 1) pc) (tt, tt)
+    expression_on here (element_node line a i) t pc = element_on t _ _ pc line _ _ (expression_on here a (t + 1) pc)
+        (λ q. expression_on here i (t + 1 + width a) q)
+    expression_on here (not_node e) t pc = both_on pc _ _ (expression_on here e (t + 1) pc) (tt, tt)
+    expression_on here (cast_node c e) t pc = both_on pc _ _ (expression_on here e (t + 1) pc) (tt, tt)
     expression_on here (binary_node line op ds a b) t pc =
-        binary_on t _ _ pc line op ds (gives_private here a) (gives_private here b) _ _ (read_on (variable_of a) pc _ (expression_on here a (t + 3) pc))
-        (λ q. read_on (variable_of b) q _ (expression_on here b (t + 3 + width a) q))
+        binary_on t _ _ pc line op ds (gives_private here a) (gives_private here b) _ _ (expression_on here a (t + 3) pc)
+        (λ q. expression_on here b (t + 3 + width a) q)
     expression_on here (cut_node c a b) t pc =
         either_on (gives_private here a) pc _ _
         (binary_on t _ _ pc 0 (binary.Bools (connective c)) Scalars (gives_private here a) (gives_private here b) _ _
-        (read_on (variable_of a) pc _ (expression_on here a (t + 3) pc)) (λ q. read_on (variable_of b) q _ (expression_on here b (t + 3 + width a) q)))
-        (cut_on t _ _ pc c (gives_private here b) _ _ (read_on (variable_of a) pc _ (expression_on here a (t + 3) pc))
-        (λ q. read_on (variable_of b) q _ (expression_on here b (t + 3 + width a) q)))
-    expression_on here (declassify_node e) t pc = both_on pc _ _ (read_on (variable_of e) pc _ (expression_on here e (t + 1) pc)) (tt, tt)
+        (expression_on here a (t + 3) pc) (λ q. expression_on here b (t + 3 + width a) q))
+        (cut_on t _ _ pc c (gives_private here b) _ _ (expression_on here a (t + 3) pc)
+        (λ q. expression_on here b (t + 3 + width a) q))
+    expression_on here (declassify_node e) t pc = both_on pc _ _ (expression_on here e (t + 1) pc) (tt, tt)
 
     arguments_on : (here : Setting) (b : List BoundDomain) (ss : List Slot) (es : TypedTrees) (t pc : ℕ) → GoOn pc (arguments_code number here b ss t pc es)
     arguments_on here b ss Tree'.none t pc = tt
     arguments_on here b ss (Tree'.also e es) t pc =
         let f = lacks (next_is_private b ss) (gives_private here e) in
-        both_on pc _ _ (read_on (variable_of e) pc _ (expression_on here e (t + 1) pc)) (both_on _ (classifying f t (read_at (variable_of e) (t + 1))) _
+        both_on pc _ _ (expression_on here e (t + 1) pc) (both_on _ (classifying f t (stands_at e (t + 1))) _
         (classifying_on f t _ _)
         (arguments_on here b (behind_next ss) es (t + 1 + width e) _))
-
-  operand_on : (here : Setting) (e : TypedTree) (t pc : ℕ) → GoOn pc (operand_code number here t pc e)
-  operand_on here e t pc = read_on (variable_of e) pc _ (expression_on here e t pc)
 
   unread_on : (here : Setting) (e : TypedTree) (t pc : ℕ) → GoOn pc (unread_code number here t pc e)
   unread_on here (call_node line k es) t pc =
@@ -169,17 +162,17 @@ module _ (number : Numbers) where
     statement_on at (if_statement e a b) t x y pc hx hy =
         let ta = t + width e in
         let tb = ta + statement_width a in
-        let ce = operand_code number at.here t pc e in
+        let ce = expression_code number at.here t pc e in
         let pa = pc + length ce + 1 in
         let ca = statement_code number at ta x y pa a in
         let pb = pa + length ca + 1 in
         let cb = statement_code number at tb x y pb b in
         let rest2 = Jump (pb + length cb) ∷ cb in
-        let rest = Branch (read_at (variable_of e) t) false pb ∷ (ca ++ rest2) in
+        let rest = Branch (stands_at e t) false pb ∷ (ca ++ rest2) in
         let n1 = length-append ce rest in
         let n2 = length-append ca rest2 in
         let jump : pa + length ca < pb + length cb = omega arith in
-        both_on pc ce rest (operand_on at.here e t pc) (
+        both_on pc ce rest (expression_on at.here e t pc) (
           tt,
           both_on pa ca rest2 (statement_on at a ta x y pa (omega (arith, n1, n2, hx)) (omega (arith, n1, n2, hy)))
               (jump, statement_on at b tb x y pb (omega (arith, n1, n2, hx)) (omega (arith, n1, n2, hy))),
@@ -189,7 +182,7 @@ module _ (number : Numbers) where
         let te = ts + statement_width step in
         let n1 = length (statement_code number at t 0 0 0 body) in
         let n2 = length (statement_code number at ts 0 0 0 step) in
-        let n3 = length (operand_code number at.here te 0 e) in
+        let n3 = length (expression_code number at.here te 0 e) in
         let over = pc + 1 + n1 in
         let again = over + n2 in
         let out = again + n3 + 1 in
@@ -197,47 +190,47 @@ module _ (number : Numbers) where
         let py = pc + 1 + length ca in
         let cb = statement_code number at ts out again py step in
         let pt = py + length cb in
-        let ce = operand_code number at.here te pt e in
+        let ce = expression_code number at.here te pt e in
         let ey : over ≡ py = omega (arith, statement_length number at body t out over (pc + 1) 0 0 0) in
         let ez : again ≡ pt = omega (arith, ey, statement_length number at step ts out again py 0 0 0) in
         let jump : pc < pt = omega arith in (
           jump,
-          both_on (pc + 1) ca (cb ++ (ce ++ Branch (read_at (variable_of e) te) true (pc + 1) ∷ [])) (statement_on at body t out over (pc + 1)
+          both_on (pc + 1) ca (cb ++ (ce ++ Branch (stands_at e te) true (pc + 1) ∷ [])) (statement_on at body t out over (pc + 1)
               (omega (arith, ey)) (omega (arith, ey)))
-              (both_on py cb (ce ++ Branch (read_at (variable_of e) te) true (pc + 1) ∷ []) (statement_on at step ts out again py (omega (arith, ez))
+              (both_on py cb (ce ++ Branch (stands_at e te) true (pc + 1) ∷ []) (statement_on at step ts out again py (omega (arith, ez))
               (omega (arith, ez)))
-              (both_on pt ce (Branch (read_at (variable_of e) te) true (pc + 1) ∷ []) (operand_on at.here e te pt) (tt, tt))),
+              (both_on pt ce (Branch (stands_at e te) true (pc + 1) ∷ []) (expression_on at.here e te pt) (tt, tt))),
         )
     statement_on at (do_statement body e) t x y pc hx hy =
         let te = t + statement_width body in
         let n1 = length (statement_code number at t 0 0 0 body) in
-        let n3 = length (operand_code number at.here te 0 e) in
+        let n3 = length (expression_code number at.here te 0 e) in
         let again = pc + n1 in
         let out = again + n3 + 1 in
         let ca = statement_code number at t out again pc body in
         let pt = pc + length ca in
-        let ce = operand_code number at.here te pt e in
+        let ce = expression_code number at.here te pt e in
         let ez : again ≡ pt = omega (arith, statement_length number at body t out again pc 0 0 0) in
-        both_on pc ca (ce ++ Branch (read_at (variable_of e) te) true pc ∷ []) (statement_on at body t out again pc (omega (arith, ez)) (omega (arith, ez)))
-        (both_on pt ce (Branch (read_at (variable_of e) te) true pc ∷ []) (operand_on at.here e te pt) (tt, tt))
+        both_on pc ca (ce ++ Branch (stands_at e te) true pc ∷ []) (statement_on at body t out again pc (omega (arith, ez)) (omega (arith, ez)))
+        (both_on pt ce (Branch (stands_at e te) true pc ∷ []) (expression_on at.here e te pt) (tt, tt))
     statement_on at break_statement t x y pc hx hy = let h : pc < x = omega (arith, hx) in (h, tt)
     statement_on at continue_statement t x y pc hx hy = let h : pc < y = omega (arith, hy) in (h, tt)
     statement_on at (return_statement None) t x y pc hx hy = (tt, tt)
     statement_on at (return_statement (Some e)) t x y pc hx hy =
-        both_on pc _ _ (operand_on at.here e (t + 1) pc) (behind_on at.secret_result (gives_private at.here e) t _ _ Return (λ r q. tt))
-    statement_on at (assert_statement line e) t x y pc hx hy = both_on pc _ _ (operand_on at.here e t pc) (tt, tt)
+        both_on pc _ _ (expression_on at.here e (t + 1) pc) (behind_on at.secret_result (gives_private at.here e) t _ _ Return (λ r q. tt))
+    statement_on at (assert_statement line e) t x y pc hx hy = both_on pc _ _ (expression_on at.here e t pc) (tt, tt)
     statement_on at (store_statement k e) t x y pc hx hy =
-        both_on pc _ _ (operand_on at.here e (t + 1) pc) (behind_on (slot_is_private at.here k) (gives_private at.here e) t _ _ (Store k) (λ r q. tt))
+        both_on pc _ _ (expression_on at.here e (t + 1) pc) (behind_on (slot_is_private at.here k) (gives_private at.here e) t _ _ (Store k) (λ r q. tt))
     statement_on at (default_statement k) t x y pc hx hy = behind_on (slot_is_private at.here k) false t
         (length at.here.slots + shape_number (slot_shape at.here k)) pc (Store k) (λ r q. tt)
     statement_on at (fill_statement line k n e) t x y pc hx hy =
-        both_on pc _ _ (operand_on at.here n (t + 1) pc) (both_on _ _ _ (operand_on at.here e (t + 1 + width n) _)
-        (behind_on (slot_is_private at.here k) (gives_private at.here e) t _ _ (Fill line k (read_at (variable_of n) (t + 1))) (λ r q. tt)))
+        both_on pc _ _ (expression_on at.here n (t + 1) pc) (both_on _ _ _ (expression_on at.here e (t + 1 + width n) _)
+        (behind_on (slot_is_private at.here k) (gives_private at.here e) t _ _ (Fill line k (stands_at n (t + 1))) (λ r q. tt)))
     statement_on at (input_statement line k text) t x y pc hx hy = (tt, (tt, tt))
     statement_on at (element_statement line k i e) t x y pc hx hy =
-        both_on pc _ _ (operand_on at.here i (t + 1) pc) (both_on _ _ _ (operand_on at.here e (t + 1 + width i) _)
-        (behind_on (slot_is_private at.here k) (gives_private at.here e) t _ _ (Put line k (read_at (variable_of i) (t + 1))) (λ r q. tt)))
-    statement_on at (publish_statement text e) t x y pc hx hy = both_on pc _ _ (operand_on at.here e t pc) (tt, tt)
+        both_on pc _ _ (expression_on at.here i (t + 1) pc) (both_on _ _ _ (expression_on at.here e (t + 1 + width i) _)
+        (behind_on (slot_is_private at.here k) (gives_private at.here e) t _ _ (Put line k (stands_at i (t + 1))) (λ r q. tt)))
+    statement_on at (publish_statement text e) t x y pc hx hy = both_on pc _ _ (expression_on at.here e t pc) (tt, tt)
     statement_on at (evaluate_statement e) t x y pc hx hy = unread_on at.here e t pc
 
     statements_on : (at : StatementContext) (cs : TypedStatementTrees) (t x y pc : ℕ) → pc + length (statements_code number at t x y pc cs) ≤ x → pc + length

@@ -1,5 +1,5 @@
 -- Neither the place of a piece of code nor where its breaks and continues lead changes how long it is.
-use Rattle.std.proofs.Common.{◌≡◌, ℕ, ◌+◌, List, [], ◌∷◌, ◌++◌, length, Option, Some, None, Bool, true, false, refl, arith, length-append}
+use Rattle.std.proofs.Common.{◌≡◌, ℕ, ◌+◌, List, [], ◌∷◌, ◌++◌, length, Some, None, Bool, true, false, refl, arith, length-append}
 use Rattle.std.specs.Prelude.{slice_get}
 use Rattle.typed_tree.specs.declared.kinds.Slot.{Slot}
 use Rattle.typed_tree.specs.declared.operators.BinaryOperator.{BinaryOperator}
@@ -22,7 +22,7 @@ use Rattle.language_model.specs.Evaluation.{StatementContext, gives_private, slo
 use Rattle.verified_code.specs.Steps.{Step, Literal, Move, Branch, Jump}
 use Rattle.code_model.specs.Kinds.{width}
 use Rattle.code_model.specs.Expressions.{Numbers, classifying, lacks, mixes, binary_code, cat_code, element_code, deciding, settling, cut_code}
-use Rattle.code_model.specs.Expressions.{variable_of, read_code, read_at, expression_code, operand_code, arguments_code, unread_code}
+use Rattle.code_model.specs.Expressions.{stands_at, expression_code, arguments_code, unread_code}
 use Rattle.code_model.specs.Statements.{statement_width, statement_code, statements_code}
 
 append_same : (a a' b b' : List Step) → length a ≡ length a' → length b ≡ length b' → length (a ++ b) ≡ length (a' ++ b')
@@ -72,10 +72,6 @@ cut_length t v u pc pc' c secret a a' b e f =
       length-append (b pb') last',
     )
 
-read_length : (o : Option ℕ) (a a' : List Step) → length a ≡ length a' → length (read_code o a) ≡ length (read_code o a')
-read_length None a a' e = e
-read_length (Some k) a a' e = refl
-
 either_length : (g : Bool) (a a' b b' : List Step) → length a ≡ length a' → length b ≡ length b' → length (either g a b) ≡ length (either g a' b')
 either_length true a a' b b' e f = e
 either_length false a a' b b' e f = f
@@ -90,40 +86,38 @@ module _ (number : Numbers) where
     expression_length here (call_node line k es) t pc pc' =
         append_same _ _ _ _ (arguments_length here (bound_at (slice_get here.functions k) (domains here es)) (slots_of (slice_get here.functions k)) es
         (t + 1) pc pc') refl
-    expression_length here (size_node e) t pc pc' = append_same _ _ _ _ (read_length (variable_of e) _ _ (expression_length here e (t + 1) pc pc')) refl
+    expression_length here (size_node e) t pc pc' = append_same _ _ _ _ (expression_length here e (t + 1) pc pc') refl
     expression_length here (cat_node line a b) t pc pc' =
         cat_length t _ _ pc pc' line (lacks (gives_private here (cat_node line a b)) (gives_private here a))
-        (lacks (gives_private here (cat_node line a b)) (gives_private here b)) _ _ _ (read_length (variable_of a) _ _
-        (expression_length here a (t + 3) pc pc'))
-        (λ q q'. read_length (variable_of b) _ _ (expression_length here b (t + 3 + width a) q q'))
-    expression_length here (sum_node e) t pc pc' = append_same _ _ _ _ (read_length (variable_of e) _ _ (expression_length here e (t + 1) pc pc')) refl
-    expression_length here (bits_node line e) t pc pc' = append_same _ _ _ _ (read_length (variable_of e) _ _ (expression_length here e (t + 1) pc pc')) refl
+        (lacks (gives_private here (cat_node line a b)) (gives_private here b)) _ _ _ (expression_length here a (t + 3) pc pc')
+        (λ q q'. expression_length here b (t + 3 + width a) q q')
+    expression_length here (sum_node e) t pc pc' = append_same _ _ _ _ (expression_length here e (t + 1) pc pc') refl
+    expression_length here (bits_node line e) t pc pc' = append_same _ _ _ _ (expression_length here e (t + 1) pc pc') refl
     expression_length here (element_node line a i) t pc pc' =
-        element_length t _ _ pc pc' line _ _ _ (read_length (variable_of a) _ _ (expression_length here a (t + 1) pc pc'))
-        (λ q q'. read_length (variable_of i) _ _ (expression_length here i (t + 1 + width a) q q'))
-    expression_length here (not_node e) t pc pc' = append_same _ _ _ _ (read_length (variable_of e) _ _ (expression_length here e (t + 1) pc pc')) refl
-    expression_length here (cast_node c e) t pc pc' = append_same _ _ _ _ (read_length (variable_of e) _ _ (expression_length here e (t + 1) pc pc')) refl
+        element_length t _ _ pc pc' line _ _ _ (expression_length here a (t + 1) pc pc')
+        (λ q q'. expression_length here i (t + 1 + width a) q q')
+    expression_length here (not_node e) t pc pc' = append_same _ _ _ _ (expression_length here e (t + 1) pc pc') refl
+    expression_length here (cast_node c e) t pc pc' = append_same _ _ _ _ (expression_length here e (t + 1) pc pc') refl
     expression_length here (binary_node line op ds a b) t pc pc' =
-        binary_length t _ _ pc pc' line op ds (gives_private here a) (gives_private here b) _ _ _ (read_length (variable_of a) _ _
-        (expression_length here a (t + 3) pc pc'))
-        (λ q q'. read_length (variable_of b) _ _ (expression_length here b (t + 3 + width a) q q'))
+        binary_length t _ _ pc pc' line op ds (gives_private here a) (gives_private here b) _ _ _ (expression_length here a (t + 3) pc pc')
+        (λ q q'. expression_length here b (t + 3 + width a) q q')
     expression_length here (cut_node c a b) t pc pc' =
         either_length (gives_private here a) _ _ _ _
         (binary_length t _ _ pc pc' 0 (binary.Bools (connective c)) Scalars (gives_private here a) (gives_private here b) _ _ _
-        (read_length (variable_of a) _ _ (expression_length here a (t + 3) pc pc'))
-        (λ q q'. read_length (variable_of b) _ _ (expression_length here b (t + 3 + width a) q q')))
-        (cut_length t _ _ pc pc' c (gives_private here b) _ _ _ (read_length (variable_of a) _ _ (expression_length here a (t + 3) pc pc'))
-        (λ q q'. read_length (variable_of b) _ _ (expression_length here b (t + 3 + width a) q q')))
-    expression_length here (declassify_node e) t pc pc' = append_same _ _ _ _ (read_length (variable_of e) _ _ (expression_length here e (t + 1) pc pc')) refl
+        (expression_length here a (t + 3) pc pc')
+        (λ q q'. expression_length here b (t + 3 + width a) q q'))
+        (cut_length t _ _ pc pc' c (gives_private here b) _ _ _ (expression_length here a (t + 3) pc pc')
+        (λ q q'. expression_length here b (t + 3 + width a) q q'))
+    expression_length here (declassify_node e) t pc pc' = append_same _ _ _ _ (expression_length here e (t + 1) pc pc') refl
 
     arguments_length : (here : Setting) (b : List BoundDomain) (ss : List Slot) (es : TypedTrees) (t pc pc' : ℕ) → length
         (arguments_code number here b ss t pc es) ≡ length (arguments_code number here b ss t pc' es)
     arguments_length here b ss Tree'.none t pc pc' = refl
     arguments_length here b ss (Tree'.also e es) t pc pc' =
-        let cl = classifying (lacks (next_is_private b ss) (gives_private here e)) t (read_at (variable_of e) (t + 1)) in
-        append_same _ _ _ _ (read_length (variable_of e) _ _ (expression_length here e (t + 1) pc pc'))
-        (append_same cl cl _ _ refl (arguments_length here b (behind_next ss) es (t + 1 + width e) (pc + length (operand_code number here (t + 1) pc e) +
-        length cl) (pc' + length (operand_code number here (t + 1) pc' e) + length cl)))
+        let cl = classifying (lacks (next_is_private b ss) (gives_private here e)) t (stands_at e (t + 1)) in
+        append_same _ _ _ _ (expression_length here e (t + 1) pc pc')
+        (append_same cl cl _ _ refl (arguments_length here b (behind_next ss) es (t + 1 + width e) (pc + length (expression_code number here (t + 1) pc e) +
+        length cl) (pc' + length (expression_code number here (t + 1) pc' e) + length cl)))
 
   unread_length : (here : Setting) (e : TypedTree) (t pc pc' : ℕ) → length (unread_code number here t pc e) ≡ length (unread_code number here t pc' e)
   unread_length here (call_node line k es) t pc pc' =
@@ -143,20 +137,17 @@ module _ (number : Numbers) where
   unread_length here (cut_node c a b) t pc pc' = expression_length here (cut_node c a b) t pc pc'
   unread_length here (declassify_node e) t pc pc' = expression_length here (declassify_node e) t pc pc'
 
-  pub operand_length : (here : Setting) (e : TypedTree) (t pc pc' : ℕ) → length (operand_code number here t pc e) ≡ length (operand_code number here t pc' e)
-  operand_length here e t pc pc' = read_length (variable_of e) _ _ (expression_length here e t pc pc')
-
-  -- an operand, and steps that hang on no place
-  behind_operand : (here : Setting) (e : TypedTree) (t pc pc' : ℕ) (is : List Step) → length (operand_code number here t pc e ++ is) ≡ length
-      (operand_code number here t pc' e ++ is)
-  behind_operand here e t pc pc' is = append_same _ _ is is (operand_length here e t pc pc') refl
+  -- an expression, and steps that hang on no place
+  behind_expression : (here : Setting) (e : TypedTree) (t pc pc' : ℕ) (is : List Step) → length (expression_code number here t pc e ++ is) ≡ length
+      (expression_code number here t pc' e ++ is)
+  behind_expression here e t pc pc' is = append_same _ _ is is (expression_length here e t pc pc') refl
 
   behind_both : (here : Setting) (a b : TypedTree) (t u pc pc' : ℕ) (is : List Step) → length
-      (operand_code number here t pc a ++ (operand_code number here u (pc + length (operand_code number here t pc a)) b ++ is)) ≡ length
-      (operand_code number here t pc' a ++ (operand_code number here u (pc' + length (operand_code number here t pc' a)) b ++ is))
+      (expression_code number here t pc a ++ (expression_code number here u (pc + length (expression_code number here t pc a)) b ++ is)) ≡ length
+      (expression_code number here t pc' a ++ (expression_code number here u (pc' + length (expression_code number here t pc' a)) b ++ is))
   behind_both here a b t u pc pc' is =
-      append_same _ _ _ _ (operand_length here a t pc pc') (behind_operand here b u (pc + length (operand_code number here t pc a))
-      (pc' + length (operand_code number here t pc' a)) is)
+      append_same _ _ _ _ (expression_length here a t pc pc') (behind_expression here b u (pc + length (expression_code number here t pc a))
+      (pc' + length (expression_code number here t pc' a)) is)
 
   mutual
     pub statement_length : (at : StatementContext) (c : TypedStatementTree) (t x y pc x' y' pc' : ℕ) → length (statement_code number at t x y pc c) ≡ length
@@ -166,23 +157,23 @@ module _ (number : Numbers) where
     statement_length at (if_statement e a b) t x y pc x' y' pc' =
         let ta = t + width e in
         let tb = ta + statement_width a in
-        let ce = operand_code number at.here t pc e in
+        let ce = expression_code number at.here t pc e in
         let pa = pc + length ce + 1 in
         let ca = statement_code number at ta x y pa a in
         let pb = pa + length ca + 1 in
         let cb = statement_code number at tb x y pb b in
-        let ce' = operand_code number at.here t pc' e in
+        let ce' = expression_code number at.here t pc' e in
         let pa' = pc' + length ce' + 1 in
         let ca' = statement_code number at ta x' y' pa' a in
         let pb' = pa' + length ca' + 1 in
         let cb' = statement_code number at tb x' y' pb' b in
         omega (
           arith,
-          length-append ce (Branch (read_at (variable_of e) t) false pb ∷ (ca ++ (Jump (pb + length cb) ∷ cb))),
+          length-append ce (Branch (stands_at e t) false pb ∷ (ca ++ (Jump (pb + length cb) ∷ cb))),
           length-append ca (Jump (pb + length cb) ∷ cb),
-          length-append ce' (Branch (read_at (variable_of e) t) false pb' ∷ (ca' ++ (Jump (pb' + length cb') ∷ cb'))),
+          length-append ce' (Branch (stands_at e t) false pb' ∷ (ca' ++ (Jump (pb' + length cb') ∷ cb'))),
           length-append ca' (Jump (pb' + length cb') ∷ cb'),
-          operand_length at.here e t pc pc',
+          expression_length at.here e t pc pc',
           statement_length at a ta x y pa x' y' pa',
           statement_length at b tb x y pb x' y' pb',
         )
@@ -191,7 +182,7 @@ module _ (number : Numbers) where
         let te = ts + statement_width step in
         let n1 = length (statement_code number at t 0 0 0 body) in
         let n2 = length (statement_code number at ts 0 0 0 step) in
-        let n3 = length (operand_code number at.here te 0 e) in
+        let n3 = length (expression_code number at.here te 0 e) in
         let over = pc + 1 + n1 in
         let again = over + n2 in
         let out = again + n3 + 1 in
@@ -199,7 +190,7 @@ module _ (number : Numbers) where
         let py = pc + 1 + length ca in
         let cb = statement_code number at ts out again py step in
         let pt = py + length cb in
-        let ce = operand_code number at.here te pt e in
+        let ce = expression_code number at.here te pt e in
         let over' = pc' + 1 + n1 in
         let again' = over' + n2 in
         let out' = again' + n3 + 1 in
@@ -207,53 +198,53 @@ module _ (number : Numbers) where
         let py' = pc' + 1 + length ca' in
         let cb' = statement_code number at ts out' again' py' step in
         let pt' = py' + length cb' in
-        let ce' = operand_code number at.here te pt' e in
+        let ce' = expression_code number at.here te pt' e in
         omega (
           arith,
-          length-append ca (cb ++ (ce ++ Branch (read_at (variable_of e) te) true (pc + 1) ∷ [])),
-          length-append cb (ce ++ Branch (read_at (variable_of e) te) true (pc + 1) ∷ []),
-          length-append ce (Branch (read_at (variable_of e) te) true (pc + 1) ∷ []),
-          length-append ca' (cb' ++ (ce' ++ Branch (read_at (variable_of e) te) true (pc' + 1) ∷ [])),
-          length-append cb' (ce' ++ Branch (read_at (variable_of e) te) true (pc' + 1) ∷ []),
-          length-append ce' (Branch (read_at (variable_of e) te) true (pc' + 1) ∷ []),
+          length-append ca (cb ++ (ce ++ Branch (stands_at e te) true (pc + 1) ∷ [])),
+          length-append cb (ce ++ Branch (stands_at e te) true (pc + 1) ∷ []),
+          length-append ce (Branch (stands_at e te) true (pc + 1) ∷ []),
+          length-append ca' (cb' ++ (ce' ++ Branch (stands_at e te) true (pc' + 1) ∷ [])),
+          length-append cb' (ce' ++ Branch (stands_at e te) true (pc' + 1) ∷ []),
+          length-append ce' (Branch (stands_at e te) true (pc' + 1) ∷ []),
           statement_length at body t out over (pc + 1) out' over' (pc' + 1),
           statement_length at step ts out again py out' again' py',
-          operand_length at.here e te pt pt',
+          expression_length at.here e te pt pt',
         )
     statement_length at (do_statement body e) t x y pc x' y' pc' =
         let te = t + statement_width body in
         let n1 = length (statement_code number at t 0 0 0 body) in
-        let n3 = length (operand_code number at.here te 0 e) in
+        let n3 = length (expression_code number at.here te 0 e) in
         let again = pc + n1 in
         let out = again + n3 + 1 in
         let ca = statement_code number at t out again pc body in
         let pt = pc + length ca in
-        let ce = operand_code number at.here te pt e in
+        let ce = expression_code number at.here te pt e in
         let again' = pc' + n1 in
         let out' = again' + n3 + 1 in
         let ca' = statement_code number at t out' again' pc' body in
         let pt' = pc' + length ca' in
-        let ce' = operand_code number at.here te pt' e in
+        let ce' = expression_code number at.here te pt' e in
         omega (
           arith,
-          length-append ca (ce ++ Branch (read_at (variable_of e) te) true pc ∷ []),
-          length-append ce (Branch (read_at (variable_of e) te) true pc ∷ []),
-          length-append ca' (ce' ++ Branch (read_at (variable_of e) te) true pc' ∷ []),
-          length-append ce' (Branch (read_at (variable_of e) te) true pc' ∷ []),
+          length-append ca (ce ++ Branch (stands_at e te) true pc ∷ []),
+          length-append ce (Branch (stands_at e te) true pc ∷ []),
+          length-append ca' (ce' ++ Branch (stands_at e te) true pc' ∷ []),
+          length-append ce' (Branch (stands_at e te) true pc' ∷ []),
           statement_length at body t out again pc out' again' pc',
-          operand_length at.here e te pt pt',
+          expression_length at.here e te pt pt',
         )
     statement_length at break_statement t x y pc x' y' pc' = refl
     statement_length at continue_statement t x y pc x' y' pc' = refl
     statement_length at (return_statement None) t x y pc x' y' pc' = refl
-    statement_length at (return_statement (Some e)) t x y pc x' y' pc' = behind_operand at.here e (t + 1) pc pc' _
-    statement_length at (assert_statement line e) t x y pc x' y' pc' = behind_operand at.here e t pc pc' _
-    statement_length at (store_statement k e) t x y pc x' y' pc' = behind_operand at.here e (t + 1) pc pc' _
+    statement_length at (return_statement (Some e)) t x y pc x' y' pc' = behind_expression at.here e (t + 1) pc pc' _
+    statement_length at (assert_statement line e) t x y pc x' y' pc' = behind_expression at.here e t pc pc' _
+    statement_length at (store_statement k e) t x y pc x' y' pc' = behind_expression at.here e (t + 1) pc pc' _
     statement_length at (default_statement k) t x y pc x' y' pc' = refl
     statement_length at (fill_statement line k n e) t x y pc x' y' pc' = behind_both at.here n e (t + 1) (t + 1 + width n) pc pc' _
     statement_length at (input_statement line k text) t x y pc x' y' pc' = refl
     statement_length at (element_statement line k i e) t x y pc x' y' pc' = behind_both at.here i e (t + 1) (t + 1 + width i) pc pc' _
-    statement_length at (publish_statement text e) t x y pc x' y' pc' = behind_operand at.here e t pc pc' _
+    statement_length at (publish_statement text e) t x y pc x' y' pc' = behind_expression at.here e t pc pc' _
     statement_length at (evaluate_statement e) t x y pc x' y' pc' = unread_length at.here e t pc pc'
 
     pub statements_length : (at : StatementContext) (cs : TypedStatementTrees) (t x y pc x' y' pc' : ℕ)

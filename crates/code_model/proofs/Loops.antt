@@ -11,12 +11,11 @@ use Rattle.language_model.specs.Evaluation.{Frame, Calls, StatementContext, give
 use Rattle.language_model.specs.Evaluation.{turns, repeats}
 use Rattle.verified_code.specs.Steps.{Step, Branch, Function}
 use Rattle.code_model.specs.Machine.{Caller, Machine, limit, same_bool}
-use Rattle.code_model.specs.Expressions.{Numbers, variable_of, read_at}
+use Rattle.code_model.specs.Expressions.{Numbers, stands_at}
 use Rattle.code_model.proofs.Places.{HasAt}
 use Rattle.code_model.proofs.Follows.{Follows, follow, comes_none, Runs}
 use Rattle.code_model.proofs.Near.{holds_kept, Branched, branch_runs}
-use Rattle.code_model.proofs.Operands.{IsVariableThere}
-use Rattle.code_model.proofs.Standing.{base, Stands, Went, next_step, Evaluated, read_code, Expressed, reads}
+use Rattle.code_model.proofs.Standing.{base, Stands, Went, next_step, Evaluated, here_code, Expressed, evaluates}
 
 -- a test costs
 pub test_paid : (v : Value) (s : Stage) (o : Bool) (s2 : Stage) → tested v s ≡ Ok (o, s2) → s2.left < s.left
@@ -40,22 +39,22 @@ module _ (w : World) (p : List Function) (number : Numbers) (calls : Calls) (d :
   Leads = Went w p number calls d place code stack room
 
   abbrev test_code : (t pc : ℕ) → TypedTree → List Step
-  test_code = read_code w p number calls d place code stack room
+  test_code = here_code w p number calls d place code stack room
 
   -- the test of a condition, and the branch behind it
   tests : (t pt target : ℕ) (e : TypedTree) (fr : Frame) (m : Machine) (s : Stage) (f : Bool → Effect Flow) (Q : Flow → Machine → Type 0) → Expressed w p
-      number calls d place code stack room e → IsVariableThere place.here e → base w p number calls d place code stack room ≤ t
-      → HasAt code pt (test_code t pt e) → slice_get code (pt + length (test_code t pt e)) ≡ Some (Branch (read_at (variable_of e) t) true target) → At pt fr m
+      number calls d place code stack room e → base w p number calls d place code stack room ≤ t
+      → HasAt code pt (test_code t pt e) → slice_get code (pt + length (test_code t pt e)) ≡ Some (Branch (stands_at e t) true target) → At pt fr m
       → ((o : Bool) (m2 : Machine) (s2 : Stage) → s2.left < s.left → At (either (same_bool o true) target (pt + length (test_code t pt e) + 1)) fr m2
       → Follows w p m2 s2 (f o s2) Q)
       → Follows w p m s ((value w calls place.here e fr >>= λ v. tested v >>= f) s) Q
-  tests t pt target e fr m s f Q ev there le has brn h k =
+  tests t pt target e fr m s f Q ev le has brn h k =
       follow w p m s (value w calls place.here e fr s) (λ v. tested v >>= f) (Evaluated w p number calls d place code stack room
-      (pt + length (test_code t pt e)) fr (read_at (variable_of e) t) (gives_private place.here e)) Q
-      ((reads w p number calls d place code stack room e t pt fr m there ev le has h).from s)
+      (pt + length (test_code t pt e)) fr (stands_at e t) (gives_private place.here e)) Q
+      ((evaluates w p number calls d place code stack room e t pt fr m ev le has h).from s)
       (λ v m1 s1 l1 e1 h1.
       follow w p m1 s1 (tested v s1) f (λ o m'. Branched m1 (either (same_bool o true) target (m1.pc + 1)) m') Q
-      ((branch_runs (read_at (variable_of e) t) true target v m1 h1.value' (next_step w p number calls d place code stack room h1.standing brn)).from s1)
+      ((branch_runs (stands_at e t) true target v m1 h1.value' (next_step w p number calls d place code stack room h1.standing brn)).from s1)
       (λ o m2 s2 l2 e2 h2.
       let paid = test_paid v s1 o s2 e2 in
       k o m2 s2 (omega (arith, paid, l1)) (
@@ -68,18 +67,18 @@ module _ (w : World) (p : List Function) (number : Numbers) (calls : Calls) (d :
 
   -- a loop, from its test on
   pub turns_run : (x y out over again t pc py pt : ℕ) (e : TypedTree) (st b : Frame → Effect Flow) → Expressed w p number calls d place code stack room e
-      → IsVariableThere place.here e → base w p number calls d place code stack room ≤ t
-      → HasAt code pt (test_code t pt e) → slice_get code (pt + length (test_code t pt e)) ≡ Some (Branch (read_at (variable_of e) t) true (pc + 1))
+      → base w p number calls d place code stack room ≤ t
+      → HasAt code pt (test_code t pt e) → slice_get code (pt + length (test_code t pt e)) ≡ Some (Branch (stands_at e t) true (pc + 1))
       → ((fr : Frame) (m : Machine) → At (pc + 1) fr m → Runs w p m (b fr) (Leads out over py))
       → ((fr : Frame) (m : Machine) → At py fr m → Runs w p m (st fr) (Leads out again pt))
       → out ≡ pt + length (test_code t pt e) + 1 → over ≡ py → again ≡ pt
       → (k : ℕ) (fr : Frame) (m : Machine) (s : Stage) → s.left < k → At pt fr m → Follows w p m s (turns k (value w calls place.here e) st b fr s)
       (Leads x y (pt + length (test_code t pt e) + 1))
   unfolding turns
-  turns_run x y out over again t pc py pt e st b ev there le has brn ib ist ex ey ez zero fr m s less h = absurd (omega arith)
-  turns_run x y out over again t pc py pt e st b ev there le has brn ib ist ex ey ez (suc k) fr m s less h =
-      tests t pt (pc + 1) e fr m s _ Q ev there le has brn h (λ o m2 s2 l2 h2.
-      branch o m2 s2 (omega arith) h2 (λ fr3 m3 s3 less3 h3. turns_run x y out over again t pc py pt e st b ev there le has brn ib ist ex ey ez k fr3 m3 s3
+  turns_run x y out over again t pc py pt e st b ev le has brn ib ist ex ey ez zero fr m s less h = absurd (omega arith)
+  turns_run x y out over again t pc py pt e st b ev le has brn ib ist ex ey ez (suc k) fr m s less h =
+      tests t pt (pc + 1) e fr m s _ Q ev le has brn h (λ o m2 s2 l2 h2.
+      branch o m2 s2 (omega arith) h2 (λ fr3 m3 s3 less3 h3. turns_run x y out over again t pc py pt e st b ev le has brn ib ist ex ey ez k fr3 m3 s3
       less3 h3))
     where
       Q : Flow → Machine → Type 0
@@ -117,19 +116,19 @@ module _ (w : World) (p : List Function) (number : Numbers) (calls : Calls) (d :
 
   -- a loop whose body comes first
   pub repeats_run : (x y out again t pc pt : ℕ) (e : TypedTree) (b : Frame → Effect Flow) → Expressed w p number calls d place code stack room e →
-      IsVariableThere place.here e → base w p
+      base w p
       number
       calls d place code stack room ≤ t
-      → HasAt code pt (test_code t pt e) → slice_get code (pt + length (test_code t pt e)) ≡ Some (Branch (read_at (variable_of e) t) true pc)
+      → HasAt code pt (test_code t pt e) → slice_get code (pt + length (test_code t pt e)) ≡ Some (Branch (stands_at e t) true pc)
       → ((fr : Frame) (m : Machine) → At pc fr m → Runs w p m (b fr) (Leads out again pt))
       → out ≡ pt + length (test_code t pt e) + 1 → again ≡ pt
       → (k : ℕ) (fr : Frame) (m : Machine) (s : Stage) → s.left < k → At pc fr m → Follows w p m s (repeats k (value w calls place.here e) b fr s)
       (Leads x y (pt + length (test_code t pt e) + 1))
   unfolding repeats
-  repeats_run x y out again t pc pt e b ev there le has brn ib ex ez zero fr m s less h = absurd (omega arith)
-  repeats_run x y out again t pc pt e b ev there le has brn ib ex ez (suc k) fr m s less h =
+  repeats_run x y out again t pc pt e b ev le has brn ib ex ez zero fr m s less h = absurd (omega arith)
+  repeats_run x y out again t pc pt e b ev le has brn ib ex ez (suc k) fr m s less h =
       follow w p m s (b fr s) _ (Leads out again pt) Q ((ib fr m h).from s) (λ g m3 s3 l3 e3 h3.
-      behind_body g m3 s3 (omega arith) h3 (λ fr4 m4 s4 less4 h4. repeats_run x y out again t pc pt e b ev there le has brn ib ex ez k fr4 m4 s4 less4 h4))
+      behind_body g m3 s3 (omega arith) h3 (λ fr4 m4 s4 less4 h4. repeats_run x y out again t pc pt e b ev le has brn ib ex ez k fr4 m4 s4 less4 h4))
     where
       Q : Flow → Machine → Type 0
       Q = Leads x y (pt + length (test_code t pt e) + 1)
@@ -147,7 +146,7 @@ module _ (w : World) (p : List Function) (number : Numbers) (calls : Calls) (d :
 
       testing : (fr3 : Frame) (m3 : Machine) (s3 : Stage) → s3.left < suc k → At pt fr3 m3 → Again → Follows w p m3 s3
           ((value w calls place.here e fr3 >>= λ v. tested v >>= λ o. either o (rest fr3) (done (goes fr3))) s3) Q
-      testing fr3 m3 s3 l h ih = tests t pt pc e fr3 m3 s3 (λ o. either o (rest fr3) (done (goes fr3))) Q ev there le has brn h
+      testing fr3 m3 s3 l h ih = tests t pt pc e fr3 m3 s3 (λ o. either o (rest fr3) (done (goes fr3))) Q ev le has brn h
           (λ o m2 s2 l2 h2. branch o fr3 m2 s2 (omega arith) h2 ih)
 
       behind_body : (g : Flow) (m3 : Machine) (s3 : Stage) → s3.left < suc k → Leads out again pt g m3 → Again → Follows w p m3 s3

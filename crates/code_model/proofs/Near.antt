@@ -44,7 +44,7 @@ pub record Landed (t to : ℕ) (m : Machine) (secret : Bool) (v : Value) (m' : M
   pub here : m'.registers t ≡ v
   pub private : IsSecret secret v
 
--- the value of an operand stands in register r: its own one, t, or that of a variable
+-- a value stands in register r: the first one of an expression, t, or that of a slot
 pub record Read (here : Setting) (r t to : ℕ) (m : Machine) (secret : Bool) (v : Value) (m' : Machine) : Type 0 where
   pub near : Near t m m'
   pub pc : m'.pc ≡ to
@@ -52,6 +52,16 @@ pub record Read (here : Setting) (r t to : ℕ) (m : Machine) (secret : Bool) (v
   pub private : IsSecret secret v
   pub low : r ≤ t
   pub apart : (i : ℕ) → first_free here.slots ≤ i → i < t → r ≢ i
+
+pub read_own : {here : Setting} {t to : ℕ} {m m' : Machine} {secret : Bool} {v : Value} → Landed t to m secret v m' → Read here t t to m secret v m'
+read_own h = record {
+  near = h.near;
+  pc = h.pc;
+  held = h.here;
+  private = h.private;
+  low = omega arith;
+  apart = λ i l k. omega (arith, k);
+}
 
 -- ---- WHAT THE REGISTERS HOLD
 

@@ -1,10 +1,7 @@
 -- The code of nodes with one operand and with two, where the operands' code does what the operands do.
-use Rattle.std.proofs.Common.{◌≡◌, ◌≢◌, ℕ, ◌+◌, ◌<◌, ◌≤◌, List, [], ◌∷◌, ◌++◌, length, Option, Some, None, Bool, true, false, not, ◌&&◌, ◌||◌, refl, sym, ap}
+use Rattle.std.proofs.Common.{◌≡◌, ◌≢◌, ℕ, ◌+◌, ◌<◌, ◌≤◌, List, [], ◌∷◌, ◌++◌, length, Some, Bool, true, false, not, ◌&&◌, ◌||◌, refl, sym, ap}
 use Rattle.std.proofs.Common.{◌∙◌}
 use Rattle.std.proofs.Common.{subst, arith, length-append}
-use Rattle.std.proofs.lemmas.Option.{none-some, same_Some}
-use Rattle.secrec_ast.specs.declared.expression.DataType.TheVariants.{Uint64}
-use Rattle.typed_tree.specs.Shapes.{shape_of}
 use Rattle.typed_tree.specs.declared.operators.BinaryOperator.{BinaryOperator}
 use Rattle.typed_tree.specs.declared.operators.Operands.{Operands}
 use Rattle.typed_tree.specs.Tree.{TypedTree, word_node, truth_node, slot_node, call_node, size_node, cat_node, sum_node, bits_node, element_node}
@@ -20,14 +17,14 @@ use Rattle.language_model.specs.Evaluation.{Frame, Calls, is_private, gives_priv
 use Rattle.verified_code.specs.Steps.{Step, Function, Binary, Cat, At}
 use Rattle.code_model.specs.Machine.{Machine, next, step}
 use Rattle.code_model.specs.Kinds.{width}
-use Rattle.code_model.specs.Expressions.{Numbers, classifying, picked, lacks, mixes, variable_of, read_code, read_at, one_code}
-use Rattle.code_model.specs.Expressions.{expression_code, operand_code}
+use Rattle.code_model.specs.Expressions.{Numbers, classifying, picked, lacks, mixes, stands_at, one_code}
+use Rattle.code_model.specs.Expressions.{expression_code}
 use Rattle.code_model.specs.Statements.{first_free}
 use Rattle.code_model.specs.Fit.{MayStand}
 use Rattle.code_model.proofs.Places.{put_same}
 use Rattle.code_model.proofs.Gives.{Gives, IsSecret, operated_gives, concatenated_gives, element_gives}
-use Rattle.code_model.proofs.Follows.{Runs, runs_bind, runs_done, runs_more, instruct}
-use Rattle.code_model.proofs.Near.{Near, near_on, near_less, near_set, Landed, Read, below_free, Ready, ready_front, ready_back, ready_step, Wanting}
+use Rattle.code_model.proofs.Follows.{Runs, runs_bind, instruct}
+use Rattle.code_model.proofs.Near.{Near, near_on, near_less, near_set, Landed, Read, Ready, ready_front, ready_back, ready_step, Wanting}
 use Rattle.code_model.proofs.Near.{near_wanting}
 use Rattle.code_model.proofs.Near.{ready_classify, ready_wanting, classifying_runs, wanting_runs}
 
@@ -78,31 +75,6 @@ before : (l : Bool) (t r : ℕ) → r ≤ t + 3 → picked l (t + 1) r < t + 4
 before true t r n = omega arith
 before false t r n = omega (arith, n)
 
--- ---- VARIABLES
-
--- the variable that an operand is stands there
-abbrev pub IsVariableThere : Setting → TypedTree → Type 0
-IsVariableThere here e = (k : ℕ) → variable_of e ≡ Some k → k < length here.slots
-
-pub variable_there : (here : Setting) (k : ℕ) → k < length here.slots → IsVariableThere here (slot_node k)
-variable_there here k l j q = subst (λ z. z < length here.slots) (same_Some _ _ q) l
-
-variable_is : (e : TypedTree) (k : ℕ) → variable_of e ≡ Some k → e ≡ slot_node k
-variable_is (slot_node j) k q = ap slot_node (same_Some _ _ q)
-variable_is (word_node n) k q = absurd (none-some _ q)
-variable_is (truth_node b) k q = absurd (none-some _ q)
-variable_is (call_node line j es) k q = absurd (none-some _ q)
-variable_is (size_node e) k q = absurd (none-some _ q)
-variable_is (cat_node line a b) k q = absurd (none-some _ q)
-variable_is (sum_node e) k q = absurd (none-some _ q)
-variable_is (bits_node line e) k q = absurd (none-some _ q)
-variable_is (element_node line a i) k q = absurd (none-some _ q)
-variable_is (not_node e) k q = absurd (none-some _ q)
-variable_is (cast_node c e) k q = absurd (none-some _ q)
-variable_is (binary_node line op ds a b) k q = absurd (none-some _ q)
-variable_is (cut_node c a b) k q = absurd (none-some _ q)
-variable_is (declassify_node e) k q = absurd (none-some _ q)
-
 either_secret : (np ga gb : Bool) → (((np && (gb && not ga)) || ga) || ((np && (ga && not gb)) || gb)) ≡ (ga || gb)
 either_secret true true true = refl
 either_secret true true false = refl
@@ -132,52 +104,19 @@ module _ (w : World) (p : List Function) (number : Numbers) (calls : Calls) (d :
   abbrev pub Evaluates : Setting → TypedTree → Type 0
   Evaluates here e =
       (t pc : ℕ) (fr : Frame) (m : Machine) → Ready d here fr t pc (code here t pc e) m → Runs w p m (value w calls here e fr)
-      (Landed t (pc + length (code here t pc e)) m (gives_private here e))
-
-  abbrev pub operand : Setting → (t pc : ℕ) → TypedTree → List Step
-  operand = operand_code number
-
-  -- an operand is read where it stands
-  pub reads : (here : Setting) (e : TypedTree) → IsVariableThere here e → Evaluates here e → (t pc : ℕ) (fr : Frame) (m : Machine)
-      → Ready d here fr t pc (operand here t pc e) m
-      → Runs w p m (value w calls here e fr) (Read here (read_at (variable_of e) t) t (pc + length (operand here t pc e)) m (gives_private here e))
-  unfolding value
-  reads here e there ev t pc fr m ready = go (variable_of e) refl ready
-    where
-      go : (o : Option ℕ) → variable_of e ≡ o → Ready d here fr t pc (read_code o (code here t pc e)) m
-          → Runs w p m (value w calls here e fr) (Read here (read_at o t) t (pc + length (read_code o (code here t pc e))) m (gives_private here e))
-      go None q r =
-          runs_more (ev t pc fr m r) (λ v m1 h. runs_done (record {
-            near = h.near;
-            pc = h.pc;
-            held = h.here;
-            private = h.private;
-            low = omega arith;
-            apart = λ i l k. omega (arith, k);
-          }))
-      go (Some k) q r =
-          let inside : k < length here.slots = there k q in
-          let below = below_free here.slots (shape_of Uint64 false) (omega (arith, inside)) in
-          subst (λ z. Runs w p m (value w calls here z fr) (Read here k t (pc + 0) m (gives_private here z))) (sym (variable_is e k q)) (runs_done (record {
-            near = record { steps = refl; stack = refl; kept = λ i l. refl };
-            pc = omega (arith, r.place);
-            held = r.holds.agree k inside;
-            private = r.holds.fits k;
-            low = omega (arith, inside, below, r.free);
-            apart = λ i l j. omega (arith, inside, below, l);
-          }))
+      (Read here (stands_at e t) t (pc + length (code here t pc e)) m (gives_private here e))
 
   pub unary_runs : (here : Setting) (e : TypedTree) (t pc : ℕ) (fr : Frame) (m : Machine) (last : ℕ → Step) (c : Value → Effect Value) (out : Bool)
-      → IsVariableThere here e → Evaluates here e
+      → Evaluates here e
       → ((r : ℕ) (x : Value) (m1 : Machine) (s : Stage) → m1.registers r ≡ x → step w p (Some (last r)) m1 s ≡ carry (c x s) (λ v. done (next t v m1)))
       → ((x : Value) → IsSecret (gives_private here e) x → Gives (c x) (IsSecret out))
-      → Ready d here fr t pc (one_code last (read_at (variable_of e) (t + 1)) (operand here (t + 1) pc e)) m
+      → Ready d here fr t pc (one_code last (stands_at e (t + 1)) (code here (t + 1) pc e)) m
       → Runs w p m (value w calls here e fr >>= c)
-      (Landed t (pc + length (one_code last (read_at (variable_of e) (t + 1)) (operand here (t + 1) pc e))) m out)
-  unary_runs here e t pc fr m last c out there ev st gives r =
-      let ce = operand here (t + 1) pc e in
-      let x' = read_at (variable_of e) (t + 1) in
-      runs_bind (reads here e there ev (t + 1) pc fr m (ready_front (t + 1) ce (last x' ∷ []) (omega arith) r)) (λ x m1 h.
+      (Landed t (pc + length (one_code last (stands_at e (t + 1)) (code here (t + 1) pc e))) m out)
+  unary_runs here e t pc fr m last c out ev st gives r =
+      let ce = code here (t + 1) pc e in
+      let x' = stands_at e (t + 1) in
+      runs_bind (ev (t + 1) pc fr m (ready_front (t + 1) ce (last x' ∷ []) (omega arith) r)) (λ x m1 h.
       let r1 = ready_back t (t + 1) ce (last x' ∷ []) (omega arith) (omega arith) r h.near h.pc in
       instruct m1 (last x') (c x) (λ v. next t v m1) (IsSecret out) _ (ready_step r1) (λ s. st x' x m1 s h.held) (gives x h.private)
       (λ v q. record {
@@ -189,24 +128,24 @@ module _ (w : World) (p : List Function) (number : Numbers) (calls : Calls) (d :
       }))
 
   pub operands_run : {A : Type 0} (here : Setting) (a b : TypedTree) (t ta u pc : ℕ) (fr : Frame) (m : Machine) (rest : List Step)
-      (f : Value → Value → Effect A) (Q : A → Machine → Type 0) → t ≤ ta → ta < u → IsVariableThere here a → IsVariableThere here b
+      (f : Value → Value → Effect A) (Q : A → Machine → Type 0) → t ≤ ta → ta < u
       → Evaluates here a → Evaluates here b
-      → Ready d here fr t pc (operand here ta pc a ++ (operand here u (pc + length (operand here ta pc a)) b ++ rest)) m
-      → ((x y : Value) (m2 : Machine) → Both here (gives_private here a) (gives_private here b) t ta (read_at (variable_of a) ta) (read_at (variable_of b) u) m
+      → Ready d here fr t pc (code here ta pc a ++ (code here u (pc + length (code here ta pc a)) b ++ rest)) m
+      → ((x y : Value) (m2 : Machine) → Both here (gives_private here a) (gives_private here b) t ta (stands_at a ta) (stands_at b u) m
       x y m2 → Ready d here fr t
-      (pc + length (operand here ta pc a) + length (operand here u (pc + length (operand here ta pc a)) b)) rest m2 → Runs w p m2 (f x y) Q)
+      (pc + length (code here ta pc a) + length (code here u (pc + length (code here ta pc a)) b)) rest m2 → Runs w p m2 (f x y) Q)
       → Runs w p m (value w calls here a fr >>= λ x. value w calls here b fr >>= λ y. f x y) Q
-  operands_run here a b t ta u pc fr m rest f Q la lu tha thb eva evb r k =
-      let ca = operand here ta pc a in
-      let cb = operand here u (pc + length ca) b in
-      runs_bind (reads here a tha eva ta pc fr m (ready_front ta ca (cb ++ rest) la r)) (λ x m1 h1.
+  operands_run here a b t ta u pc fr m rest f Q la lu eva evb r k =
+      let ca = code here ta pc a in
+      let cb = code here u (pc + length ca) b in
+      runs_bind (eva ta pc fr m (ready_front ta ca (cb ++ rest) la r)) (λ x m1 h1.
       let r1 = ready_back t ta ca (cb ++ rest) (omega arith) la r h1.near h1.pc in
-      runs_bind (reads here b thb evb u (pc + length ca) fr m1 (ready_front u cb rest (omega (arith, la, lu)) r1)) (λ y m2 h2.
+      runs_bind (evb u (pc + length ca) fr m1 (ready_front u cb rest (omega (arith, la, lu)) r1)) (λ y m2 h2.
       let r2 = ready_back t u cb rest (omega arith) (omega (arith, la, lu)) r1 h2.near h2.pc in
       let low = h1.low in
       k x y m2 (record {
         near = near_on (omega (arith, la, lu)) (near_less t la h1.near) h2.near;
-        left = h2.near.kept (read_at (variable_of a) ta) (omega (arith, low, lu)) ∙ h1.held;
+        left = h2.near.kept (stands_at a ta) (omega (arith, low, lu)) ∙ h1.held;
         right = h2.held;
         low = low;
         apart = h1.apart;
@@ -215,19 +154,19 @@ module _ (w : World) (p : List Function) (number : Numbers) (calls : Calls) (d :
         right_private = h2.private;
       }) r2))
 
-  pub element_runs : (here : Setting) (a i : TypedTree) (t pc line : ℕ) (fr : Frame) (m : Machine) → IsVariableThere here a → IsVariableThere here i
+  pub element_runs : (here : Setting) (a i : TypedTree) (t pc line : ℕ) (fr : Frame) (m : Machine)
       → Evaluates here a → Evaluates here i → Ready d here fr t pc (code here t pc (element_node line a i)) m
       → Runs w p m (value w calls here a fr >>= λ x. value w calls here i fr >>= λ j. row.element_of_array line x j)
       (Landed t (pc + length (code here t pc (element_node line a i))) m (gives_private here a))
-  element_runs here a i t pc line fr m tha thi eva evi r =
+  element_runs here a i t pc line fr m eva evi r =
       let u = t + 1 + width a in
-      let v' = read_at (variable_of a) (t + 1) in
-      let u' = read_at (variable_of i) u in
-      let ca = operand here (t + 1) pc a in
-      let ci = operand here u (pc + length ca) i in
+      let v' = stands_at a (t + 1) in
+      let u' = stands_at i u in
+      let ca = code here (t + 1) pc a in
+      let ci = code here u (pc + length ca) i in
       let last = At line t v' u' ∷ [] in
       let some = width_some a in
-      operands_run here a i t (t + 1) u pc fr m last (row.element_of_array line) _ (omega arith) (omega (arith, some)) tha thi eva evi r (λ x j m2 h r2.
+      operands_run here a i t (t + 1) u pc fr m last (row.element_of_array line) _ (omega arith) (omega (arith, some)) eva evi r (λ x j m2 h r2.
       instruct m2 (At line t v' u') (row.element_of_array line x j) (λ v. next t v m2) (IsSecret (gives_private here a)) _ (ready_step r2)
       (λ s. ap (λ z. carry (row.element_of_array line z (m2.registers u') s) (λ v. done (next t v m2))) h.left ∙ ap
       (λ z. carry (row.element_of_array line x z s) (λ v. done (next t v m2))) h.right)
@@ -240,25 +179,25 @@ module _ (w : World) (p : List Function) (number : Numbers) (calls : Calls) (d :
       }))
 
   pub binary_runs : (here : Setting) (a b : TypedTree) (t pc line : ℕ) (op : BinaryOperator) (ds : Operands) (fr : Frame) (m : Machine)
-      → IsVariableThere here a → IsVariableThere here b → Evaluates here a → Evaluates here b
+      → Evaluates here a → Evaluates here b
       → Ready d here fr t pc (code here t pc (binary_node line op ds a b)) m
       → Runs w p m (value w calls here a fr >>= λ x. value w calls here b fr >>= λ y. operation w line op ds x y)
       (Landed t (pc + length (code here t pc (binary_node line op ds a b))) m (is_private (joined_domain (domain here a) (domain here b))))
-  binary_runs here a b t pc line op ds fr m tha thb eva evb r =
+  binary_runs here a b t pc line op ds fr m eva evb r =
       let ga = gives_private here a in
       let gb = gives_private here b in
       let f1 = mixes op ga gb in
       let f2 = mixes op gb ga in
       let u0 = t + 3 + width a in
-      let x' = read_at (variable_of a) (t + 3) in
-      let u = read_at (variable_of b) u0 in
-      let ca = operand here (t + 3) pc a in
-      let cb = operand here u0 (pc + length ca) b in
+      let x' = stands_at a (t + 3) in
+      let u = stands_at b u0 in
+      let ca = code here (t + 3) pc a in
+      let cb = code here u0 (pc + length ca) b in
       let cl = classifying f1 (t + 1) x' in
       let cr = classifying f2 (t + 2) u in
       let last = Binary line op ds t (picked f1 (t + 1) x') (picked f2 (t + 2) u) ∷ [] in
       let some = width_some a in
-      operands_run here a b t (t + 3) u0 pc fr m (cl ++ (cr ++ last)) (operation w line op ds) _ (omega arith) (omega (arith, some)) tha thb eva evb r (λ x y
+      operands_run here a b t (t + 3) u0 pc fr m (cl ++ (cr ++ last)) (operation w line op ds) _ (omega arith) (omega (arith, some)) eva evb r (λ x y
       m2 h r2.
       let flags : is_classified op x y ≡ f1 = ap (λ z. not (is_product op) && (z && not (is_secret x.secrecy))) h.right_private ∙ ap
       (λ z. not (is_product op) && (gb && not z)) h.left_private in
@@ -299,35 +238,35 @@ module _ (w : World) (p : List Function) (number : Numbers) (calls : Calls) (d :
         private = q;
       }))))
 
-  pub cat_runs : (here : Setting) (a b : TypedTree) (t pc line : ℕ) (fr : Frame) (m : Machine) → IsVariableThere here a → IsVariableThere here b
+  pub cat_runs : (here : Setting) (a b : TypedTree) (t pc line : ℕ) (fr : Frame) (m : Machine)
       → Evaluates here a → Evaluates here b
       → Ready d here fr t pc (code here t pc (cat_node line a b)) m
       → Runs w p m (value w calls here (cat_node line a b) fr) (Landed t (pc + length (code here t pc (cat_node line a b))) m
       (gives_private here (cat_node line a b)))
   unfolding value
-  cat_runs here a b t pc line fr m tha thb eva evb r =
+  cat_runs here a b t pc line fr m eva evb r =
       let ga = gives_private here a in
       let gb = gives_private here b in
       let g = gives_private here (cat_node line a b) in
       let f1 = lacks g ga in
       let f2 = lacks g gb in
       let u0 = t + 3 + width a in
-      let x0 = read_at (variable_of a) (t + 3) in
-      let u = read_at (variable_of b) u0 in
-      let ca = operand here (t + 3) pc a in
+      let x0 = stands_at a (t + 3) in
+      let u = stands_at b u0 in
+      let ca = code here (t + 3) pc a in
       let cl = classifying f1 (t + 1) x0 in
       let pb = pc + length ca + length cl in
-      let cb = operand here u0 pb b in
+      let cb = code here u0 pb b in
       let cr = classifying f2 (t + 2) u in
       let last = Cat line t (picked f1 (t + 1) x0) (picked f2 (t + 2) u) ∷ [] in
       let some = width_some a in
       let free = r.free in
-      runs_bind (reads here a tha eva (t + 3) pc fr m (ready_front (t + 3) ca (cl ++ (cb ++ (cr ++ last))) (omega arith) r)) (λ x m1 h1.
+      runs_bind (eva (t + 3) pc fr m (ready_front (t + 3) ca (cl ++ (cb ++ (cr ++ last))) (omega arith) r)) (λ x m1 h1.
       let r1 = ready_back t (t + 3) ca (cl ++ (cb ++ (cr ++ last))) (omega arith) (omega arith) r h1.near h1.pc in
       runs_bind (wanting_runs g ga (t + 1) x0 x m1 h1.private (left_may (domain here a) (domain here b)) h1.held
       (ready_classify f1 (t + 1) x0 (cb ++ (cr ++ last)) r1)) (λ x' m2 h2.
       let r2 = ready_wanting f1 (t + 1) x0 (cb ++ (cr ++ last)) (omega arith) r1 h2 in
-      runs_bind (reads here b thb evb u0 pb fr m2 (ready_front u0 cb (cr ++ last) (omega arith) r2)) (λ y m3 h3.
+      runs_bind (evb u0 pb fr m2 (ready_front u0 cb (cr ++ last) (omega arith) r2)) (λ y m3 h3.
       let r3 = ready_back t u0 cb (cr ++ last) (omega arith) (omega arith) r2 h3.near h3.pc in
       runs_bind (wanting_runs g gb (t + 2) u y m3 h3.private (right_may (domain here a) (domain here b)) h3.held (ready_classify f2 (t + 2) u last r3))
       (λ y' m4 h4.

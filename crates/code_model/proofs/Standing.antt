@@ -11,15 +11,14 @@ use Rattle.language_model.specs.Evaluation.{Frame, put, Calls, StatementContext,
 use Rattle.language_model.specs.Evaluation.{skips, then_do}
 use Rattle.verified_code.specs.Steps.{Step, Jump, Function}
 use Rattle.code_model.specs.Machine.{Caller, Machine, at, next, step, resume, limit}
-use Rattle.code_model.specs.Expressions.{Numbers, classifying, picked, lacks, variable_of, read_at, expression_code, operand_code}
+use Rattle.code_model.specs.Expressions.{Numbers, classifying, picked, lacks, stands_at, expression_code}
 use Rattle.code_model.specs.Statements.{shape_number, first_free}
 use Rattle.code_model.specs.Fit.{MayStand}
 use Rattle.code_model.proofs.Places.{HasAt, has_front, has_back, put_other, put_agrees, put_all, stands}
 use Rattle.code_model.proofs.Gives.{Gives, Any, IsSecret}
 use Rattle.code_model.proofs.Follows.{Runs, runs_bind, runs_done, runs_more, instruct, silent}
 use Rattle.code_model.proofs.Near.{Near, Holds, holds_kept, Ready, near_wanting, wanting_runs}
-use Rattle.code_model.proofs.Operands.{IsVariableThere, Evaluates}
-use Rattle.code_model.proofs.Operands as operands
+use Rattle.code_model.proofs.Operands.{Evaluates}
 
 -- a value is stored in a slot
 pub holds_put : {here : Setting} {fr registers : Frame} (k : ℕ) (v : Value) → k < length here.slots → IsSecret (slot_is_private here k) v → Holds here fr
@@ -100,37 +99,26 @@ module _ (w : World) (p : List Function) (number : Numbers) (calls : Calls) (d :
   Expressed = Evaluates w p number calls d place.here
 
   pub evaluates : (e : TypedTree) (t pc : ℕ) (fr : Frame) (m : Machine) → Expressed e → base ≤ t → HasAt code pc (here_code t pc e) → Stands pc fr m → Runs w
-      p m (value w calls place.here e fr) (Evaluated (pc + length (here_code t pc e)) fr t (gives_private place.here e))
+      p m (value w calls place.here e fr) (Evaluated (pc + length (here_code t pc e)) fr (stands_at e t) (gives_private place.here e))
   evaluates e t pc fr m ev le has h =
       runs_more (ev t pc fr m (ready_standing t pc (here_code t pc e) le has h))
-      (λ v m1 h1. runs_done (record { standing = standing_on le h h1.near h1.pc; value' = h1.here; private = h1.private }))
-
-  -- an operand is read where it stands
-  abbrev pub read_code : (t pc : ℕ) → TypedTree → List Step
-  read_code = operand_code number place.here
-
-  pub reads : (e : TypedTree) (t pc : ℕ) (fr : Frame) (m : Machine) → IsVariableThere place.here e → Expressed e → base ≤ t → HasAt code pc (read_code t pc e)
-      → Stands pc fr m → Runs w p m (value w calls place.here e fr)
-      (Evaluated (pc + length (read_code t pc e)) fr (read_at (variable_of e) t) (gives_private place.here e))
-  reads e t pc fr m there ev le has h =
-      runs_more (operands.reads w p number calls d place.here e there ev t pc fr m (ready_standing t pc (read_code t pc e) le has h))
       (λ v m1 h1. runs_done (record { standing = standing_on le h h1.near h1.pc; value' = h1.held; private = h1.private }))
 
   -- ---- THE LAST STEP
 
   -- a statement of an expression and one step, which keeps the registers
-  pub ends_with : (x y t pc : ℕ) (e : TypedTree) (i : ℕ → Step) (fr : Frame) (m : Machine) (c : Value → Effect (Unit {0})) → IsVariableThere place.here e →
+  pub ends_with : (x y t pc : ℕ) (e : TypedTree) (i : ℕ → Step) (fr : Frame) (m : Machine) (c : Value → Effect (Unit {0})) →
       Expressed e → base ≤ t → HasAt code
-      pc (read_code t pc e ++ i (read_at (variable_of e) t) ∷ []) → Stands pc fr m
+      pc (here_code t pc e ++ i (stands_at e t) ∷ []) → Stands pc fr m
       → ((r : ℕ) (v : Value) (m1 : Machine) (s : Stage) → m1.registers r ≡ v → step w p (Some (i r)) m1 s ≡ carry (c v s) (λ u. done (at (m1.pc + 1) m1)))
       → ((v : Value) → Gives (c v) (Any {A = Unit {0}}))
       → Runs w p m (value w calls place.here e fr >>= λ v. c v >>= λ u. done (goes fr)) (Went x y (pc + length
-      (read_code t pc e ++ i (read_at (variable_of e) t) ∷ [])))
-  ends_with x y t pc e i fr m c there ev le has h st gives =
-      let ce = read_code t pc e in
-      let r = read_at (variable_of e) t in
+      (here_code t pc e ++ i (stands_at e t) ∷ [])))
+  ends_with x y t pc e i fr m c ev le has h st gives =
+      let ce = here_code t pc e in
+      let r = stands_at e t in
       let last = i r ∷ [] in
-      runs_bind (reads e t pc fr m there ev le (has_front code pc ce last has) h) (λ v m1 h1.
+      runs_bind (evaluates e t pc fr m ev le (has_front code pc ce last has) h) (λ v m1 h1.
       let to : m1.pc + 1 ≡ pc + length (ce ++ last) = omega (arith, h1.standing.1, length-append ce last) in
       runs_bind (instruct m1 (i r) (c v) (λ u. at (m1.pc + 1) m1) (Any {A = Unit {0}}) (λ u m'. Stands (pc + length (ce ++ last)) fr m')
       (next_step h1.standing (has_back code pc ce last has).0) (λ s. st r v m1 s h1.value') (gives v)

@@ -23,7 +23,7 @@ use Rattle.language_model.specs.Evaluation.{either, value, Flow, goes, stops, sk
 use Rattle.verified_code.specs.Steps.{Step, Store, Fill, Put, Argument, Publish, Assert, Branch, Jump, Call, Return, Function}
 use Rattle.code_model.specs.Machine.{Caller, Machine, at, next, step, resume, received, limit, same_bool}
 use Rattle.code_model.specs.Kinds.{width, kind_of}
-use Rattle.code_model.specs.Expressions.{Numbers, classifying, picked, lacks, variable_of, read_at, arguments_code, arguments_places, given_at, result_at}
+use Rattle.code_model.specs.Expressions.{Numbers, classifying, picked, lacks, stands_at, arguments_code, arguments_places, given_at, result_at}
 use Rattle.code_model.specs.Expressions.{unread_code}
 use Rattle.code_model.specs.Statements.{shape_number, first_free, statement_width, behind_classifying, statement_code, statements_code}
 use Rattle.code_model.specs.Fit.{MayStand, IsFit, IsFitStatement, AreFitStatements}
@@ -32,9 +32,9 @@ use Rattle.code_model.proofs.Gives.{Gives, gives_with, IsSecret, charge_gives, f
 use Rattle.code_model.proofs.Gives.{asserted_gives, wanted_same}
 use Rattle.code_model.proofs.Follows.{Runs, runs_bind, runs_done, runs_more, runs_first, instruct, silent}
 use Rattle.code_model.proofs.Near.{holds_kept, ready_front, ready_back, branch_runs}
-use Rattle.code_model.proofs.Operands.{IsVariableThere, width_some, operands_run}
-use Rattle.code_model.proofs.Expressions.{CallsRun, call_runs, variable_fits, expression_runs, arguments_run}
-use Rattle.code_model.proofs.Lengths.{operand_length, statement_length}
+use Rattle.code_model.proofs.Operands.{width_some, operands_run}
+use Rattle.code_model.proofs.Expressions.{CallsRun, call_runs, expression_runs, arguments_run}
+use Rattle.code_model.proofs.Lengths.{expression_length, statement_length}
 use Rattle.code_model.proofs.Standing as standing
 use Rattle.code_model.proofs.Loops.{turns_run, repeats_run}
 
@@ -74,19 +74,9 @@ module _ (w : World) (p : List Function) (number : Numbers) (fs : List TypedFunc
   express : (e : TypedTree) → IsFit Known place.here e → Expressed e
   express e fit = expression_runs w p number fs Known calls d ok place.here hf e fit
 
-  there : (e : TypedTree) → IsFit Known place.here e → IsVariableThere place.here e
-  there e fit = variable_fits w p number fs Known calls d ok place.here e fit
-
-  abbrev read_code : (t pc : ℕ) → TypedTree → List Step
-  read_code = standing.read_code w p number calls d place code stack room
-
-  reads : (e : TypedTree) (t pc : ℕ) (fr : Frame) (m : Machine) → IsFit Known place.here e → base ≤ t → HasAt code pc (read_code t pc e) → At pc fr m
-      → Runs w p m (value w calls place.here e fr) (standing.Evaluated w p number calls d place code stack room (pc + length (read_code t pc e)) fr
-      (read_at (variable_of e) t) (gives_private place.here e))
-  reads e t pc fr m fit le has h = standing.reads w p number calls d place code stack room e t pc fr m (there e fit) (express e fit) le has h
-
   evaluates : (e : TypedTree) (t pc : ℕ) (fr : Frame) (m : Machine) → IsFit Known place.here e → base ≤ t → HasAt code pc (here_code t pc e) → At pc fr m
-      → Runs w p m (value w calls place.here e fr) (standing.Evaluated w p number calls d place code stack room (pc + length (here_code t pc e)) fr t
+      → Runs w p m (value w calls place.here e fr) (standing.Evaluated w p number calls d place code stack room (pc + length (here_code t pc e)) fr
+      (stands_at e t)
       (gives_private place.here e))
   evaluates e t pc fr m fit le has h = standing.evaluates w p number calls d place code stack room e t pc fr m (express e fit) le has h
 
@@ -153,31 +143,31 @@ module _ (w : World) (p : List Function) (number : Numbers) (fs : List TypedFunc
   -- two operands, the second as private as the slot, and a step that stores in it: the first operand stands in v'
   fits_in : (x y k t pc : ℕ) (a b : TypedTree) (last : ℕ → ℕ → Step) (c : Value → Value → Effect Value) (fr : Frame) (m : Machine) → IsFit Known place.here a
       → IsFit Known place.here b → k < length place.here.slots → base ≤ t → MayStand (gives_private place.here b) (slot_is_private place.here k)
-      → HasAt code pc (read_code (t + 1) pc a ++ (read_code (t + 1 + width a) (pc + length (read_code (t + 1) pc a)) b ++ behind_classifying
-      (slot_is_private place.here k) (gives_private place.here b) t (read_at (variable_of b) (t + 1 + width a))
-      (last (read_at (variable_of a) (t + 1))))) → At pc fr m
+      → HasAt code pc (here_code (t + 1) pc a ++ (here_code (t + 1 + width a) (pc + length (here_code (t + 1) pc a)) b ++ behind_classifying
+      (slot_is_private place.here k) (gives_private place.here b) t (stands_at b (t + 1 + width a))
+      (last (stands_at a (t + 1))))) → At pc fr m
       → ((j v : Value) (q r : ℕ) (m1 : Machine) (s : Stage) → m1.registers q ≡ j → m1.registers r ≡ v → m1.registers k ≡ fr k → step w p (Some (last q r))
       m1 s ≡ carry (c j v s) (λ z. done (next k z m1)))
       → ((j v : Value) → IsSecret (slot_is_private place.here k) v → IsSecret (slot_is_private place.here k) (fr k) → Gives (c j v)
       (IsSecret (slot_is_private place.here k)))
       → Runs w p m (value w calls place.here a fr >>= λ j. value w calls place.here b fr >>= λ v0. wanted (slot_is_private place.here k) v0 >>= λ v. c j v
       >>= λ z. done (goes (put k z fr)))
-      (Leads x y (pc + length (read_code (t + 1) pc a ++ (read_code (t + 1 + width a) (pc + length (read_code (t + 1) pc a)) b ++ behind_classifying
-      (slot_is_private place.here k) (gives_private place.here b) t (read_at (variable_of b) (t + 1 + width a))
-      (last (read_at (variable_of a) (t + 1)))))))
+      (Leads x y (pc + length (here_code (t + 1) pc a ++ (here_code (t + 1 + width a) (pc + length (here_code (t + 1) pc a)) b ++ behind_classifying
+      (slot_is_private place.here k) (gives_private place.here b) t (stands_at b (t + 1 + width a))
+      (last (stands_at a (t + 1)))))))
   fits_in x y k t pc a b last c fr m fa fb l le may has h st gives =
       let n = slot_is_private place.here k in
       let g = gives_private place.here b in
       let u0 = t + 1 + width a in
-      let q0 = read_at (variable_of a) (t + 1) in
-      let u = read_at (variable_of b) u0 in
-      let ca = read_code (t + 1) pc a in
-      let cb = read_code u0 (pc + length ca) b in
+      let q0 = stands_at a (t + 1) in
+      let u = stands_at b u0 in
+      let ca = here_code (t + 1) pc a in
+      let cb = here_code u0 (pc + length ca) b in
       let cl = classifying (lacks n g) t u in
       let r = picked (lacks n g) t u in
       let is = last q0 r ∷ [] in
       let some = width_some a in
-      operands_run w p number calls d place.here a b t (t + 1) u0 pc fr m (cl ++ is) _ _ (omega arith) (omega (arith, some)) (there a fa) (there b fb)
+      operands_run w p number calls d place.here a b t (t + 1) u0 pc fr m (cl ++ is) _ _ (omega arith) (omega (arith, some))
       (express a fa) (express b fb)
       (standing.ready_standing w p number calls d place code stack room t pc (ca ++ (cb ++ (cl ++ is))) le has h) (λ j v0 m2 h2 r2.
       let at2 : At (pc + length ca + length cb) fr m2 = (h2.near.steps ∙ h.0, r2.place, h2.near.stack ∙ h.2, r2.holds) in
@@ -218,18 +208,18 @@ module _ (w : World) (p : List Function) (number : Numbers) (fs : List TypedFunc
     statement_runs (if_statement e a b) i fit x y t pc fr m le has h =
         let ta = t + width e in
         let tb = ta + statement_width a in
-        let ce = read_code t pc e in
+        let ce = here_code t pc e in
         let pa = pc + length ce + 1 in
         let ca = statement_at ta x y pa a in
         let pb = pa + length ca + 1 in
         let cb = statement_at tb x y pb b in
         let rest2 = Jump (pb + length cb) ∷ cb in
-        let r = read_at (variable_of e) t in
+        let r = stands_at e t in
         let rest = Branch r false pb ∷ (ca ++ rest2) in
         let has1 = has_back code pc ce rest has in
         let has2 = has_back code pa ca rest2 has1.1 in
         let len : pb + length cb ≡ pc + length (ce ++ rest) = omega (arith, length-append ce rest, length-append ca rest2) in
-        runs_bind (reads e t pc fr m fit.0 le (has_front code pc ce rest has) h) (λ v m1 h1.
+        runs_bind (evaluates e t pc fr m fit.0 le (has_front code pc ce rest has) h) (λ v m1 h1.
         runs_bind (branch_runs r false pb v m1 h1.value' (standing.next_step w p number calls d place code stack room h1.standing has1.0)) (λ o m2 h2.
         let at2 : At (either (same_bool o false) pb pa) fr m2 = (
           h2.steps ∙ h1.standing.0,
@@ -247,7 +237,7 @@ module _ (w : World) (p : List Function) (number : Numbers) (fs : List TypedFunc
         let te = ts + statement_width step' in
         let n1 = length (statement_at t 0 0 0 body) in
         let n2 = length (statement_at ts 0 0 0 step') in
-        let n3 = length (read_code te 0 e) in
+        let n3 = length (here_code te 0 e) in
         let over = pc + 1 + n1 in
         let again = over + n2 in
         let out = again + n3 + 1 in
@@ -255,18 +245,18 @@ module _ (w : World) (p : List Function) (number : Numbers) (fs : List TypedFunc
         let py = pc + 1 + length ca in
         let cb = statement_at ts out again py step' in
         let pt = py + length cb in
-        let ce = read_code te pt e in
-        let last = Branch (read_at (variable_of e) te) true (pc + 1) ∷ [] in
+        let ce = here_code te pt e in
+        let last = Branch (stands_at e te) true (pc + 1) ∷ [] in
         let ey : over ≡ py = omega (arith, statement_length number place body t out over (pc + 1) 0 0 0) in
         let ez : again ≡ pt = omega (arith, ey, statement_length number place step' ts out again py 0 0 0) in
-        let ex : out ≡ pt + length ce + 1 = omega (arith, ez, operand_length number place.here e te pt 0) in
+        let ex : out ≡ pt + length ce + 1 = omega (arith, ez, expression_length number place.here e te pt 0) in
         let has1 = has_back code (pc + 1) ca (cb ++ (ce ++ last)) has.1 in
         let has2 = has_back code py cb (ce ++ last) has1 in
         let len : pt + length ce + 1 ≡ pc + length (Jump pt ∷ (ca ++ (cb ++ (ce ++ last)))) = omega
         (arith, length-append ca (cb ++ (ce ++ last)), length-append cb (ce ++ last), length-append ce last) in
         let turning = turns_run w p number calls d place code stack room x y out over again te pc py pt e (execute w calls place step')
         (execute w calls place body)
-        (express e fit.0) (there e fit.0) (omega (arith, le)) (has_front code pt ce last has2) (has_back code pt ce last has2).0
+        (express e fit.0) (omega (arith, le)) (has_front code pt ce last has2) (has_back code pt ce last has2).0
         (λ fr1 m1 k. statement_runs body true fit.2 out over t (pc + 1) fr1 m1 le (has_front code (pc + 1) ca (cb ++ (ce ++ last)) has.1) k)
         (λ fr1 m1 k. statement_runs step' false fit.1 out again ts py fr1 m1 (omega (arith, le)) (has_front code py cb (ce ++ last) has1) k) ex ey ez in
         standing.went_at w p number calls d place code stack room x y (pt + length ce + 1) (pc + length (Jump pt ∷ (ca ++ (cb ++ (ce ++ last))))) len
@@ -275,19 +265,19 @@ module _ (w : World) (p : List Function) (number : Numbers) (fs : List TypedFunc
     statement_runs (do_statement body e) i fit x y t pc fr m le has h =
         let te = t + statement_width body in
         let n1 = length (statement_at t 0 0 0 body) in
-        let n3 = length (read_code te 0 e) in
+        let n3 = length (here_code te 0 e) in
         let again = pc + n1 in
         let out = again + n3 + 1 in
         let ca = statement_at t out again pc body in
         let pt = pc + length ca in
-        let ce = read_code te pt e in
-        let last = Branch (read_at (variable_of e) te) true pc ∷ [] in
+        let ce = here_code te pt e in
+        let last = Branch (stands_at e te) true pc ∷ [] in
         let ez : again ≡ pt = omega (arith, statement_length number place body t out again pc 0 0 0) in
-        let ex : out ≡ pt + length ce + 1 = omega (arith, ez, operand_length number place.here e te pt 0) in
+        let ex : out ≡ pt + length ce + 1 = omega (arith, ez, expression_length number place.here e te pt 0) in
         let has1 = has_back code pc ca (ce ++ last) has in
         let len : pt + length ce + 1 ≡ pc + length (ca ++ (ce ++ last)) = omega (arith, length-append ca (ce ++ last), length-append ce last) in
         let repeating = repeats_run w p number calls d place code stack room x y out again te pc pt e (execute w calls place body) (express e fit.1)
-        (there e fit.1) (omega (arith, le)) (has_front code pt ce last has1) (has_back code pt ce last has1).0
+        (omega (arith, le)) (has_front code pt ce last has1) (has_back code pt ce last has1).0
         (λ fr1 m1 k. statement_runs body true fit.0 out again t pc fr1 m1 le (has_front code pc ca (ce ++ last) has) k) ex ez in
         standing.went_at w p number calls d place code stack room x y (pt + length ce + 1) (pc + length (ca ++ (ce ++ last))) len
         (record { from = λ s. repeating (s.left + 1) fr m s (omega arith) h })
@@ -298,12 +288,12 @@ module _ (w : World) (p : List Function) (number : Numbers) (fs : List TypedFunc
     statement_runs (return_statement (Some e)) i fit x y t pc fr m le has h =
         let n = place.secret_result in
         let g = gives_private place.here e in
-        let ce = read_code (t + 1) pc e in
-        let u = read_at (variable_of e) (t + 1) in
+        let ce = here_code (t + 1) pc e in
+        let u = stands_at e (t + 1) in
         let cl = classifying (lacks n g) t u in
         let last = Return (picked (lacks n g) t u) ∷ [] in
         let has1 = has_back code pc ce (cl ++ last) has in
-        runs_bind (reads e (t + 1) pc fr m fit.0 (omega (arith, le)) (has_front code pc ce (cl ++ last) has) h) (λ v0 m1 h1.
+        runs_bind (evaluates e (t + 1) pc fr m fit.0 (omega (arith, le)) (has_front code pc ce (cl ++ last) has) h) (λ v0 m1 h1.
         runs_bind (standing.wants w p number calls d place code stack room n g t u (pc + length ce) v0 fr m1 last le has1 h1.standing h1.value'
         h1.private fit.1) (λ v m2 h2.
         runs_done (
@@ -313,18 +303,18 @@ module _ (w : World) (p : List Function) (number : Numbers) (fs : List TypedFunc
           h2.private,
         )))
     statement_runs (assert_statement line e) i fit x y t pc fr m le has h =
-        standing.ends_with w p number calls d place code stack room x y t pc e (Assert line) fr m (row.asserted line) (there e fit) (express e fit) le has h
+        standing.ends_with w p number calls d place code stack room x y t pc e (Assert line) fr m (row.asserted line) (express e fit) le has h
         (λ r v m1 s q. ap (λ z. carry (row.asserted line z s) (λ u. done (at (m1.pc + 1) m1))) q) (asserted_gives w line)
     statement_runs (publish_statement text e) i fit x y t pc fr m le has h =
-        standing.ends_with w p number calls d place code stack room x y t pc e (Publish text) fr m (row.published w text) (there e fit) (express e fit) le has h
+        standing.ends_with w p number calls d place code stack room x y t pc e (Publish text) fr m (row.published w text) (express e fit) le has h
         (λ r v m1 s q. ap (λ z. carry (row.published w text z s) (λ u. done (at (m1.pc + 1) m1))) q) (published_gives w text)
     statement_runs (evaluate_statement e) i fit x y t pc fr m le has h = runs_bind (unread_runs e t pc fr m fit le has h) (λ v m1 h1. runs_done h1)
     statement_runs (store_statement k e) i fit x y t pc fr m le has h =
         let g = gives_private place.here e in
-        let ce = read_code (t + 1) pc e in
-        let u = read_at (variable_of e) (t + 1) in
+        let ce = here_code (t + 1) pc e in
+        let u = stands_at e (t + 1) in
         let rest = behind_classifying (slot_is_private place.here k) g t u (Store k) in
-        runs_bind (reads e (t + 1) pc fr m fit.1 (omega (arith, le)) (has_front code pc ce rest has) h) (λ v0 m1 h1.
+        runs_bind (evaluates e (t + 1) pc fr m fit.1 (omega (arith, le)) (has_front code pc ce rest has) h) (λ v0 m1 h1.
         standing.went_at w p number calls d place code stack room x y (pc + length ce + length rest) (pc + length (ce ++ rest))
         (omega (arith, length-append ce rest))
         (stores x y k t u (pc + length ce) g v0 fr m1 fit.0 le (has_back code pc ce rest has) h1.standing h1.value' h1.private fit.2))

@@ -1,7 +1,7 @@
 -- The code of an expression.
 --
--- Its registers are counted up from t, and its value stands in t. A variable that is an operand is read where it stands. Targets of
--- branches are places in the function's code, so that the code hangs on the place pc where it stands.
+-- Its registers are counted up from t, and its value stands in t, but that of a variable in its slot. Targets of branches are places in
+-- the function's code, so that the code hangs on the place pc where it stands.
 use Rattle.std.specs.Prelude.{ℕ, ◌+◌, Bool, true, false, not, ◌&&◌, List, [], ◌∷◌, ◌++◌, length, Option, Some, None}
 use Rattle.std.specs.List.{slice_get}
 use Rattle.secrec_ast.specs.declared.expression.DataType.TheVariants.{Uint64}
@@ -60,22 +60,12 @@ lacks wanted given = wanted && not given
 abbrev pub mixes : BinaryOperator → (this other : Bool) → Bool
 mixes op this other = not (is_product op) && lacks other this
 
--- ---- OPERANDS
+-- ---- WHERE A VALUE STANDS
 
--- the variable that an expression is, if it is one
-abbrev pub variable_of : TypedTree → Option ℕ
-variable_of (slot_node k) = Some k
-variable_of e = None
-
--- the code of an operand, where c is that of its expression: a variable is read without a step
-abbrev pub read_code : Option ℕ → (c : List Step) → List Step
-read_code None c = c
-read_code (Some k) c = []
-
--- where its value stands, t being the register of its own
-abbrev pub read_at : Option ℕ → (t : ℕ) → ℕ
-read_at None t = t
-read_at (Some k) t = k
+-- t being the first register of the expression: a variable is read in its slot, without a step
+abbrev pub stands_at : TypedTree → (t : ℕ) → ℕ
+stands_at (slot_node k) t = k
+stands_at e t = t
 
 -- ---- NODES WITH ONE OPERAND: c is its code, r the register where it stands
 
@@ -127,63 +117,53 @@ module _ (number : Numbers) where
     pub expression_code : Setting → (t pc : ℕ) → TypedTree → List Step
     expression_code here t pc (word_node n) = Literal t Uint64 n ∷ []
     expression_code here t pc (truth_node b) = Literal t datatype.Bool (truth_word b) ∷ []
-    expression_code here t pc (slot_node k) = Move t k ∷ []
+    expression_code here t pc (slot_node k) = []
     expression_code here t pc (call_node line k es) =
         let b = bound_at (slice_get here.functions k) (domains here es) in
         let ss = slots_of (slice_get here.functions k) in
         arguments_code here b ss (t + 1) pc es ++ Call line (number k b) (Some t) (arguments_places here b ss (t + 1) es) ∷ []
-    expression_code here t pc (size_node e) =
-        one_code (Size t) (read_at (variable_of e) (t + 1)) (read_code (variable_of e) (expression_code here (t + 1) pc e))
+    expression_code here t pc (size_node e) = one_code (Size t) (stands_at e (t + 1)) (expression_code here (t + 1) pc e)
     expression_code here t pc (cat_node line a b) =
         let g = gives_private here (cat_node line a b) in
-        let u = t + 3 + width a in
-        cat_code t (read_at (variable_of a) (t + 3)) (read_at (variable_of b) u) pc line (lacks g (gives_private here a)) (lacks g (gives_private here b))
-        (read_code (variable_of a) (expression_code here (t + 3) pc a)) (λ p. read_code (variable_of b) (expression_code here u p b))
-    expression_code here t pc (sum_node e) =
-        one_code (Sum t) (read_at (variable_of e) (t + 1)) (read_code (variable_of e) (expression_code here (t + 1) pc e))
-    expression_code here t pc (bits_node line e) =
-        one_code (Bits line t) (read_at (variable_of e) (t + 1)) (read_code (variable_of e) (expression_code here (t + 1) pc e))
+        let tb = t + 3 + width a in
+        cat_code t (stands_at a (t + 3)) (stands_at b tb) pc line (lacks g (gives_private here a)) (lacks g (gives_private here b))
+        (expression_code here (t + 3) pc a) (λ p. expression_code here tb p b)
+    expression_code here t pc (sum_node e) = one_code (Sum t) (stands_at e (t + 1)) (expression_code here (t + 1) pc e)
+    expression_code here t pc (bits_node line e) = one_code (Bits line t) (stands_at e (t + 1)) (expression_code here (t + 1) pc e)
     expression_code here t pc (element_node line a i) =
-        let u = t + 1 + width a in
-        element_code t (read_at (variable_of a) (t + 1)) (read_at (variable_of i) u) pc line
-        (read_code (variable_of a) (expression_code here (t + 1) pc a)) (λ p. read_code (variable_of i) (expression_code here u p i))
-    expression_code here t pc (not_node e) =
-        one_code (Not t) (read_at (variable_of e) (t + 1)) (read_code (variable_of e) (expression_code here (t + 1) pc e))
-    expression_code here t pc (cast_node c e) =
-        one_code (Cast c t) (read_at (variable_of e) (t + 1)) (read_code (variable_of e) (expression_code here (t + 1) pc e))
+        let ti = t + 1 + width a in
+        element_code t (stands_at a (t + 1)) (stands_at i ti) pc line (expression_code here (t + 1) pc a) (λ p. expression_code here ti p i)
+    expression_code here t pc (not_node e) = one_code (Not t) (stands_at e (t + 1)) (expression_code here (t + 1) pc e)
+    expression_code here t pc (cast_node c e) = one_code (Cast c t) (stands_at e (t + 1)) (expression_code here (t + 1) pc e)
     expression_code here t pc (binary_node line op ds a b) =
-        let u = t + 3 + width a in
-        binary_code t (read_at (variable_of a) (t + 3)) (read_at (variable_of b) u) pc line op ds (gives_private here a) (gives_private here b)
-        (read_code (variable_of a) (expression_code here (t + 3) pc a)) (λ p. read_code (variable_of b) (expression_code here u p b))
+        let tb = t + 3 + width a in
+        binary_code t (stands_at a (t + 3)) (stands_at b tb) pc line op ds (gives_private here a) (gives_private here b)
+        (expression_code here (t + 3) pc a) (λ p. expression_code here tb p b)
     expression_code here t pc (cut_node c a b) =
-        let v = read_at (variable_of a) (t + 3) in
-        let u = t + 3 + width a in
-        let ub = read_at (variable_of b) u in
-        let ca = read_code (variable_of a) (expression_code here (t + 3) pc a) in
-        let cb = λ (p : ℕ). read_code (variable_of b) (expression_code here u p b) in
+        let tb = t + 3 + width a in
+        let v = stands_at a (t + 3) in
+        let u = stands_at b tb in
+        let ca = expression_code here (t + 3) pc a in
+        let cb = λ (p : ℕ). expression_code here tb p b in
         let gb = gives_private here b in
         either (gives_private here a)
-        (binary_code t v ub pc 0 (binary.Bools (connective c)) Scalars (gives_private here a) gb ca cb)
-        (cut_code t v ub pc c gb ca cb)
-    expression_code here t pc (declassify_node e) =
-        one_code (Declassify t) (read_at (variable_of e) (t + 1)) (read_code (variable_of e) (expression_code here (t + 1) pc e))
+        (binary_code t v u pc 0 (binary.Bools (connective c)) Scalars (gives_private here a) gb ca cb)
+        (cut_code t v u pc c gb ca cb)
+    expression_code here t pc (declassify_node e) = one_code (Declassify t) (stands_at e (t + 1)) (expression_code here (t + 1) pc e)
 
     -- each argument, classified right behind its code where its parameter is private
     pub arguments_code : Setting → List BoundDomain → List Slot → (t pc : ℕ) → TypedTrees → List Step
     arguments_code here b ss t pc Tree'.none = []
     arguments_code here b ss t pc (Tree'.also e es) =
-        let ce = read_code (variable_of e) (expression_code here (t + 1) pc e) in
-        let cl = classifying (lacks (next_is_private b ss) (gives_private here e)) t (read_at (variable_of e) (t + 1)) in
+        let ce = expression_code here (t + 1) pc e in
+        let cl = classifying (lacks (next_is_private b ss) (gives_private here e)) t (stands_at e (t + 1)) in
         ce ++ (cl ++ arguments_code here b (behind_next ss) (t + 1 + width e) (pc + length ce + length cl) es)
 
     pub arguments_places : Setting → List BoundDomain → List Slot → ℕ → TypedTrees → List ℕ
     arguments_places here b ss t Tree'.none = []
     arguments_places here b ss t (Tree'.also e es) =
-        picked (lacks (next_is_private b ss) (gives_private here e)) t (read_at (variable_of e) (t + 1))
+        picked (lacks (next_is_private b ss) (gives_private here e)) t (stands_at e (t + 1))
         ∷ arguments_places here b (behind_next ss) (t + 1 + width e) es
-
-  abbrev pub operand_code : Setting → (t pc : ℕ) → TypedTree → List Step
-  operand_code here t pc e = read_code (variable_of e) (expression_code here t pc e)
 
   -- where nobody reads what a call gives, it has a register only if there is something
   abbrev pub unread_code : Setting → (t pc : ℕ) → TypedTree → List Step

@@ -1,6 +1,7 @@
 -- The registers that the code of an expression has for its own: how many, and of which kinds.
 --
--- Each node's value has a register of its own. Its classification has one more, where an operand or an argument may have to be classified.
+-- Each node has a register of its own for its value; that of a variable stays unused. Its classification has one more, where an operand or
+-- an argument may have to be classified.
 use Rattle.std.specs.Prelude.{ℕ, ◌+◌, Bool, true, false, List, [], ◌∷◌, ◌++◌, Option, Some, None}
 use Rattle.std.specs.List.{slice_get}
 use Rattle.secrec_ast.specs.declared.expression.DataType.TheVariants.{Uint64}

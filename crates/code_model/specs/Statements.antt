@@ -17,7 +17,7 @@ use Rattle.language_model.specs.Evaluation.{StatementContext, gives_private, slo
 use Rattle.bytecode.specs.declared.kind.Kind.{Kind}
 use Rattle.verified_code.specs.Steps.{Step, Store, Fill, Put, Argument, Publish, Assert, Branch, Jump, Return, ReturnNone}
 use Rattle.code_model.specs.Kinds.{width, kind_of, private_kind_in, expression_kinds}
-use Rattle.code_model.specs.Expressions.{Numbers, classifying, picked, lacks, unread_code, variable_of, read_at, operand_code}
+use Rattle.code_model.specs.Expressions.{Numbers, classifying, picked, lacks, unread_code, stands_at, expression_code}
 
 -- ---- DEFAULTS
 
@@ -129,48 +129,48 @@ module _ (number : Numbers) where
     statement_code at t x y pc (block_statement cs) = statements_code at t x y pc cs
     statement_code at t x y pc (if_statement e a b) =
         let ta = t + width e in
-        if_code pc (read_at (variable_of e) t) (operand_code number at.here t pc e) (λ p. statement_code at ta x y p a)
+        if_code pc (stands_at e t) (expression_code number at.here t pc e) (λ p. statement_code at ta x y p a)
         (λ p. statement_code at (ta + statement_width a) x y p b)
     statement_code at t x y pc (loop_statement e step body) =
         let ts = t + statement_width body in
         let te = ts + statement_width step in
         let py = pc + 1 + length (statement_code at t 0 0 0 body) in
         let pt = py + length (statement_code at ts 0 0 0 step) in
-        let px = pt + length (operand_code number at.here te 0 e) + 1 in
-        loop_code pc (read_at (variable_of e) te) (λ p. operand_code number at.here te p e) (λ p. statement_code at t px py p body)
+        let px = pt + length (expression_code number at.here te 0 e) + 1 in
+        loop_code pc (stands_at e te) (λ p. expression_code number at.here te p e) (λ p. statement_code at t px py p body)
         (λ p. statement_code at ts px pt p step)
     statement_code at t x y pc (do_statement body e) =
         let te = t + statement_width body in
         let pt = pc + length (statement_code at t 0 0 0 body) in
-        let px = pt + length (operand_code number at.here te 0 e) + 1 in
-        do_code pc (read_at (variable_of e) te) (λ p. operand_code number at.here te p e) (λ p. statement_code at t px pt p body)
+        let px = pt + length (expression_code number at.here te 0 e) + 1 in
+        do_code pc (stands_at e te) (λ p. expression_code number at.here te p e) (λ p. statement_code at t px pt p body)
     statement_code at t x y pc break_statement = Jump x ∷ []
     statement_code at t x y pc continue_statement = Jump y ∷ []
     statement_code at t x y pc (return_statement None) = ReturnNone ∷ []
     statement_code at t x y pc (return_statement (Some e)) =
-        operand_code number at.here (t + 1) pc e
-        ++ behind_classifying at.secret_result (gives_private at.here e) t (read_at (variable_of e) (t + 1)) Return
-    statement_code at t x y pc (assert_statement line e) = operand_code number at.here t pc e ++ Assert line (read_at (variable_of e) t) ∷ []
+        expression_code number at.here (t + 1) pc e
+        ++ behind_classifying at.secret_result (gives_private at.here e) t (stands_at e (t + 1)) Return
+    statement_code at t x y pc (assert_statement line e) = expression_code number at.here t pc e ++ Assert line (stands_at e t) ∷ []
     statement_code at t x y pc (store_statement k e) =
-        operand_code number at.here (t + 1) pc e
-        ++ behind_classifying (slot_is_private at.here k) (gives_private at.here e) t (read_at (variable_of e) (t + 1)) (Store k)
+        expression_code number at.here (t + 1) pc e
+        ++ behind_classifying (slot_is_private at.here k) (gives_private at.here e) t (stands_at e (t + 1)) (Store k)
     statement_code at t x y pc (default_statement k) =
         behind_classifying (slot_is_private at.here k) false t (length at.here.slots + shape_number (slot_shape at.here k)) (Store k)
     statement_code at t x y pc (fill_statement line k n e) =
         let u = t + 1 + width n in
-        let cn = operand_code number at.here (t + 1) pc n in
-        cn ++ (operand_code number at.here u (pc + length cn) e
-        ++ behind_classifying (slot_is_private at.here k) (gives_private at.here e) t (read_at (variable_of e) u)
-        (Fill line k (read_at (variable_of n) (t + 1))))
+        let cn = expression_code number at.here (t + 1) pc n in
+        cn ++ (expression_code number at.here u (pc + length cn) e
+        ++ behind_classifying (slot_is_private at.here k) (gives_private at.here e) t (stands_at e u)
+        (Fill line k (stands_at n (t + 1))))
     statement_code at t x y pc (input_statement line k text) =
         Argument line (kind_of (slot_is_private at.here k) (slot_shape at.here k)) text t ∷ Store k t ∷ []
     statement_code at t x y pc (element_statement line k i e) =
         let u = t + 1 + width i in
-        let ci = operand_code number at.here (t + 1) pc i in
-        ci ++ (operand_code number at.here u (pc + length ci) e
-        ++ behind_classifying (slot_is_private at.here k) (gives_private at.here e) t (read_at (variable_of e) u)
-        (Put line k (read_at (variable_of i) (t + 1))))
-    statement_code at t x y pc (publish_statement text e) = operand_code number at.here t pc e ++ Publish text (read_at (variable_of e) t) ∷ []
+        let ci = expression_code number at.here (t + 1) pc i in
+        ci ++ (expression_code number at.here u (pc + length ci) e
+        ++ behind_classifying (slot_is_private at.here k) (gives_private at.here e) t (stands_at e u)
+        (Put line k (stands_at i (t + 1))))
+    statement_code at t x y pc (publish_statement text e) = expression_code number at.here t pc e ++ Publish text (stands_at e t) ∷ []
     statement_code at t x y pc (evaluate_statement e) = unread_code number at.here t pc e
 
     pub statements_code : StatementContext → (t x y pc : ℕ) → TypedStatementTrees → List Step

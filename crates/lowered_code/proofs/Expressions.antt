@@ -1,6 +1,6 @@
 -- All steps of the code of a well-typed expression are right.
 use Rattle.std.proofs.Common.{◌≡◌, ℕ, zero, suc, ◌+◌, ◌<◌, ◌≤◌, List, [], ◌∷◌, ◌++◌, length, take, map}
-use Rattle.std.proofs.Common.{Option, Some, None, Bool, true, false, refl, sym, ap, ◌∙◌, subst}
+use Rattle.std.proofs.Common.{Option, Some, Bool, true, false, refl, sym, ap, ◌∙◌, subst}
 use Rattle.std.proofs.Common.{arith}
 use Rattle.std.specs.Prelude.{slice_get}
 use Rattle.secrec_ast.specs.declared.expression.DataType.TheVariants.{Uint64}
@@ -28,8 +28,8 @@ use Rattle.verified_code.specs.Steps.{Step, Function, Not, Cast, Size, Sum, Bits
 use Rattle.code_model.specs.Fit.{IsFit, AreFit}
 use Rattle.code_model.specs.Kinds.{width, kind_of, slot_kind, shape_in, kind_in, private_kind_in, expression_kinds, arguments_kinds}
 use Rattle.code_model.specs.Kinded.{HasKind, ResultFits, left_array, right_array}
-use Rattle.code_model.specs.Expressions.{Numbers, result_at, classifying, lacks, variable_of, read_code, read_at, binary_code, cut_code, expression_code}
-use Rattle.code_model.specs.Expressions.{operand_code}
+use Rattle.code_model.specs.Expressions.{Numbers, result_at, classifying, lacks, stands_at, binary_code, cut_code, expression_code}
+use Rattle.code_model.specs.Expressions.{expression_code}
 use Rattle.code_model.specs.Expressions.{arguments_code, arguments_places, unread_code}
 use Rattle.code_model.specs.Programs.{code_of_found}
 use Rattle.code_model.proofs.Widths.{expression_registers}
@@ -101,18 +101,9 @@ module _ (number : Numbers) (c : List Function) (ks : List Kind) (gives : Option
     abbrev pub ExpressionRight : TypedTree → Type 0
     ExpressionRight e = (t pc : ℕ) → Stands ks t (expression_kinds here e) → RightAt c ks gives count pc (expression_code number here t pc e)
 
-    -- an operand is right where its expression is
-    pub read_right : (t pc : ℕ) (e : TypedTree) → RightAt c ks gives count pc (expression_code number here t pc e)
-        → RightAt c ks gives count pc (operand_code number here t pc e)
-    read_right t pc e h = go (variable_of e)
-      where
-        go : (o : Option ℕ) → RightAt c ks gives count pc (read_code o (expression_code number here t pc e))
-        go None = h
-        go (Some k) = λ l. tt
-
-    -- its value's kind, where it stands
+    -- the kind of an expression's value, where it stands
     read_kind : (t : ℕ) (e : TypedTree) (s : Shape) → Gives here e (Some s) → Stands ks t (expression_kinds here e)
-        → HasKind ks (read_at (variable_of e) t) (kind_in here e)
+        → HasKind ks (stands_at e t) (kind_in here e)
     read_kind t (slot_node k) s h stands =
         slots k h.0 h.1 ∙ sym (ap (λ o. Some (kind_of (is_private (slot_domain here.binding o)) (shape_at o))) h.1)
     read_kind t (word_node n) s h stands = stands_first stands
@@ -130,15 +121,15 @@ module _ (number : Numbers) (c : List Function) (ks : List Kind) (gives : Option
     read_kind t (declassify_node e) s h stands = stands_first stands
 
     pub value_read : (t : ℕ) (e : TypedTree) (s : Shape) → Gives here e (Some s) → Stands ks t (expression_kinds here e)
-        → HasKind ks (read_at (variable_of e) t) (kind_of (gives_private here e) s)
+        → HasKind ks (stands_at e t) (kind_of (gives_private here e) s)
     value_read t e s h stands =
-        subst (λ z. HasKind ks (read_at (variable_of e) t) (kind_of (gives_private here e) z)) (shape_is here e s h) (read_kind t e s h stands)
+        subst (λ z. HasKind ks (stands_at e t) (kind_of (gives_private here e) z)) (shape_is here e s h) (read_kind t e s h stands)
 
     behind_one : (t pc : ℕ) (e : TypedTree) (i : Step) → RightAt c ks gives count pc (expression_code number here t pc e) → IsRight c ks gives count i
-        → RightAt c ks gives count pc (operand_code number here t pc e ++ i ∷ [])
+        → RightAt c ks gives count pc (expression_code number here t pc e ++ i ∷ [])
     behind_one t pc e i h k l =
-        let ce = operand_code number here t pc e in
-        both_right c ks gives count ce (i ∷ []) (read_right t pc e h (within_left count pc ce (i ∷ []) l)) (k, tt)
+        let ce = expression_code number here t pc e in
+        both_right c ks gives count ce (i ∷ []) (h (within_left count pc ce (i ∷ []) l)) (k, tt)
 
     public_joined : (da db : BoundDomain) → is_private da ≡ false → is_private (joined_domain da db) ≡ is_private db
     public_joined Public db e = refl
@@ -149,10 +140,10 @@ module _ (number : Numbers) (c : List Function) (ks : List Kind) (gives : Option
         → RightAt c ks gives count pc (expression_code number here t pc (cut_node x a b))
     cut_operands t pc a b x ga gb ra rb h l =
         let u = t + 3 + width a in
-        let v = read_at (variable_of a) (t + 3) in
-        let ub = read_at (variable_of b) u in
-        let ca = operand_code number here (t + 3) pc a in
-        let cb = λ (p : ℕ). operand_code number here u p b in
+        let v = stands_at a (t + 3) in
+        let ub = stands_at b u in
+        let ca = expression_code number here (t + 3) pc a in
+        let cb = λ (p : ℕ). expression_code number here u p b in
         let pa = gives_private here a in
         let pb = gives_private here b in
         let first = binary_code t v ub pc 0 (binary.Bools (connective x)) Scalars pa pb ca cb in
@@ -161,11 +152,11 @@ module _ (number : Numbers) (c : List Function) (ks : List Kind) (gives : Option
         let vb = value_read u b _ gb (right_of a b h) in
         either_right c ks gives count pa first other
         (λ e. binary_right c ks gives count t v ub pc 0 (binary.Bools (connective x)) Scalars (domain here a) (domain here b) ca cb tt
-        (read_right (t + 3) pc a (ra (t + 3) pc (left_of a b h))) (λ p. read_right u p b (rb u p (right_of a b h))) va vb
+        (ra (t + 3) pc (left_of a b h)) (λ p. rb u p (right_of a b h)) va vb
         (subst (λ g. HasKind ks (t + 1) (kind g datatype.Bool false)) e (first_of h)) (second_of h) (stands_first h)
         (subst (λ g. pc + length (either g first other) < count) e l))
-        (λ e. cut_right c ks gives count t v ub pc x pb ca cb (read_right (t + 3) pc a (ra (t + 3) pc (left_of a b h)))
-        (λ p. read_right u p b (rb u p (right_of a b h)))
+        (λ e. cut_right c ks gives count t v ub pc x pb ca cb (ra (t + 3) pc (left_of a b h))
+        (λ p. rb u p (right_of a b h))
         (subst (λ g. HasKind ks v (kind g datatype.Bool false)) e va) vb (subst (λ g. HasKind ks (t + 1) (kind g datatype.Bool false)) e (first_of h))
         (subst (λ g. HasKind ks t (kind g datatype.Bool false)) (public_joined (domain here a) (domain here b) e) (stands_first h))
         (subst (λ g. pc + length (either g first other) < count) e l))
@@ -200,9 +191,7 @@ module _ (number : Numbers) (c : List Function) (ks : List Kind) (gives : Option
           truth_below : (b : Bool) → truth_word b < 2
           truth_below true = omega arith
           truth_below false = omega arith
-      expression_right (slot_node k) s h f t pc stands l =
-          let own = ap (λ o. Some (kind_of (is_private (slot_domain here.binding o)) (shape_at o))) h.1 in
-          ((slot_kind here.binding h.0, slots k h.0 h.1, stands_first stands ∙ own), tt)
+      expression_right (slot_node k) s h f t pc stands l = tt
       expression_right (call_node line k es) s h f t pc stands l =
           let o = slice_get here.functions k in
           let ds = domains here es in
@@ -212,41 +201,41 @@ module _ (number : Numbers) (c : List Function) (ks : List Kind) (gives : Option
           call_right t pc line k es o (Some t) callee.0 callee.1
           (result_fits number here.functions ks t o ds h.0 s h.1 (sym h.3) (stands_first stands)) all.1 all.0 l
       expression_right (size_node e) s h f t pc stands l =
-          behind_one (t + 1) pc e (Size t (read_at (variable_of e) (t + 1))) (expression_right e _ h.1 f (t + 1) pc (one e stands))
+          behind_one (t + 1) pc e (Size t (stands_at e (t + 1))) (expression_right e _ h.1 f (t + 1) pc (one e stands))
           (gives_private here e, h.0, value_read (t + 1) e _ h.1 (one e stands), stands_first stands) l
       expression_right (cat_node line a b) s h f t pc stands l =
           let g = is_private (joined_domain (domain here a) (domain here b)) in
           let u = t + 3 + width a in
-          cat_right c ks gives count t (read_at (variable_of a) (t + 3)) (read_at (variable_of b) u) pc line g (gives_private here a) (gives_private here b) h.0
-          (operand_code number here (t + 3) pc a) (λ p. operand_code number here u p b)
+          cat_right c ks gives count t (stands_at a (t + 3)) (stands_at b u) pc line g (gives_private here a) (gives_private here b) h.0
+          (expression_code number here (t + 3) pc a) (λ p. expression_code number here u p b)
           (left_may (domain here a) (domain here b)) (right_may (domain here a) (domain here b))
-          (read_right (t + 3) pc a (expression_right a _ h.1 f.0 (t + 3) pc (left_of a b stands)))
-          (λ p. read_right u p b (expression_right b _ h.2 f.1 u p (right_of a b stands)))
+          (expression_right a _ h.1 f.0 (t + 3) pc (left_of a b stands))
+          (λ p. expression_right b _ h.2 f.1 u p (right_of a b stands))
           (value_read (t + 3) a _ h.1 (left_of a b stands)) (value_read u b _ h.2 (right_of a b stands))
           (private_at (t + 1) a _ h.1 (first_of stands)) (private_at (t + 2) b _ h.2 (second_of stands))
           (subst (λ z. HasKind ks t (kind_of g z)) (shape_is here a _ h.1) (stands_first stands)) l
       expression_right (sum_node e) s h f t pc stands l =
-          behind_one (t + 1) pc e (Sum t (read_at (variable_of e) (t + 1))) (expression_right e _ h.0 f (t + 1) pc (one e stands))
+          behind_one (t + 1) pc e (Sum t (stands_at e (t + 1))) (expression_right e _ h.0 f (t + 1) pc (one e stands))
           (gives_private here e, value_read (t + 1) e _ h.0 (one e stands), stands_first stands) l
       expression_right (bits_node line e) s h f t pc stands l =
-          behind_one (t + 1) pc e (Bits line t (read_at (variable_of e) (t + 1))) (expression_right e _ h.1 f (t + 1) pc (one e stands))
+          behind_one (t + 1) pc e (Bits line t (stands_at e (t + 1))) (expression_right e _ h.1 f (t + 1) pc (one e stands))
           (gives_private here e, h.0, value_read (t + 1) e _ h.1 (one e stands), stands_first stands) l
       expression_right (element_node line a i) s h f t pc stands l =
           let rest = stands_rest (t + 1) refl stands in
           let first = stands_left (expression_kinds here a) (expression_kinds here i) rest in
           let many = expression_registers here a in
           let u = t + 1 + width a in
-          let v = read_at (variable_of a) (t + 1) in
-          let ui = read_at (variable_of i) u in
+          let v = stands_at a (t + 1) in
+          let ui = stands_at i u in
           let place : u ≡ t + 1 + length (expression_kinds here a) = omega (arith, many) in
           let second = stands_right u (expression_kinds here a) place rest in
-          element_right c ks gives count t v ui pc line (gives_private here a) h.0 (operand_code number here (t + 1) pc a)
-          (λ p. operand_code number here u p i) (read_right (t + 1) pc a (expression_right a _ h.1 f.0 (t + 1) pc first))
-          (λ p. read_right u p i (expression_right i _ h.2 f.1 u p second)) (value_read (t + 1) a _ h.1 first)
+          element_right c ks gives count t v ui pc line (gives_private here a) h.0 (expression_code number here (t + 1) pc a)
+          (λ p. expression_code number here u p i) (expression_right a _ h.1 f.0 (t + 1) pc first)
+          (λ p. expression_right i _ h.2 f.1 u p second) (value_read (t + 1) a _ h.1 first)
           (subst (λ d. HasKind ks ui (kind_of (is_private d) (scalar Uint64))) h.3 (value_read u i _ h.2 second))
           (subst (λ (z : Shape). HasKind ks t (kind (gives_private here a) z.element false)) (shape_is here a _ h.1) (stands_first stands)) l
       expression_right (not_node e) s h f t pc stands l =
-          behind_one (t + 1) pc e (Not t (read_at (variable_of e) (t + 1))) (expression_right e _ h.1 f (t + 1) pc (one e stands)) (
+          behind_one (t + 1) pc e (Not t (stands_at e (t + 1))) (expression_right e _ h.1 f (t + 1) pc (one e stands)) (
             gives_private here e,
             h.0,
             value_read (t + 1) e _ h.1 (one e stands),
@@ -254,7 +243,7 @@ module _ (number : Numbers) (c : List Function) (ks : List Kind) (gives : Option
           ) l
       expression_right (cast_node x e) s h f t pc stands l =
           let g = gives_private here e in
-          let r = read_at (variable_of e) (t + 1) in
+          let r = stands_at e (t + 1) in
           behind_one (t + 1) pc e (Cast x t r) (expression_right e _ h.1 f (t + 1) pc (one e stands)) (
             g,
             h.0,
@@ -263,12 +252,12 @@ module _ (number : Numbers) (c : List Function) (ks : List Kind) (gives : Option
           ) l
       expression_right (binary_node line op ds a b) s h f t pc stands l =
           let u = t + 3 + width a in
-          let v = read_at (variable_of a) (t + 3) in
-          let ub = read_at (variable_of b) u in
-          binary_right c ks gives count t v ub pc line op ds (domain here a) (domain here b) (operand_code number here (t + 3) pc a)
-          (λ p. operand_code number here u p b) h.3
-          (read_right (t + 3) pc a (expression_right a _ h.0 f.0 (t + 3) pc (left_of a b stands)))
-          (λ p. read_right u p b (expression_right b _ h.1 f.1 u p (right_of a b stands)))
+          let v = stands_at a (t + 3) in
+          let ub = stands_at b u in
+          binary_right c ks gives count t v ub pc line op ds (domain here a) (domain here b) (expression_code number here (t + 3) pc a)
+          (λ p. expression_code number here u p b) h.3
+          (expression_right a _ h.0 f.0 (t + 3) pc (left_of a b stands))
+          (λ p. expression_right b _ h.1 f.1 u p (right_of a b stands))
           (as_left v (gives_private here a) op ds (value_read (t + 3) a _ h.0 (left_of a b stands)))
           (as_right ub (gives_private here b) op ds (value_read u b _ h.1 (right_of a b stands)))
           (as_left (t + 1) true op ds (private_at (t + 1) a _ h.0 (first_of stands)))
@@ -277,7 +266,7 @@ module _ (number : Numbers) (c : List Function) (ks : List Kind) (gives : Option
       expression_right (cut_node x a b) s h f t pc stands l =
           cut_operands t pc a b x h.0 h.1 (expression_right a _ h.0 f.0) (expression_right b _ h.1 f.1) stands l
       expression_right (declassify_node e) s h f t pc stands l =
-          behind_one (t + 1) pc e (Declassify t (read_at (variable_of e) (t + 1))) (expression_right e _ h.1 f (t + 1) pc (one e stands))
+          behind_one (t + 1) pc e (Declassify t (stands_at e (t + 1))) (expression_right e _ h.1 f (t + 1) pc (one e stands))
           (gives_private here e, (shape_in here e).element, (shape_in here e).array, read_kind (t + 1) e _ h.1 (one e stands), stands_first stands) l
 
       arguments_right : (b : List BoundDomain) (ss : List Slot) (n : ℕ) (es : TypedTrees) → AreTaken here b (take n ss) es → AreFit Known here b ss es
@@ -297,8 +286,8 @@ module _ (number : Numbers) (c : List Function) (ks : List Kind) (gives : Option
           let many = expression_registers here e in
           let u : t + 1 + width e ≡ t + 1 + length (expression_kinds here e) = omega (arith, many) in
           let behind = stands_right (t + 1 + width e) (expression_kinds here e) u rest in
-          let ce = operand_code number here (t + 1) pc e in
-          let r = read_at (variable_of e) (t + 1) in
+          let ce = expression_code number here (t + 1) pc e in
+          let r = stands_at e (t + 1) in
           let cl = classifying (lacks w g) t r in
           let p = pc + length ce in
           let q = p + length cl in
@@ -308,7 +297,7 @@ module _ (number : Numbers) (c : List Function) (ks : List Kind) (gives : Option
           let others = arguments_right b ss n es h.2 f.2 (t + 1 + width e) q behind in (
             λ l.
                 let after = within_right count pc p ce (cl ++ cs) refl l in
-                both_right c ks gives count ce _ (read_right (t + 1) pc e (expression_right e _ h.0 f.0 (t + 1) pc own) (within_left count pc ce (cl ++ cs) l))
+                both_right c ks gives count ce _ (expression_right e _ h.0 f.0 (t + 1) pc own (within_left count pc ce (cl ++ cs) l))
                 (both_right c ks gives count cl cs (lacking_right c ks gives count w g s.shape t r v k)
                 (others.0 (within_right count p q cl cs refl after))),
             (picked_kind c ks gives count w g s.shape t r (goes_may (domain here e) (domain_under b s.domain) h.1) v k, others.1),

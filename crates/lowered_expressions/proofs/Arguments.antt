@@ -12,7 +12,7 @@ use Rattle.language_model.specs.Evaluation.{gives_private, next_is_private, behi
 use Rattle.bytecode.specs.declared.kind.Kind.{Kind}
 use Rattle.verified_code.specs.Steps.{Step}
 use Rattle.code_model.specs.Kinds.{width, widths, expression_kinds, arguments_kinds, private_kind_in}
-use Rattle.code_model.specs.Expressions.{Numbers, classifying, picked, lacks, variable_of, read_at, operand_code, arguments_code, arguments_places}
+use Rattle.code_model.specs.Expressions.{Numbers, classifying, picked, lacks, stands_at, expression_code, arguments_code, arguments_places}
 use Rattle.code_model.proofs.Widths.{expression_registers}
 
 pub arguments_registers : (here : Setting) (ts : List TypedTree) → length (arguments_kinds here (typed_trees_of ts)) ≡ widths (typed_trees_of ts)
@@ -38,17 +38,17 @@ module _ (number : Numbers) (here : Setting) where
   -- an argument's code at n and p, wanted private or not
   abbrev pub argument_under : Bool → (n p : ℕ) → TypedTree → List Step
   argument_under wanted n p t =
-      operand_code number here (n + 1) p t ++ classifying (lacks wanted (gives_private here t)) n (read_at (variable_of t) (n + 1))
+      expression_code number here (n + 1) p t ++ classifying (lacks wanted (gives_private here t)) n (stands_at t (n + 1))
 
 module _ (number : Numbers) (here : Setting) (b : List BoundDomain) where
   -- an argument's code at n and p, where the slots are the parameters from its own on
   abbrev pub argument_code : List Slot → (n p : ℕ) → TypedTree → List Step
   argument_code s n p t =
-      operand_code number here (n + 1) p t
-      ++ classifying (lacks (next_is_private b s) (gives_private here t)) n (read_at (variable_of t) (n + 1))
+      expression_code number here (n + 1) p t
+      ++ classifying (lacks (next_is_private b s) (gives_private here t)) n (stands_at t (n + 1))
 
   abbrev pub argument_place : List Slot → (n : ℕ) → TypedTree → ℕ
-  argument_place s n t = picked (lacks (next_is_private b s) (gives_private here t)) n (read_at (variable_of t) (n + 1))
+  argument_place s n t = picked (lacks (next_is_private b s) (gives_private here t)) n (stands_at t (n + 1))
 
   pub code_more : (ts : List TypedTree) (t : TypedTree) (ss : List Slot) (r pc : ℕ) (s : List Slot) (n p : ℕ) → drop (length ts) ss ≡ s
       → r + widths (typed_trees_of ts) ≡ n → pc + length (arguments_code number here b ss r pc (typed_trees_of ts)) ≡ p
@@ -57,14 +57,14 @@ module _ (number : Numbers) (here : Setting) (b : List BoundDomain) where
   code_more [] t ss r pc s n p si ni pi =
       let e : r ≡ n = omega (arith, ni) in
       let f : pc ≡ p = omega (arith, pi) in
-      ap (λ (z : List Step). operand_code number here (r + 1) pc t ++ z)
-      (append-nil (classifying (lacks (next_is_private b ss) (gives_private here t)) r (read_at (variable_of t) (r + 1))))
+      ap (λ (z : List Step). expression_code number here (r + 1) pc t ++ z)
+      (append-nil (classifying (lacks (next_is_private b ss) (gives_private here t)) r (stands_at t (r + 1))))
       ∙ ap (λ (z : List Slot). argument_code z r pc t) si
       ∙ ap (λ (z : ℕ). argument_code s z pc t) e
       ∙ ap (λ (z : ℕ). argument_code s n z t) f
   code_more (e ∷ ts) t ss r pc s n p si ni pi =
-      let ce = operand_code number here (r + 1) pc e in
-      let cl = classifying (lacks (next_is_private b ss) (gives_private here e)) r (read_at (variable_of e) (r + 1)) in
+      let ce = expression_code number here (r + 1) pc e in
+      let cl = classifying (lacks (next_is_private b ss) (gives_private here e)) r (stands_at e (r + 1)) in
       let r2 = r + 1 + width e in
       let p2 = pc + length ce + length cl in
       let rest = arguments_code number here b (behind_next ss) r2 p2 (typed_trees_of ts) in

@@ -9,8 +9,8 @@ use Rattle.language_model.specs.Evaluation.{gives_private, connective, either}
 use Rattle.bytecode.specs.declared.kind.Kind.{Kind}
 use Rattle.verified_code.specs.Steps.{Step, At, Cat}
 use Rattle.code_model.specs.Kinds.{width}
-use Rattle.code_model.specs.Expressions.{Numbers, classifying, picked, lacks, variable_of, read_at, element_code, cat_code, binary_code, cut_code}
-use Rattle.code_model.specs.Expressions.{operand_code}
+use Rattle.code_model.specs.Expressions.{Numbers, classifying, picked, lacks, stands_at, element_code, cat_code, binary_code, cut_code}
+use Rattle.code_model.specs.Expressions.{expression_code}
 use Rattle.lowered_expressions.specs.Built.{Built, with_kind, with_step, with_code}
 use Rattle.lowered_expressions.proofs.Building.{Begun, begun_one, two_parts, stepped}
 
@@ -78,19 +78,19 @@ module _ (number : Numbers) (here : Setting) where
   cat_of line x y b g =
       let t = length b.kinds in
       let u = t + 3 + width x in
-      cat_code t (read_at (variable_of x) (t + 3)) (read_at (variable_of y) u) (length b.pieces) line
+      cat_code t (stands_at x (t + 3)) (stands_at y u) (length b.pieces) line
       (lacks g (gives_private here x)) (lacks g (gives_private here y))
-      (operand_code number here (t + 3) (length b.pieces) x) (λ p. operand_code number here u p y)
+      (expression_code number here (t + 3) (length b.pieces) x) (λ p. expression_code number here u p y)
 
   -- the code of a connective, where its left operand is private or not
   abbrev pub cut_of : Connective → (x y : TypedTree) → Built → (private : Bool) → List Step
   cut_of c x y b g =
       let t = length b.kinds in
-      let v = read_at (variable_of x) (t + 3) in
+      let v = stands_at x (t + 3) in
       let u = t + 3 + width x in
-      let uy = read_at (variable_of y) u in
-      let cx = operand_code number here (t + 3) (length b.pieces) x in
+      let uy = stands_at y u in
+      let cx = expression_code number here (t + 3) (length b.pieces) x in
       let gy = gives_private here y in
       either g
-      (binary_code t v uy (length b.pieces) 0 (binary.Bools (connective c)) Scalars (gives_private here x) gy cx (λ p. operand_code number here u p y))
-      (cut_code t v uy (length b.pieces) c gy cx (λ p. operand_code number here u p y))
+      (binary_code t v uy (length b.pieces) 0 (binary.Bools (connective c)) Scalars (gives_private here x) gy cx (λ p. expression_code number here u p y))
+      (cut_code t v uy (length b.pieces) c gy cx (λ p. expression_code number here u p y))

@@ -11,8 +11,8 @@ use Rattle.language_model.specs.Words.{truth_word}
 use Rattle.language_model.specs.Evaluation.{gives_private, bound_at, slots_of}
 use Rattle.verified_code.specs.Steps.{Step, Literal, Move, Binary, Not, Cast, Size, Sum, Bits, Declassify, Branch, Jump, Call}
 use Rattle.code_model.specs.Kinds.{expression_kinds, arguments_kinds}
-use Rattle.code_model.specs.Expressions.{Numbers, classifying, picked, lacks, mixes, settling, deciding, variable_of, read_at, one_code, expression_code}
-use Rattle.code_model.specs.Expressions.{operand_code, arguments_code, arguments_places}
+use Rattle.code_model.specs.Expressions.{Numbers, classifying, picked, lacks, mixes, settling, deciding, stands_at, one_code, expression_code}
+use Rattle.code_model.specs.Expressions.{expression_code, arguments_code, arguments_places}
 use Rattle.lowered_expressions.specs.declared.closing.One.{One}
 use Rattle.lowered_expressions.specs.declared.closing.One.TheVariants as ones
 use Rattle.lowered_expressions.specs.Built.{Built, with_code, with_steps, with_step_at}
@@ -67,22 +67,18 @@ module _ (number : Numbers) (here : Setting) (b : Built) where
   abbrev pub with_expression : TypedTree → Built
   with_expression e = with_code b (expression_kinds here e) (expression_code number here (length b.kinds) (length b.pieces) e)
 
-  -- an operand's, read where it stands
-  abbrev pub with_read : TypedTree → Built
-  with_read e = with_code b (expression_kinds here e) (operand_code number here (length b.kinds) (length b.pieces) e)
-
-  -- classified into a register where it is wanted private and isn't
+  -- an operand's, and its classification into a register where it is wanted private and isn't
   abbrev pub with_operand : (wanted : Bool) → (classified : ℕ) → TypedTree → Built
   with_operand wanted r e =
       with_code b (expression_kinds here e)
-      (operand_code number here (length b.kinds) (length b.pieces) e
-      ++ classifying (lacks wanted (gives_private here e)) r (read_at (variable_of e) (length b.kinds)))
+      (expression_code number here (length b.kinds) (length b.pieces) e
+      ++ classifying (lacks wanted (gives_private here e)) r (stands_at e (length b.kinds)))
 
   -- the operand of an operation, and its step
   abbrev pub with_one : One → (to : ℕ) → TypedTree → Built
   with_one one to e =
       with_code b (expression_kinds here e)
-      (one_code (one_step one to) (read_at (variable_of e) (to + 1)) (operand_code number here (to + 1) (length b.pieces) e))
+      (one_code (one_step one to) (stands_at e (to + 1)) (expression_code number here (to + 1) (length b.pieces) e))
 
   -- a call's, with the register of what it gives
   abbrev pub with_call : (line function : ℕ) → (to : Option ℕ) → TypedTrees → Built

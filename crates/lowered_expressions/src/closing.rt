@@ -25,8 +25,8 @@ pub enum One {
     Declassify,
 }
 
-/// Of an operation on two operands, of which the left one's code is there: the register of its value, that where the left operand
-/// stands, and whether this is private.
+/// An operation on two operands, of which the left one's code is there: the register of what it gives, the one where the left operand
+/// stands, and whether that operand is private.
 #[derive(Clone, Copy)]
 pub struct LeftOperand {
     pub to: usize,
@@ -84,19 +84,19 @@ fn settling<'p>(secret: bool, to: usize, source: usize) -> Step<'p>
     }
 }
 
-/// The end of a connective that is cut short: what the right operand gives, or what stands in its place. The branch at its place
-/// leads there.
+/// The end of a connective that is cut short: what the right operand gives, or what stands in its place, private where the right operand
+/// is. The branch at its place leads there.
 pub fn close_cut(
     body: &mut Body<'_>,
     connective: Connective,
-    secret: bool,
+    private: bool,
     left: LeftOperand,
     value: usize,
     branch: usize,
 ) -> Result<(), AllocError>
     requires branch { branch < length (built body.old).pieces }
-    requires registers { left.to + 3 ≤ length (built body.old).kinds }
-    ensures { OnOk result (built body.new ≡ cut_closed (built body.old) connective secret left.to left.value value branch) }
+    requires registers { left.to + 1 ≤ length (built body.old).kinds }
+    ensures { OnOk result (built body.new ≡ cut_closed (built body.old) connective private left.to left.value value branch) }
 {
     let to = left.to;
     let end = body.next_place() + 4;
@@ -108,7 +108,7 @@ pub fn close_cut(
         element: DataType::Bool,
         word: truth_word(deciding(connective)),
     })?;
-    body.push(settling(secret, to, to + 1))?;
+    body.push(settling(private, to, to + 1))?;
     body.set(
         branch,
         Step::Branch {

@@ -2,10 +2,10 @@
 ghost use Rattle.std.specs.Prelude.{◌≡◌, ◌+◌, ◌++◌, ◌∷◌, IfOk, OnOk, length, map};
 ghost use Rattle.typed_tree.specs.Tree.{typed_tree, typed_trees_of};
 ghost use Rattle.language_model.specs.Evaluation.{gives_private};
-ghost use Rattle.code_model.specs.Expressions.{classifying, lacks, operand_code, picked, read_at, variable_of};
+ghost use Rattle.code_model.specs.Expressions.{classifying, lacks, expression_code, picked, stands_at};
 ghost use Rattle.code_model.specs.Kinds.{expression_kinds, private_kind_in};
 ghost use Rattle.lowered_expressions.specs.Built.{with_code};
-ghost use Rattle.lowered_expressions.specs.Parts.{with_call, with_expression, with_operand, with_read};
+ghost use Rattle.lowered_expressions.specs.Parts.{with_call, with_expression, with_operand};
 ghost use Rattle.lowered_expressions.specs.Views.{built, here_of, numbers_of};
 
 use crate::around::Around;
@@ -16,14 +16,16 @@ use crate::noting::{arguments_notes, notes_of};
 use std::alloc::AllocError;
 use typed_tree::TypedExpression;
 
-/// Puts the registers and the code of an expression behind a body: its value stands in the first of them. An error comes where memory
-/// runs short. The time grows with the size of the expression, here and in what follows.
+/// Puts the registers and the code of an expression behind a body; the register where its value stands. That is the first of them, but a
+/// variable's is its slot, and it has no code. An error comes where memory runs short. The time grows with the size of the expression,
+/// here and in what follows.
 pub fn expression(
     body: &mut Body<'_>,
     around: &Around<'_>,
     e: &TypedExpression,
-) -> Result<(), AllocError>
-    ensures { OnOk result (built body.new ≡ with_expression (numbers_of around.now) (here_of around.now) (built body.old) (typed_tree e.now)) }
+) -> Result<usize, AllocError>
+    ensures built { OnOk result (built body.new ≡ with_expression (numbers_of around.now) (here_of around.now) (built body.old) (typed_tree e.now)) }
+    ensures register { IfOk result (λ r. r ≡ stands_at (typed_tree e.now) (length (built body.old).kinds)) }
 {
     let notes = notes_of(around.alloc, &around.here, e)?;
     expressions::expression(body, around, &notes, e)
@@ -41,24 +43,10 @@ pub fn operand(
     ensures built { OnOk result (built body.new ≡
         with_operand (numbers_of around.now) (here_of around.now) (built body.old) private classified (typed_tree e.now)) }
     ensures register { IfOk result (λ r. r ≡ picked (lacks private (gives_private (here_of around.now) (typed_tree e.now))) classified
-        (read_at (variable_of (typed_tree e.now)) (length (built body.old).kinds))) }
+        (stands_at (typed_tree e.now) (length (built body.old).kinds))) }
 {
     let notes = notes_of(around.alloc, &around.here, e)?;
     expressions::operand(body, around, private, classified, &notes, e)
-}
-
-/// Puts the registers and the code of an operand behind a body; the register where its value stands, that of a variable being its slot.
-/// An error comes where memory runs short.
-pub fn read(
-    body: &mut Body<'_>,
-    around: &Around<'_>,
-    e: &TypedExpression,
-) -> Result<usize, AllocError>
-    ensures built { OnOk result (built body.new ≡ with_read (numbers_of around.now) (here_of around.now) (built body.old) (typed_tree e.now)) }
-    ensures register { IfOk result (λ r. r ≡ read_at (variable_of (typed_tree e.now)) (length (built body.old).kinds)) }
-{
-    let notes = notes_of(around.alloc, &around.here, e)?;
-    expressions::read(body, around, &notes, e)
 }
 
 /// Puts the code of a call's arguments and the call behind a body; what it gives goes to a register, if there is one. An error
@@ -89,11 +77,11 @@ pub fn argument(
 ) -> Result<usize, AllocError>
     ensures built { OnOk result (built body.new ≡ with_code (built body.old)
         (private_kind_in (here_of around.now) (typed_tree e.now) ∷ expression_kinds (here_of around.now) (typed_tree e.now))
-        (operand_code (numbers_of around.now) (here_of around.now) (length (built body.old).kinds + 1) (length (built body.old).pieces) (typed_tree e.now)
+        (expression_code (numbers_of around.now) (here_of around.now) (length (built body.old).kinds + 1) (length (built body.old).pieces) (typed_tree e.now)
         ++ classifying (lacks private (gives_private (here_of around.now) (typed_tree e.now))) (length (built body.old).kinds)
-        (read_at (variable_of (typed_tree e.now)) (length (built body.old).kinds + 1)))) }
+        (stands_at (typed_tree e.now) (length (built body.old).kinds + 1)))) }
     ensures register { IfOk result (λ r. r ≡ picked (lacks private (gives_private (here_of around.now) (typed_tree e.now)))
-        (length (built body.old).kinds) (read_at (variable_of (typed_tree e.now)) (length (built body.old).kinds + 1))) }
+        (length (built body.old).kinds) (stands_at (typed_tree e.now) (length (built body.old).kinds + 1))) }
 {
     let notes = notes_of(around.alloc, &around.here, e)?;
     expressions::argument(body, around, private, &notes, e)

@@ -1,14 +1,14 @@
-// The code of expressions. They call one another, so they stand together. Each node has a register of its own, and a variable that is
-// an operand is read in its slot. Kinds are read off the notes of the tree, of which each function takes those of its own expressions:
-// the time grows with the size of a tree.
+// The code of expressions. They call one another, so they stand together. Each node has a register of its own, but a variable's value
+// stands in its slot. Kinds are read off the notes of the tree, of which each function takes those of its own expressions: the time
+// grows with the size of a tree.
 ghost use Rattle.std.specs.Prelude.{◌≡◌, ◌+◌, ◌≤◌, ◌++◌, ◌∷◌, [], IfOk, OnOk, Some, length, map};
 ghost use Rattle.typed_tree.specs.Tree.{binary_node, call_node, cat_node, cut_node, element_node, typed_tree, typed_trees_of};
 ghost use Rattle.verified_code.specs.Steps as S;
 ghost use Rattle.language_model.specs.Evaluation.{gives_private};
-ghost use Rattle.code_model.specs.Expressions.{arguments_code, arguments_places, classifying, lacks, operand_code, picked, read_at, variable_of};
+ghost use Rattle.code_model.specs.Expressions.{arguments_code, arguments_places, classifying, lacks, expression_code, picked, stands_at};
 ghost use Rattle.code_model.specs.Kinds.{arguments_kinds, expression_kinds, private_kind_in};
 ghost use Rattle.lowered_expressions.specs.Built.{with_code};
-ghost use Rattle.lowered_expressions.specs.Parts.{binary_rest, cut_rest, one_node, with_call, with_expression, with_operand, with_read};
+ghost use Rattle.lowered_expressions.specs.Parts.{binary_rest, cut_rest, one_node, with_call, with_expression, with_operand};
 ghost use Rattle.lowered_expressions.specs.Views.{built, here_of, numbers_of};
 ghost use Rattle.lowered_expressions.specs.inner.Notes.{arguments_notes, notes_of};
 
@@ -27,10 +27,37 @@ use secrec_ast::DataType;
 use std::alloc::AllocError;
 use typed_tree::{BinaryOperator, Connective, Operands, Operation, Shape, Slot, TypedExpression};
 
-/// Puts the registers and the code of an expression, of which these are the notes, behind a body: its value stands in the first of
-/// them. An error comes where memory runs short.
+/// Puts the registers and the code of an expression, of which these are the notes, behind a body; the register where its value stands.
+/// That is the first of them, but a variable's is its slot, and it has no code. An error comes where memory runs short.
 #[cycle(expressions)]
 pub fn expression(
+    body: &mut Body<'_>,
+    around: &Around<'_>,
+    notes: &[Note],
+    e: &TypedExpression,
+) -> Result<usize, AllocError>
+    requires { notes.now ≡ notes_of (here_of around.now) (typed_tree e.now) }
+    ensures built { OnOk result (built body.new ≡ with_expression (numbers_of around.now) (here_of around.now) (built body.old) (typed_tree e.now)) }
+    ensures register { IfOk result (λ r. r ≡ stands_at (typed_tree e.now) (length (built body.old).kinds)) }
+{
+    let first = body.next_register();
+    node(body, around, notes, e)?;
+    Ok(place(e, first))
+}
+
+// Where the value of an expression stands whose first register this is.
+fn place(e: &TypedExpression, first: usize) -> usize
+    ensures { result ≡ stands_at (typed_tree e.now) first }
+{
+    match e {
+        TypedExpression::Variable(slot) => *slot,
+        _ => first,
+    }
+}
+
+// The registers and the code of a node and what is below it.
+#[cycle(expressions)]
+fn node(
     body: &mut Body<'_>,
     around: &Around<'_>,
     notes: &[Note],
@@ -42,7 +69,7 @@ pub fn expression(
     match e {
         TypedExpression::Word(word) => literal(body, first_kind(notes), *word),
         TypedExpression::Truth(truth) => { literal(body, first_kind(notes), truth_word(*truth)) }
-        TypedExpression::Variable(slot) => variable(body, first_kind(notes), *slot),
+        TypedExpression::Variable(_) => variable(body, first_kind(notes)),
         TypedExpression::Call(line, function, list) => {
             read_call(body, around, notes, *line, *function, list)
         }
@@ -80,34 +107,12 @@ fn literal(body: &mut Body<'_>, kind: Kind, word: u64) -> Result<(), AllocError>
     })
 }
 
-// What stands in a slot.
-fn variable(body: &mut Body<'_>, kind: Kind, slot: usize) -> Result<(), AllocError>
-    ensures { OnOk result (built body.new ≡ with_code (built body.old) (kind ∷ []) (S.Move (length (built body.old).kinds) slot ∷ [])) }
+// A variable has no step.
+fn variable(body: &mut Body<'_>, kind: Kind) -> Result<(), AllocError>
+    ensures { OnOk result (built body.new ≡ with_code (built body.old) (kind ∷ []) []) }
 {
-    let to = body.fresh(kind)?;
-    body.push(Step::Move { to, source: slot })
-}
-
-/// Puts the registers and the code of an operand behind a body; the register where its value stands. That of a variable is its slot,
-/// and no step leads there. An error comes where memory runs short.
-#[cycle(expressions)]
-pub fn read(
-    body: &mut Body<'_>,
-    around: &Around<'_>,
-    notes: &[Note],
-    e: &TypedExpression,
-) -> Result<usize, AllocError>
-    requires { notes.now ≡ notes_of (here_of around.now) (typed_tree e.now) }
-    ensures built { OnOk result (built body.new ≡ with_read (numbers_of around.now) (here_of around.now) (built body.old) (typed_tree e.now)) }
-    ensures register { IfOk result (λ r. r ≡ read_at (variable_of (typed_tree e.now)) (length (built body.old).kinds)) }
-{
-    let own = body.next_register();
-    if let TypedExpression::Variable(slot) = e {
-        body.fresh(first_kind(notes))?;
-        return Ok(*slot);
-    }
-    expression(body, around, notes, e)?;
-    Ok(own)
+    body.fresh(kind)?;
+    Ok(())
 }
 
 /// The code of an operand, and its classification into a register where it is wanted private and isn't; the register where it
@@ -125,10 +130,10 @@ pub fn operand(
     ensures built { OnOk result (built body.new ≡
         with_operand (numbers_of around.now) (here_of around.now) (built body.old) private classified (typed_tree e.now)) }
     ensures register { IfOk result (λ r. r ≡ picked (lacks private (gives_private (here_of around.now) (typed_tree e.now))) classified
-        (read_at (variable_of (typed_tree e.now)) (length (built body.old).kinds))) }
+        (stands_at (typed_tree e.now) (length (built body.old).kinds))) }
 {
     let given = first_is_private(notes);
-    let value = read(body, around, notes, e)?;
+    let value = expression(body, around, notes, e)?;
     wanted(
         body,
         WantedOperand {
@@ -153,7 +158,7 @@ fn one(
         with_expression (numbers_of around.now) (here_of around.now) (built body.old) (one_node one (typed_tree x.now))) }
 {
     let to = body.fresh(first_kind(notes))?;
-    let source = read(body, around, behind_first(notes), x)?;
+    let source = expression(body, around, behind_first(notes), x)?;
     body.push(one_step(one, to, source))
 }
 
@@ -173,8 +178,8 @@ fn element(
 {
     let (left, right) = parted(behind_first(notes));
     let to = body.fresh(first_kind(notes))?;
-    let from = read(body, around, left, array)?;
-    let at = read(body, around, right, index)?;
+    let from = expression(body, around, left, array)?;
+    let at = expression(body, around, right, index)?;
     body.push(Step::At {
         line,
         to,
@@ -232,7 +237,7 @@ fn binary(
     let to = body.fresh(first_kind(notes))?;
     body.fresh(first_private_kind(left))?;
     body.fresh(first_private_kind(right))?;
-    let value = read(body, around, left, a)?;
+    let value = expression(body, around, left, a)?;
     let left_operand = LeftOperand {
         to,
         value,
@@ -254,9 +259,9 @@ fn both(
     requires notes { notes.now ≡ notes_of (here_of around.now) (typed_tree b.now) }
     requires registers { left.to + 3 ≤ length (built body.old).kinds }
     ensures { OnOk result (built body.new ≡ with_code (built body.old) (expression_kinds (here_of around.now) (typed_tree b.now))
-        (binary_rest left.to left.value (read_at (variable_of (typed_tree b.now)) (length (built body.old).kinds)) (length (built body.old).pieces)
+        (binary_rest left.to left.value (stands_at (typed_tree b.now) (length (built body.old).kinds)) (length (built body.old).pieces)
         operation.line operation.operator operation.operands left.secret (gives_private (here_of around.now) (typed_tree b.now))
-        (λ p. operand_code (numbers_of around.now) (here_of around.now) (length (built body.old).kinds) p (typed_tree b.now)))) }
+        (λ p. expression_code (numbers_of around.now) (here_of around.now) (length (built body.old).kinds) p (typed_tree b.now)))) }
 {
     let LeftOperand {
         to,
@@ -264,7 +269,7 @@ fn both(
         secret,
     } = left;
     let right = first_is_private(notes);
-    let value = read(body, around, notes, b)?;
+    let value = expression(body, around, notes, b)?;
     let left_operand = WantedOperand {
         lacks: mixes(operation.operator, secret, right),
         classified: to + 1,
@@ -297,7 +302,7 @@ fn cut(
     let to = body.fresh(first_kind(notes))?;
     body.fresh(kind_of(secret, Shape::scalar(DataType::Bool)))?;
     body.fresh(kind_of(true, Shape::scalar(DataType::Bool)))?;
-    let value = read(body, around, left, a)?;
+    let value = expression(body, around, left, a)?;
     let left_operand = LeftOperand { to, value, secret };
     if secret {
         let operation = Operation {
@@ -324,15 +329,15 @@ fn cut_short(
     requires notes { notes.now ≡ notes_of (here_of around.now) (typed_tree b.now) }
     requires registers { left.to + 3 ≤ length (built body.old).kinds }
     ensures { OnOk result (built body.new ≡ with_code (built body.old) (expression_kinds (here_of around.now) (typed_tree b.now))
-        (cut_rest left.to left.value (read_at (variable_of (typed_tree b.now)) (length (built body.old).kinds)) (length (built body.old).pieces) connective
+        (cut_rest left.to left.value (stands_at (typed_tree b.now) (length (built body.old).kinds)) (length (built body.old).pieces) connective
         (gives_private (here_of around.now) (typed_tree b.now))
-        (λ p. operand_code (numbers_of around.now) (here_of around.now) (length (built body.old).kinds) p (typed_tree b.now)))) }
+        (λ p. expression_code (numbers_of around.now) (here_of around.now) (length (built body.old).kinds) p (typed_tree b.now)))) }
 {
-    let secret = first_is_private(notes);
+    let private = first_is_private(notes);
     let branch = body.next_place();
     body.push(Step::ReturnNone)?;
-    let value = read(body, around, notes, b)?;
-    close_cut(body, connective, secret, left, value, branch)
+    let value = expression(body, around, notes, b)?;
+    close_cut(body, connective, private, left, value, branch)
 }
 
 // A call whose value is read.
@@ -428,11 +433,11 @@ pub fn argument(
     requires { notes.now ≡ notes_of (here_of around.now) (typed_tree e.now) }
     ensures built { OnOk result (built body.new ≡ with_code (built body.old)
         (private_kind_in (here_of around.now) (typed_tree e.now) ∷ expression_kinds (here_of around.now) (typed_tree e.now))
-        (operand_code (numbers_of around.now) (here_of around.now) (length (built body.old).kinds + 1) (length (built body.old).pieces) (typed_tree e.now)
+        (expression_code (numbers_of around.now) (here_of around.now) (length (built body.old).kinds + 1) (length (built body.old).pieces) (typed_tree e.now)
         ++ classifying (lacks private (gives_private (here_of around.now) (typed_tree e.now))) (length (built body.old).kinds)
-        (read_at (variable_of (typed_tree e.now)) (length (built body.old).kinds + 1)))) }
+        (stands_at (typed_tree e.now) (length (built body.old).kinds + 1)))) }
     ensures register { IfOk result (λ r. r ≡ picked (lacks private (gives_private (here_of around.now) (typed_tree e.now)))
-        (length (built body.old).kinds) (read_at (variable_of (typed_tree e.now)) (length (built body.old).kinds + 1))) }
+        (length (built body.old).kinds) (stands_at (typed_tree e.now) (length (built body.old).kinds + 1))) }
 {
     let classified = body.fresh(first_private_kind(notes))?;
     operand(body, around, private, classified, notes, e)

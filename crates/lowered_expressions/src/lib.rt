@@ -17,7 +17,7 @@ mod words;
 pub use around::Around;
 pub use body::Body;
 pub use calling::given_to;
-pub use entries::{argument, call, expression, operand, read};
+pub use entries::{argument, call, expression, operand};
 pub use kinds::{kind, kind_of, private_kind};
 pub use operands::{WantedOperand, wanted};
 pub use step::{BodyPiece, Step};

@@ -6,7 +6,7 @@ use Rattle.typed_tree.specs.Tree.{TypedTree}
 use Rattle.reached_instances.specs.Domains.{Setting}
 use Rattle.language_model.specs.Evaluation.{gives_private, slot_is_private}
 use Rattle.code_model.specs.Kinds.{width, expression_kinds, private_kind_in}
-use Rattle.code_model.specs.Expressions.{Numbers, classifying, lacks, picked, variable_of, read_at, operand_code}
+use Rattle.code_model.specs.Expressions.{Numbers, classifying, lacks, picked, stands_at, expression_code}
 use Rattle.lowered_expressions.specs.Built.{Built, with_kind, with_step, with_code}
 use Rattle.lowered_expressions.proofs.Building.{begun_one, two_parts, stepped}
 use Rattle.lowering.specs.declared.simple_statements.Pair.{Pair}
@@ -47,11 +47,11 @@ module _ (number : Numbers) (here : Setting) where
   pair_code b n e w last =
       let t = length b.kinds in
       let u = t + 1 + width n in
-      let r = read_at (variable_of e) u in
-      let cn = operand_code number here (t + 1) (length b.pieces) n in
-      cn ++ (operand_code number here u (length b.pieces + length cn) e
+      let r = stands_at e u in
+      let cn = expression_code number here (t + 1) (length b.pieces) n in
+      cn ++ (expression_code number here u (length b.pieces + length cn) e
       ++ (classifying (lacks w (gives_private here e)) t r
-      ++ last (read_at (variable_of n) (t + 1)) (picked (lacks w (gives_private here e)) t r) ∷ []))
+      ++ last (stands_at n (t + 1)) (picked (lacks w (gives_private here e)) t r) ∷ []))
 
   pub pair_is : (b : Built) (pair : Pair) (line slot : ℕ) (n e : TypedTree)
       → with_code b (private_kind_in here e ∷ (expression_kinds here n ++ expression_kinds here e))

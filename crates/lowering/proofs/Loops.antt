@@ -9,12 +9,12 @@ use Rattle.language_model.specs.Evaluation.{StatementContext}
 use Rattle.bytecode.specs.declared.kind.Kind.{Kind}
 use Rattle.verified_code.specs.Steps.{Step, Branch, Jump, ReturnNone}
 use Rattle.code_model.specs.Kinds.{expression_kinds}
-use Rattle.code_model.specs.Expressions.{Numbers, variable_of, read_at, operand_code}
+use Rattle.code_model.specs.Expressions.{Numbers, stands_at, expression_code}
 use Rattle.code_model.specs.Statements.{statement_width, statement_kinds, statement_code}
-use Rattle.code_model.proofs.Lengths.{operand_length, statement_length}
+use Rattle.code_model.proofs.Lengths.{expression_length, statement_length}
 use Rattle.code_model.proofs.Widths.{statements_registers}
 use Rattle.lowered_expressions.specs.Built.{BodyPiece, whole, Built, with_step, with_step_at}
-use Rattle.lowered_expressions.specs.Parts.{with_read}
+use Rattle.lowered_expressions.specs.Parts.{with_expression}
 use Rattle.lowered_expressions.proofs.Building.{body_of}
 use Rattle.lowering.specs.inner.Pieces.{placed, settled, settled_part, statement_pieces, with_pieces, with_settled, with_statement}
 use Rattle.lowering.proofs.SettledParts.{part_between}
@@ -82,10 +82,10 @@ module _ (number : Numbers) (at : StatementContext) (e : TypedTree) where
   pub loop_made : (step body : TypedStatementTree) (b0 b1 b2 b3 b4 b5 b6 b7 b8 : Built) (jump start onward test condition end n m : ℕ)
       → b1 ≡ with_step b0 ReturnNone
       → b2 ≡ with_statement number at b1 body → b3 ≡ with_statement number at b2 step
-      → b4 ≡ with_read number at.here b3 e → b5 ≡ with_step b4 (Branch condition true start)
+      → b4 ≡ with_expression number at.here b3 e → b5 ≡ with_step b4 (Branch condition true start)
       → b6 ≡ with_step_at b5 jump (Jump test) → b7 ≡ with_settled b6 start n end onward → b8 ≡ with_settled b7 onward m end test
       → jump ≡ length b0.pieces → start ≡ length b1.pieces → onward ≡ length b2.pieces → test ≡ length b3.pieces
-      → condition ≡ read_at (variable_of e) (length b3.kinds) → end ≡ length b5.pieces → n ≡ onward - start → m ≡ test - onward
+      → condition ≡ stands_at e (length b3.kinds) → end ≡ length b5.pieces → n ≡ onward - start → m ≡ test - onward
       → b8 ≡ with_statement number at b0 (loop_statement e step body)
   loop_made step body b0 b1 b2 b3 b4 b5 b6 b7 b8 jump start onward test condition end n m e1 e2 e3 e4 e5 e6 e7 e8 at_jump at_start at_onward at_test
       at_condition at_end n_is m_is =
@@ -103,7 +103,7 @@ module _ (number : Numbers) (at : StatementContext) (e : TypedTree) where
       let py = pc + 1 + length ca in
       let cs = statement_pieces number at ts py step in
       let pt = py + length cs in
-      let ce = operand_code number here te pt e in
+      let ce = expression_code number here te pt e in
       let px = pt + length ce + 1 in
       let r1 = registers_step b0 b1 ReturnNone e1 in
       let p1 = places_step b0 b1 ReturnNone e1 in
@@ -115,15 +115,15 @@ module _ (number : Numbers) (at : StatementContext) (e : TypedTree) where
       let f3 : b3 ≡ with_pieces b2 k2 cs = e3 ∙ ap₂ (λ (x y : ℕ). with_pieces b2 k2 (statement_pieces number at x y step)) r2 p2 in
       let r3 : length b3.kinds ≡ te = omega (arith, registers_behind b2 b3 k2 cs f3, r2, many2) in
       let p3 : length b3.pieces ≡ pt = omega (arith, places_behind b2 b3 k2 cs f3, p2) in
-      let f4 : b4 ≡ with_pieces b3 ke (map whole ce) = e4 ∙ ap₂ (λ (x y : ℕ). with_pieces b3 ke (map whole (operand_code number here x y e))) r3 p3 in
+      let f4 : b4 ≡ with_pieces b3 ke (map whole ce) = e4 ∙ ap₂ (λ (x y : ℕ). with_pieces b3 ke (map whole (expression_code number here x y e))) r3 p3 in
       let p4 : length b4.pieces ≡ pt + length ce = omega (arith, places_behind b3 b4 ke (map whole ce) f4, p3, length-map ce whole) in
       let p5 : length b5.pieces ≡ px = omega (arith, places_step b4 b5 (Branch condition true start) e5, p4) in
       let start_is : start ≡ pc + 1 = at_start ∙ p1 in
       let onward_is : onward ≡ py = at_onward ∙ p2 in
       let test_is : test ≡ pt = at_test ∙ p3 in
-      let condition_is : condition ≡ read_at (variable_of e) te = at_condition ∙ ap (read_at (variable_of e)) r3 in
+      let condition_is : condition ≡ stands_at e te = at_condition ∙ ap (stands_at e) r3 in
       let end_is : end ≡ px = at_end ∙ p5 in
-      let branch = Branch (read_at (variable_of e) te) true (pc + 1) in
+      let branch = Branch (stands_at e te) true (pc + 1) in
       let f5 : b5 ≡ with_step b4 branch = e5 ∙ ap₂ (λ (x y : ℕ). with_step b4 (Branch x true y)) condition_is start_is in
       let held = whole ReturnNone in
       let ks = b0.kinds ++ (k1 ++ (k2 ++ ke)) in
@@ -139,8 +139,8 @@ module _ (number : Numbers) (at : StatementContext) (e : TypedTree) where
       let ns' = statement_as_long number at px pt ts py step in
       let py' = pc + 1 + length (statement_code number at t 0 0 0 body) in
       let pt' = py' + length (statement_code number at ts 0 0 0 step) in
-      let px' = pt' + length (operand_code number here te 0 e) + 1 in
-      let ne' = operand_length number here e te pt 0 in
+      let px' = pt' + length (expression_code number here te 0 e) + 1 in
+      let ne' = expression_length number here e te pt 0 in
       let qy : py ≡ py' = omega (arith, na') in
       let qt : pt ≡ pt' = omega (arith, na', ns') in
       let qx : px ≡ px' = omega (arith, na', ns', ne') in
@@ -161,13 +161,13 @@ module _ (number : Numbers) (at : StatementContext) (e : TypedTree) where
       ∙ ap₂ (λ (x y : ℕ). body_of ks (b0.pieces ++ map whole (Jump x ∷ (statement_code number at t px' py' (pc + 1) body
       ++ (statement_code number at ts px' x y step ++ (ce ++ branch ∷ [])))))) (test_is ∙ qt) qy
       ∙ ap (λ (x : ℕ). body_of ks (b0.pieces ++ map whole (Jump pt' ∷ (statement_code number at t px' py' (pc + 1) body
-      ++ (statement_code number at ts px' pt' py' step ++ (operand_code number here te x e ++ branch ∷ [])))))) qt
+      ++ (statement_code number at ts px' pt' py' step ++ (expression_code number here te x e ++ branch ∷ [])))))) qt
       ∙ ap₂ (λ (x y : ℕ). body_of ks (b0.pieces ++ map whole (Jump y ∷ (statement_code number at t px' py' (pc + 1) body
-      ++ (statement_code number at ts px' pt' x step ++ (operand_code number here te y e ++ branch ∷ [])))))) sy st
+      ++ (statement_code number at ts px' pt' x step ++ (expression_code number here te y e ++ branch ∷ [])))))) sy st
 
   pub do_made : (body : TypedStatementTree) (b0 b1 b2 b3 b4 : Built) (start test condition end n : ℕ)
-      → b1 ≡ with_statement number at b0 body → b2 ≡ with_read number at.here b1 e → b3 ≡ with_step b2 (Branch condition true start)
-      → b4 ≡ with_settled b3 start n end test → start ≡ length b0.pieces → test ≡ length b1.pieces → condition ≡ read_at (variable_of e) (length b1.kinds)
+      → b1 ≡ with_statement number at b0 body → b2 ≡ with_expression number at.here b1 e → b3 ≡ with_step b2 (Branch condition true start)
+      → b4 ≡ with_settled b3 start n end test → start ≡ length b0.pieces → test ≡ length b1.pieces → condition ≡ stands_at e (length b1.kinds)
       → end ≡ length b3.pieces → n ≡ test - start
       → b4 ≡ with_statement number at b0 (do_statement body e)
   do_made body b0 b1 b2 b3 b4 start test condition end n e1 e2 e3 e4 at_start at_test at_condition at_end n_is =
@@ -179,18 +179,18 @@ module _ (number : Numbers) (at : StatementContext) (e : TypedTree) where
       let ke = expression_kinds here e in
       let ca = statement_pieces number at t pc body in
       let pt = pc + length ca in
-      let ce = operand_code number here te pt e in
+      let ce = expression_code number here te pt e in
       let px = pt + length ce + 1 in
       let many1 = statement_registers here body in
       let r1 : length b1.kinds ≡ te = omega (arith, registers_behind b0 b1 k1 ca e1, many1) in
       let p1 : length b1.pieces ≡ pt = places_behind b0 b1 k1 ca e1 in
-      let f2 : b2 ≡ with_pieces b1 ke (map whole ce) = e2 ∙ ap₂ (λ (x y : ℕ). with_pieces b1 ke (map whole (operand_code number here x y e))) r1 p1 in
+      let f2 : b2 ≡ with_pieces b1 ke (map whole ce) = e2 ∙ ap₂ (λ (x y : ℕ). with_pieces b1 ke (map whole (expression_code number here x y e))) r1 p1 in
       let p2 : length b2.pieces ≡ pt + length ce = omega (arith, places_behind b1 b2 ke (map whole ce) f2, p1, length-map ce whole) in
       let p3 : length b3.pieces ≡ px = omega (arith, places_step b2 b3 (Branch condition true start) e3, p2) in
       let test_is : test ≡ pt = at_test ∙ p1 in
-      let condition_is : condition ≡ read_at (variable_of e) te = at_condition ∙ ap (read_at (variable_of e)) r1 in
+      let condition_is : condition ≡ stands_at e te = at_condition ∙ ap (stands_at e) r1 in
       let end_is : end ≡ px = at_end ∙ p3 in
-      let branch = Branch (read_at (variable_of e) te) true pc in
+      let branch = Branch (stands_at e te) true pc in
       let f3 : b3 ≡ with_step b2 branch = e3 ∙ ap₂ (λ (x y : ℕ). with_step b2 (Branch x true y)) condition_is at_start in
       let ks = b0.kinds ++ (k1 ++ ke) in
       let tail = map whole ce ++ whole branch ∷ [] in
@@ -200,8 +200,8 @@ module _ (number : Numbers) (at : StatementContext) (e : TypedTree) where
       let na : n ≡ length ca = omega (arith, n_is, test_is, at_start) in
       let na' = statement_as_long number at px pt t pc body in
       let pt' = pc + length (statement_code number at t 0 0 0 body) in
-      let px' = pt' + length (operand_code number here te 0 e) + 1 in
-      let ne' = operand_length number here e te pt 0 in
+      let px' = pt' + length (expression_code number here te 0 e) + 1 in
+      let ne' = expression_length number here e te pt 0 in
       let qt : pt ≡ pt' = omega (arith, na') in
       let qx : px ≡ px' = omega (arith, na', ne') in
       let pt'' = pc + length (statement_code number at t px' pt' pc body) in
@@ -213,4 +213,4 @@ module _ (number : Numbers) (at : StatementContext) (e : TypedTree) where
       ∙ do_same b0.pieces end test ca ce branch (statement_code number at t end test pc body) (statement_placed number at end test t pc body))
       ∙ ap₂ (λ (x y : ℕ). body_of ks (b0.pieces ++ map whole (statement_code number at t x y pc body ++ (ce ++ branch ∷ [])))) (end_is ∙ qx) (test_is ∙ qt)
       ∙ ap (λ (x : ℕ).
-      body_of ks (b0.pieces ++ map whole (statement_code number at t px' pt' pc body ++ (operand_code number here te x e ++ branch ∷ [])))) st
+      body_of ks (b0.pieces ++ map whole (statement_code number at t px' pt' pc body ++ (expression_code number here te x e ++ branch ∷ [])))) st

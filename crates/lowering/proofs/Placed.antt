@@ -9,7 +9,7 @@ use Rattle.typed_tree.specs.Statements as Statements'
 use Rattle.language_model.specs.Evaluation.{StatementContext}
 use Rattle.verified_code.specs.Steps.{Step, Branch, Jump}
 use Rattle.code_model.specs.Kinds.{width}
-use Rattle.code_model.specs.Expressions.{Numbers, variable_of, read_at, operand_code}
+use Rattle.code_model.specs.Expressions.{Numbers, stands_at, expression_code}
 use Rattle.code_model.specs.Statements.{statement_width, statement_code, statements_code, if_code}
 use Rattle.code_model.proofs.Lengths.{statement_length}
 use Rattle.lowered_expressions.specs.Built.{BodyPiece, whole}
@@ -50,7 +50,7 @@ module _ (number : Numbers) (at : StatementContext) (x y : ℕ) where
     statement_placed t pc empty_statement = refl
     statement_placed t pc (block_statement cs) = statements_placed t pc cs
     statement_placed t pc (if_statement e a b) =
-        if_placed x y pc (read_at (variable_of e) t) (operand_code number at.here t pc e) (λ p. statement_pieces number at (t + width e) p a)
+        if_placed x y pc (stands_at e t) (expression_code number at.here t pc e) (λ p. statement_pieces number at (t + width e) p a)
         (λ p. statement_pieces number at (t + width e + statement_width a) p b) (λ p. statement_code number at (t + width e) x y p a)
         (λ p. statement_code number at (t + width e + statement_width a) x y p b) (λ p. statement_placed (t + width e) p a)
         (λ p. statement_placed (t + width e + statement_width a) p b)

@@ -12,7 +12,7 @@ ghost use Rattle.lowering.specs.inner.Views.{numbers_at, place_seen};
 use crate::place::LoweringContext;
 use lowered_expressions::{
     Around, Body, Step, WantedOperand, argument, call, expression, given_to, kind, kind_of, lacks,
-    operand, private_kind, read, wanted,
+    operand, private_kind, wanted,
 };
 use reached_instances::{slot_is_private, slot_shape};
 use sc_text::Name;
@@ -46,7 +46,7 @@ pub fn assertion(
     ensures { OnOk result (built body.new ≡
         with_leaf (numbers_of around.now) (here_of around.now) (built body.old) (assert_statement line (typed_tree e.now))) }
 {
-    let condition = read(body, around, e)?;
+    let condition = expression(body, around, e)?;
     body.push(Step::Assert { line, condition })
 }
 
@@ -60,7 +60,7 @@ pub fn publishing<'p>(
     ensures { OnOk result (built body.new ≡
         with_leaf (numbers_of around.now) (here_of around.now) (built body.old) (publish_statement text.now (typed_tree e.now))) }
 {
-    let source = read(body, around, e)?;
+    let source = expression(body, around, e)?;
     body.push(Step::Publish { text, source })
 }
 
@@ -190,7 +190,7 @@ pub fn pair_store(
 {
     let private = slot_is_private(&around.here, store.slot);
     let classified = body.fresh(private_kind(&around.here, e))?;
-    let first = read(body, around, number)?;
+    let first = expression(body, around, number)?;
     let second = operand(body, around, private, classified, e)?;
     body.push(pair_step(store, first, second))
 }
@@ -205,7 +205,8 @@ pub fn unread(
         with_leaf (numbers_of around.now) (here_of around.now) (built body.old) (evaluate_statement (typed_tree e.now))) }
 {
     let TypedExpression::Call(line, function, list) = e else {
-        return expression(body, around, e);
+        expression(body, around, e)?;
+        return Ok(());
     };
     let own = body.fresh(kind(around.alloc, &around.here, e)?)?;
     let to = given_to(&around.here, *function, own);

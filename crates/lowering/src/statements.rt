@@ -12,7 +12,7 @@ use crate::simple_statements::{
     Pair, PairStore, assertion, default_store, input, pair_store, publishing, returning, store,
     unread,
 };
-use lowered_expressions::{Body, BodyPiece, Step, read};
+use lowered_expressions::{Body, BodyPiece, Step, expression};
 use std::alloc::AllocError;
 use typed_tree::{TypedExpression, TypedStatement};
 
@@ -87,7 +87,7 @@ fn choice<'p>(
     ensures { OnOk result (built body.new ≡ with_statement (numbers_at at.now) (place_seen at.now) (built body.old)
         (if_statement (typed_tree e.now) (typed_statement first.now) (typed_statement second.now))) }
 {
-    let condition = read(body, &at.around, e)?;
+    let condition = expression(body, &at.around, e)?;
     let branch = body.next_place();
     body.push(Step::ReturnNone)?;
     statement(body, at, first)?;
@@ -127,7 +127,7 @@ fn turns<'p>(
     let onward = body.next_place();
     statement(body, at, step)?;
     let test = body.next_place();
-    let condition = read(body, &at.around, e)?;
+    let condition = expression(body, &at.around, e)?;
     body.push(Step::Branch {
         condition,
         value: true,
@@ -154,7 +154,7 @@ fn repeats<'p>(
     let start = body.next_place();
     statement(body, at, repeated)?;
     let test = body.next_place();
-    let condition = read(body, &at.around, e)?;
+    let condition = expression(body, &at.around, e)?;
     body.push(Step::Branch {
         condition,
         value: true,

@@ -33,7 +33,7 @@ use Rattle.verified_code.specs.Steps.{Argument, Publish, Assert, Branch, Jump, C
 use Rattle.code_model.specs.Kinds.{width, kind_of}
 use Rattle.code_model.specs.Kinded.{IsIn}
 use Rattle.code_model.specs.Expressions.{Numbers, result_at, classifying, picked, lacks, mixes, binary_code, cat_code, deciding, settling, cut_code}
-use Rattle.code_model.specs.Expressions.{variable_of, read_code, read_at, expression_code, operand_code, arguments_code, arguments_places, unread_code}
+use Rattle.code_model.specs.Expressions.{stands_at, expression_code, arguments_code, arguments_places, unread_code}
 use Rattle.code_model.specs.Statements.{shape_number, first_free, statement_width, statements_width, if_code, loop_code, do_code, behind_classifying}
 use Rattle.code_model.specs.Statements.{statement_code, statements_code}
 use Rattle.code_model.specs.Programs.{last_step, body_end, function_code, numbers_in, code_of_found, instance_code, code_of}
@@ -129,10 +129,6 @@ module _ (is_word is_line : ℕ → Bool) (is_text : List ℕ → Bool) where
         (then_all (Literal (t + 1) datatype.Bool (truth_word (deciding c))) (truth_says (deciding c))
         (one (settling secret t (t + 1)) (settling_says secret t (t + 1))))))))
 
-    read_says : (o : Option ℕ) (c : List Step) → AllSay c → AllSay (read_code o c)
-    read_says None c h = h
-    read_says (Some k) c h = nothing
-
     module _ (number : Numbers) (here : Setting) where
       abbrev bound_of : ℕ → TypedTrees → List BoundDomain
       bound_of k es = bound_at (slice_get here.functions k) (domains here es)
@@ -144,60 +140,60 @@ module _ (is_word is_line : ℕ → Bool) (is_text : List ℕ → Bool) where
         pub expression_says : (e : TypedTree) (t pc : ℕ) → TreeSays is_word is_line is_text e → AllSay (expression_code number here t pc e)
         expression_says (word_node n) t pc h = one (Literal t Uint64 n) h
         expression_says (truth_node b) t pc h = one (Literal t datatype.Bool (truth_word b)) (truth_says b)
-        expression_says (slot_node k) t pc h = one (Move t k) tt
+        expression_says (slot_node k) t pc h = nothing
         expression_says (call_node line k es) t pc h =
             both (arguments_say (bound_of k es) (slots_at k) es (t + 1) pc h.1)
             (one (Call line (number k (bound_of k es)) (Some t) (arguments_places number here (bound_of k es) (slots_at k) (t + 1) es)) h.0)
-        expression_says (size_node e) t pc h = both (read_says (variable_of e) _ (expression_says e (t + 1) pc h))
-            (one (Size t (read_at (variable_of e) (t + 1))) tt)
+        expression_says (size_node e) t pc h = both (expression_says e (t + 1) pc h)
+            (one (Size t (stands_at e (t + 1))) tt)
         expression_says (cat_node line a b) t pc h =
             let g = gives_private here (cat_node line a b) in
             let u = t + 3 + width a in
-            cat_says t (read_at (variable_of a) (t + 3)) (read_at (variable_of b) u) pc line (lacks g (gives_private here a)) (lacks g (gives_private here b))
-            (operand_code number here (t + 3) pc a) (λ p. operand_code number here u p b) h.0
-            (read_says (variable_of a) _ (expression_says a (t + 3) pc h.1)) (λ p. read_says (variable_of b) _ (expression_says b u p h.2))
-        expression_says (sum_node e) t pc h = both (read_says (variable_of e) _ (expression_says e (t + 1) pc h))
-            (one (Sum t (read_at (variable_of e) (t + 1))) tt)
+            cat_says t (stands_at a (t + 3)) (stands_at b u) pc line (lacks g (gives_private here a)) (lacks g (gives_private here b))
+            (expression_code number here (t + 3) pc a) (λ p. expression_code number here u p b) h.0
+            (expression_says a (t + 3) pc h.1) (λ p. expression_says b u p h.2)
+        expression_says (sum_node e) t pc h = both (expression_says e (t + 1) pc h)
+            (one (Sum t (stands_at e (t + 1))) tt)
         expression_says (bits_node line e) t pc h =
-            both (read_says (variable_of e) _ (expression_says e (t + 1) pc h.1)) (one (Bits line t (read_at (variable_of e) (t + 1))) h.0)
+            both (expression_says e (t + 1) pc h.1) (one (Bits line t (stands_at e (t + 1))) h.0)
         expression_says (element_node line a i) t pc h =
             let u = t + 1 + width a in
-            let ca = operand_code number here (t + 1) pc a in
-            both (read_says (variable_of a) _ (expression_says a (t + 1) pc h.1))
-            (both (read_says (variable_of i) _ (expression_says i u (pc + length ca) h.2))
-            (one (At line t (read_at (variable_of a) (t + 1)) (read_at (variable_of i) u)) h.0))
-        expression_says (not_node e) t pc h = both (read_says (variable_of e) _ (expression_says e (t + 1) pc h))
-            (one (Not t (read_at (variable_of e) (t + 1))) tt)
+            let ca = expression_code number here (t + 1) pc a in
+            both (expression_says a (t + 1) pc h.1)
+            (both (expression_says i u (pc + length ca) h.2)
+            (one (At line t (stands_at a (t + 1)) (stands_at i u)) h.0))
+        expression_says (not_node e) t pc h = both (expression_says e (t + 1) pc h)
+            (one (Not t (stands_at e (t + 1))) tt)
         expression_says (cast_node c e) t pc h =
-            both (read_says (variable_of e) _ (expression_says e (t + 1) pc h)) (one (Cast c t (read_at (variable_of e) (t + 1))) tt)
+            both (expression_says e (t + 1) pc h) (one (Cast c t (stands_at e (t + 1))) tt)
         expression_says (binary_node line op ds a b) t pc h =
             let u = t + 3 + width a in
-            binary_says t (read_at (variable_of a) (t + 3)) (read_at (variable_of b) u) pc line op ds (gives_private here a) (gives_private here b)
-            (operand_code number here (t + 3) pc a) (λ p. operand_code number here u p b) h.0
-            (read_says (variable_of a) _ (expression_says a (t + 3) pc h.1)) (λ p. read_says (variable_of b) _ (expression_says b u p h.2))
+            binary_says t (stands_at a (t + 3)) (stands_at b u) pc line op ds (gives_private here a) (gives_private here b)
+            (expression_code number here (t + 3) pc a) (λ p. expression_code number here u p b) h.0
+            (expression_says a (t + 3) pc h.1) (λ p. expression_says b u p h.2)
         expression_says (cut_node c a b) t pc h =
-            let v = read_at (variable_of a) (t + 3) in
+            let v = stands_at a (t + 3) in
             let u = t + 3 + width a in
-            let ub = read_at (variable_of b) u in
-            let ca = operand_code number here (t + 3) pc a in
-            let cb = λ (p : ℕ). operand_code number here u p b in
-            let sa = read_says (variable_of a) _ (expression_says a (t + 3) pc h.0) in
-            let sb = λ (p : ℕ). read_says (variable_of b) _ (expression_says b u p h.1) in
+            let ub = stands_at b u in
+            let ca = expression_code number here (t + 3) pc a in
+            let cb = λ (p : ℕ). expression_code number here u p b in
+            let sa = expression_says a (t + 3) pc h.0 in
+            let sb = λ (p : ℕ). expression_says b u p h.1 in
             either_say (gives_private here a)
             (binary_says t v ub pc 0 (binary.Bools (connective c)) Scalars (gives_private here a) (gives_private here b) ca cb no_line sa sb)
             (cut_says t v ub pc c (gives_private here b) ca cb sa sb)
         expression_says (declassify_node e) t pc h =
-            both (read_says (variable_of e) _ (expression_says e (t + 1) pc h)) (one (Declassify t (read_at (variable_of e) (t + 1))) tt)
+            both (expression_says e (t + 1) pc h) (one (Declassify t (stands_at e (t + 1))) tt)
 
         arguments_say : (b : List BoundDomain) (ss : List Slot) (es : TypedTrees) (t pc : ℕ) → TreesSay is_word is_line is_text es
             → AllSay (arguments_code number here b ss t pc es)
         arguments_say b ss Tree'.none t pc h = nothing
         arguments_say b ss (Tree'.also e es) t pc h =
-            let ce = operand_code number here (t + 1) pc e in
+            let ce = expression_code number here (t + 1) pc e in
             let w = lacks (next_is_private b ss) (gives_private here e) in
-            let r = read_at (variable_of e) (t + 1) in
+            let r = stands_at e (t + 1) in
             let cl = classifying w t r in
-            both (read_says (variable_of e) _ (expression_says e (t + 1) pc h.0)) (both (classifying_says w t r)
+            both (expression_says e (t + 1) pc h.0) (both (classifying_says w t r)
             (arguments_say b (behind_next ss) es (t + 1 + width e) (pc + length ce + length cl) h.1))
 
       unread_says : (e : TypedTree) (t pc : ℕ) → TreeSays is_word is_line is_text e → AllSay (unread_code number here t pc e)
@@ -223,10 +219,10 @@ module _ (is_word is_line : ℕ → Bool) (is_text : List ℕ → Bool) where
 
     module _ (number : Numbers) (at : StatementContext) where
       abbrev code_of_tree : (t pc : ℕ) → TypedTree → List Step
-      code_of_tree t pc e = operand_code number at.here t pc e
+      code_of_tree t pc e = expression_code number at.here t pc e
 
       tree : (e : TypedTree) (t pc : ℕ) → TreeSays is_word is_line is_text e → AllSay (code_of_tree t pc e)
-      tree e t pc h = read_says (variable_of e) (expression_code number at.here t pc e) (expression_says number at.here e t pc h)
+      tree e t pc h = expression_says number at.here e t pc h
 
       if_says : (pc t : ℕ) (test : List Step) (a b : ℕ → List Step) → AllSay test → ((p : ℕ) → AllSay (a p)) → ((p : ℕ) → AllSay (b p))
           → AllSay (if_code pc t test a b)
@@ -253,7 +249,7 @@ module _ (is_word is_line : ℕ → Bool) (is_text : List ℕ → Bool) where
         statement_says (block_statement cs) t x y pc h = statements_say cs t x y pc h
         statement_says (if_statement e a b) t x y pc h =
             let ta = t + width e in
-            if_says pc (read_at (variable_of e) t) (code_of_tree t pc e) (λ p. statement_code number at ta x y p a)
+            if_says pc (stands_at e t) (code_of_tree t pc e) (λ p. statement_code number at ta x y p a)
             (λ p. statement_code number at (ta + statement_width a) x y p b)
             (tree e t pc h.0) (λ p. statement_says a ta x y p h.1) (λ p. statement_says b (ta + statement_width a) x y p h.2)
         statement_says (loop_statement e step body) t x y pc h =
@@ -262,31 +258,31 @@ module _ (is_word is_line : ℕ → Bool) (is_text : List ℕ → Bool) where
             let py = pc + 1 + length (statement_code number at t 0 0 0 body) in
             let pt = py + length (statement_code number at ts 0 0 0 step) in
             let px = pt + length (code_of_tree te 0 e) + 1 in
-            loop_says pc (read_at (variable_of e) te) (λ p. code_of_tree te p e) (λ p. statement_code number at t px py p body)
+            loop_says pc (stands_at e te) (λ p. code_of_tree te p e) (λ p. statement_code number at t px py p body)
             (λ p. statement_code number at ts px pt p step)
             (λ p. tree e te p h.0) (λ p. statement_says body t px py p h.2) (λ p. statement_says step ts px pt p h.1)
         statement_says (do_statement body e) t x y pc h =
             let te = t + statement_width body in
             let pt = pc + length (statement_code number at t 0 0 0 body) in
             let px = pt + length (code_of_tree te 0 e) + 1 in
-            do_says pc (read_at (variable_of e) te) (λ p. code_of_tree te p e) (λ p. statement_code number at t px pt p body) (λ p. tree e te p h.1)
+            do_says pc (stands_at e te) (λ p. code_of_tree te p e) (λ p. statement_code number at t px pt p body) (λ p. tree e te p h.1)
             (λ p. statement_says body t px pt p h.0)
         statement_says break_statement t x y pc h = one (Jump x) tt
         statement_says continue_statement t x y pc h = one (Jump y) tt
         statement_says (return_statement None) t x y pc h = one ReturnNone tt
         statement_says (return_statement (Some e)) t x y pc h =
-            both (tree e (t + 1) pc h) (behind_says at.secret_result (gives_private at.here e) t (read_at (variable_of e) (t + 1)) Return (λ r. tt))
-        statement_says (assert_statement line e) t x y pc h = both (tree e t pc h.1) (one (Assert line (read_at (variable_of e) t)) h.0)
+            both (tree e (t + 1) pc h) (behind_says at.secret_result (gives_private at.here e) t (stands_at e (t + 1)) Return (λ r. tt))
+        statement_says (assert_statement line e) t x y pc h = both (tree e t pc h.1) (one (Assert line (stands_at e t)) h.0)
         statement_says (store_statement k e) t x y pc h =
             both (tree e (t + 1) pc h)
-            (behind_says (slot_is_private at.here k) (gives_private at.here e) t (read_at (variable_of e) (t + 1)) (Store k) (λ r. tt))
+            (behind_says (slot_is_private at.here k) (gives_private at.here e) t (stands_at e (t + 1)) (Store k) (λ r. tt))
         statement_says (default_statement k) t x y pc h =
             behind_says (slot_is_private at.here k) false t (length at.here.slots + shape_number (slot_shape at.here k)) (Store k) (λ r. tt)
         statement_says (fill_statement line k n e) t x y pc h =
             let u = t + 1 + width n in
             let cn = code_of_tree (t + 1) pc n in
             both (tree n (t + 1) pc h.1) (both (tree e u (pc + length cn) h.2)
-            (behind_says (slot_is_private at.here k) (gives_private at.here e) t (read_at (variable_of e) u) (Fill line k (read_at (variable_of n) (t + 1)))
+            (behind_says (slot_is_private at.here k) (gives_private at.here e) t (stands_at e u) (Fill line k (stands_at n (t + 1)))
             (λ r. h.0)))
         statement_says (input_statement line k text) t x y pc h =
             then_all (Argument line (kind_of (slot_is_private at.here k) (slot_shape at.here k)) text t) h (one (Store k t) tt)
@@ -294,9 +290,9 @@ module _ (is_word is_line : ℕ → Bool) (is_text : List ℕ → Bool) where
             let u = t + 1 + width i in
             let ci = code_of_tree (t + 1) pc i in
             both (tree i (t + 1) pc h.1) (both (tree e u (pc + length ci) h.2)
-            (behind_says (slot_is_private at.here k) (gives_private at.here e) t (read_at (variable_of e) u) (Put line k (read_at (variable_of i) (t + 1)))
+            (behind_says (slot_is_private at.here k) (gives_private at.here e) t (stands_at e u) (Put line k (stands_at i (t + 1)))
             (λ r. h.0)))
-        statement_says (publish_statement text e) t x y pc h = both (tree e t pc h.1) (one (Publish text (read_at (variable_of e) t)) h.0)
+        statement_says (publish_statement text e) t x y pc h = both (tree e t pc h.1) (one (Publish text (stands_at e t)) h.0)
         statement_says (evaluate_statement e) t x y pc h = unread_says number at.here e t pc h
 
         pub statements_say : (cs : TypedStatementTrees) (t x y pc : ℕ) → StatementsSay is_word is_line is_text cs

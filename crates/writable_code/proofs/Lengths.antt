@@ -1,5 +1,5 @@
 -- How many steps the code of a function has, and how many names: at most twice its registers and its statements, and its statements.
-use Rattle.std.proofs.Common.{◌≡◌, ℕ, ◌+◌, ◌≤◌, List, [], ◌∷◌, ◌++◌, length, Option, Some, None, Bool, true, false, arith, length-append}
+use Rattle.std.proofs.Common.{◌≡◌, ℕ, ◌+◌, ◌≤◌, List, [], ◌∷◌, ◌++◌, length, Some, None, Bool, true, false, arith, length-append}
 use Rattle.std.specs.Prelude.{slice_get}
 use Rattle.std.specs.List.{flat_map}
 use Rattle.secrec_ast.specs.declared.expression.DataType.TheVariants.{Uint64}
@@ -30,7 +30,7 @@ use Rattle.verified_code.specs.Steps.{Step, Literal, Move, Store, Binary, Not, C
 use Rattle.verified_code.specs.Steps.{Argument, Publish, Assert, Branch, Jump, Call, Return, ReturnNone}
 use Rattle.code_model.specs.Kinds.{width, widths, kind_of}
 use Rattle.code_model.specs.Expressions.{Numbers, result_at, classifying, picked, lacks, mixes, binary_code, cat_code, deciding, settling, cut_code}
-use Rattle.code_model.specs.Expressions.{variable_of, read_code, read_at, expression_code, operand_code, arguments_code, arguments_places, unread_code}
+use Rattle.code_model.specs.Expressions.{stands_at, expression_code, arguments_code, arguments_places, unread_code}
 use Rattle.code_model.specs.Statements.{shape_number, first_free, statement_width, statements_width, if_code, loop_code, do_code, behind_classifying}
 use Rattle.code_model.specs.Statements.{statement_code, statements_code}
 use Rattle.code_model.specs.Programs.{last_step, body_end, function_code}
@@ -124,10 +124,6 @@ cut_short n m t v u pc c secret ca cb a b =
     both a (plain (Branch v (deciding c) pd) (omega arith) (both (b pb) (plain (Move t u) (omega arith) (plain (Jump (pd + 2)) (omega arith)
     (plain (Literal (t + 1) datatype.Bool (truth_word (deciding c))) (omega arith) (one (settling secret t (t + 1)) (settling_plain secret t (t + 1))))))))
 
-read_short : (n : ℕ) (o : Option ℕ) (c : List Step) → IsShort n 0 c → IsShort n 0 (read_code o c)
-read_short n None c h = h
-read_short n (Some k) c h = fewer n 0 (omega arith) (omega arith) nothing
-
 -- twice
 abbrev pub two : ℕ → ℕ
 two n = n + n
@@ -146,72 +142,65 @@ module _ (number : Numbers) (here : Setting) where
   behind_one : (e : TypedTree) (i : Step) {code : List Step} → length (step_names i) ≤ 0 → Short e code → IsShort (two (1 + width e)) 0 (code ++ i ∷ [])
   behind_one e i few h = fewer (two (1 + width e)) 0 (omega arith) (omega arith) (both h (one i few))
 
-  -- an operand is as short as its expression
-  read : (e : TypedTree) {code : List Step} → Short e code → Short e (read_code (variable_of e) code)
-  read e {code = code} h = read_short (two (width e)) (variable_of e) code h
-
   mutual
     pub expression_short : (e : TypedTree) (t pc : ℕ) → Short e (expression_code number here t pc e)
     expression_short (word_node n) t pc = fewer 2 0 (omega arith) (omega arith) (one (Literal t Uint64 n) (omega arith))
     expression_short (truth_node b) t pc = fewer 2 0 (omega arith) (omega arith) (one (Literal t datatype.Bool (truth_word b)) (omega arith))
-    expression_short (slot_node k) t pc = fewer 2 0 (omega arith) (omega arith) (one (Move t k) (omega arith))
+    expression_short (slot_node k) t pc = fewer 2 0 (omega arith) (omega arith) nothing
     expression_short (call_node line k es) t pc =
         fewer (two (1 + widths es)) 0 (omega arith) (omega arith) (both (arguments_short (bound_of k es) (slots_at k) es (t + 1) pc)
         (one (Call line (number k (bound_of k es)) (Some t) (arguments_places number here (bound_of k es) (slots_at k) (t + 1) es)) (omega arith)))
-    expression_short (size_node e) t pc = behind_one e (Size t (read_at (variable_of e) (t + 1))) (omega arith) (read e (expression_short e (t + 1) pc))
+    expression_short (size_node e) t pc = behind_one e (Size t (stands_at e (t + 1))) (omega arith) (expression_short e (t + 1) pc)
     expression_short (cat_node line a b) t pc =
         let g = gives_private here (cat_node line a b) in
         let u = t + 3 + width a in
         fewer (two (3 + width a + width b)) 0 (omega arith) (omega arith)
-        (cat_short (two (width a)) (two (width b)) t (read_at (variable_of a) (t + 3)) (read_at (variable_of b) u) pc line
-        (lacks g (gives_private here a)) (lacks g (gives_private here b)) (operand_code number here (t + 3) pc a) (λ p. operand_code number here u p b)
-        (read a (expression_short a (t + 3) pc)) (λ p. read b (expression_short b u p)))
-    expression_short (sum_node e) t pc = behind_one e (Sum t (read_at (variable_of e) (t + 1))) (omega arith) (read e (expression_short e (t + 1) pc))
+        (cat_short (two (width a)) (two (width b)) t (stands_at a (t + 3)) (stands_at b u) pc line
+        (lacks g (gives_private here a)) (lacks g (gives_private here b)) (expression_code number here (t + 3) pc a) (λ p. expression_code number here u p b)
+        (expression_short a (t + 3) pc) (λ p. expression_short b u p))
+    expression_short (sum_node e) t pc = behind_one e (Sum t (stands_at e (t + 1))) (omega arith) (expression_short e (t + 1) pc)
     expression_short (bits_node line e) t pc =
-        behind_one e (Bits line t (read_at (variable_of e) (t + 1))) (omega arith) (read e (expression_short e (t + 1) pc))
+        behind_one e (Bits line t (stands_at e (t + 1))) (omega arith) (expression_short e (t + 1) pc)
     expression_short (element_node line a i) t pc =
         let u = t + 1 + width a in
-        let ca = operand_code number here (t + 1) pc a in
+        let ca = expression_code number here (t + 1) pc a in
         fewer (two (1 + width a + width i)) 0 (omega arith) (omega arith)
-        (both (read a (expression_short a (t + 1) pc)) (both (read i (expression_short i u (pc + length ca)))
-        (one (At line t (read_at (variable_of a) (t + 1)) (read_at (variable_of i) u)) (omega arith))))
-    expression_short (not_node e) t pc = behind_one e (Not t (read_at (variable_of e) (t + 1))) (omega arith) (read e (expression_short e (t + 1) pc))
-    expression_short (cast_node c e) t pc = behind_one e (Cast c t (read_at (variable_of e) (t + 1))) (omega arith) (read e (expression_short e (t + 1) pc))
+        (both (expression_short a (t + 1) pc) (both (expression_short i u (pc + length ca))
+        (one (At line t (stands_at a (t + 1)) (stands_at i u)) (omega arith))))
+    expression_short (not_node e) t pc = behind_one e (Not t (stands_at e (t + 1))) (omega arith) (expression_short e (t + 1) pc)
+    expression_short (cast_node c e) t pc = behind_one e (Cast c t (stands_at e (t + 1))) (omega arith) (expression_short e (t + 1) pc)
     expression_short (binary_node line op ds a b) t pc =
         let u = t + 3 + width a in
         fewer (two (3 + width a + width b)) 0 (omega arith) (omega arith)
-        (binary_short (two (width a)) (two (width b)) t (read_at (variable_of a) (t + 3)) (read_at (variable_of b) u) pc line op ds
-        (gives_private here a) (gives_private here b) (operand_code number here (t + 3) pc a) (λ p. operand_code number here u p b)
-        (read a (expression_short a (t + 3) pc)) (λ p. read b (expression_short b u p)))
+        (binary_short (two (width a)) (two (width b)) t (stands_at a (t + 3)) (stands_at b u) pc line op ds
+        (gives_private here a) (gives_private here b) (expression_code number here (t + 3) pc a) (λ p. expression_code number here u p b)
+        (expression_short a (t + 3) pc) (λ p. expression_short b u p))
     expression_short (cut_node c a b) t pc =
-        let v = read_at (variable_of a) (t + 3) in
+        let v = stands_at a (t + 3) in
         let u = t + 3 + width a in
-        let ub = read_at (variable_of b) u in
-        let ca = operand_code number here (t + 3) pc a in
-        let cb = λ (p : ℕ). operand_code number here u p b in
-        let sa = read a (expression_short a (t + 3) pc) in
+        let ub = stands_at b u in
+        let ca = expression_code number here (t + 3) pc a in
+        let cb = λ (p : ℕ). expression_code number here u p b in
+        let sa = expression_short a (t + 3) pc in
         either_short (gives_private here a)
         (fewer (two (3 + width a + width b)) 0 (omega arith) (omega arith)
         (binary_short (two (width a)) (two (width b)) t v ub pc 0 (binary.Bools (connective c)) Scalars (gives_private here a) (gives_private here b) ca cb sa
-        (λ p. read b (expression_short b u p))))
+        (λ p. expression_short b u p)))
         (fewer (two (3 + width a + width b)) 0 (omega arith) (omega arith)
-        (cut_short (two (width a)) (two (width b)) t v ub pc c (gives_private here b) ca cb sa (λ p. read b (expression_short b u p))))
+        (cut_short (two (width a)) (two (width b)) t v ub pc c (gives_private here b) ca cb sa (λ p. expression_short b u p)))
     expression_short (declassify_node e) t pc =
-        behind_one e (Declassify t (read_at (variable_of e) (t + 1))) (omega arith) (read e (expression_short e (t + 1) pc))
+        behind_one e (Declassify t (stands_at e (t + 1))) (omega arith) (expression_short e (t + 1) pc)
 
     arguments_short : (b : List BoundDomain) (ss : List Slot) (es : TypedTrees) (t pc : ℕ)
         → IsShort (two (widths es)) 0 (arguments_code number here b ss t pc es)
     arguments_short b ss Tree'.none t pc = nothing
     arguments_short b ss (Tree'.also e es) t pc =
-        let ce = operand_code number here (t + 1) pc e in
+        let ce = expression_code number here (t + 1) pc e in
         let w = lacks (next_is_private b ss) (gives_private here e) in
-        let r = read_at (variable_of e) (t + 1) in
+        let r = stands_at e (t + 1) in
         let cl = classifying w t r in
-        fewer (two (1 + width e + widths es)) 0 (omega arith) (omega arith) (both (read e (expression_short e (t + 1) pc)) (both (classifying_short w t r)
+        fewer (two (1 + width e + widths es)) 0 (omega arith) (omega arith) (both (expression_short e (t + 1) pc) (both (classifying_short w t r)
         (arguments_short b (behind_next ss) es (t + 1 + width e) (pc + length ce + length cl))))
-
-  pub operand_short : (e : TypedTree) (t pc : ℕ) → Short e (operand_code number here t pc e)
-  operand_short e t pc = read e (expression_short e t pc)
 
   unread_short : (e : TypedTree) (t pc : ℕ) → Short e (unread_code number here t pc e)
   unread_short (word_node n) t pc = expression_short (word_node n) t pc
@@ -262,10 +251,10 @@ steps_of c = two (statement_width c) + two (count c)
 
 module _ (number : Numbers) (at : StatementContext) where
   abbrev code_of_tree : (t pc : ℕ) → TypedTree → List Step
-  code_of_tree t pc e = operand_code number at.here t pc e
+  code_of_tree t pc e = expression_code number at.here t pc e
 
   tree : (e : TypedTree) (t pc : ℕ) → IsShort (two (width e)) 0 (code_of_tree t pc e)
-  tree e t pc = operand_short number at.here e t pc
+  tree e t pc = expression_short number at.here e t pc
 
   mutual
     statement_short : (c : TypedStatementTree) (t x y pc : ℕ) → IsShort (steps_of c) (count c) (statement_code number at t x y pc c)
@@ -274,7 +263,7 @@ module _ (number : Numbers) (at : StatementContext) where
     statement_short (if_statement e a b) t x y pc =
         let ta = t + width e in
         fewer (steps_of (if_statement e a b)) (count (if_statement e a b)) (omega arith) (omega arith)
-        (if_short (two (width e)) (steps_of a) (steps_of b) (count a) (count b) pc (read_at (variable_of e) t) (code_of_tree t pc e)
+        (if_short (two (width e)) (steps_of a) (steps_of b) (count a) (count b) pc (stands_at e t) (code_of_tree t pc e)
         (λ p. statement_code number at ta x y p a)
         (λ p. statement_code number at (ta + statement_width a) x y p b) (tree e t pc) (λ p. statement_short a ta x y p)
         (λ p. statement_short b (ta + statement_width a) x y p))
@@ -285,7 +274,7 @@ module _ (number : Numbers) (at : StatementContext) where
         let pt = py + length (statement_code number at ts 0 0 0 next) in
         let px = pt + length (code_of_tree te 0 e) + 1 in
         fewer (steps_of (loop_statement e next body)) (count (loop_statement e next body)) (omega arith) (omega arith)
-        (loop_short (two (width e)) (steps_of body) (steps_of next) (count body) (count next) pc (read_at (variable_of e) te) (λ p. code_of_tree te p e)
+        (loop_short (two (width e)) (steps_of body) (steps_of next) (count body) (count next) pc (stands_at e te) (λ p. code_of_tree te p e)
         (λ p. statement_code number at t px py p body) (λ p. statement_code number at ts px pt p next) (λ p. tree e te p)
         (λ p. statement_short body t px py p) (λ p. statement_short next ts px pt p))
     statement_short (do_statement body e) t x y pc =
@@ -293,7 +282,7 @@ module _ (number : Numbers) (at : StatementContext) where
         let pt = pc + length (statement_code number at t 0 0 0 body) in
         let px = pt + length (code_of_tree te 0 e) + 1 in
         fewer (steps_of (do_statement body e)) (count (do_statement body e)) (omega arith) (omega arith)
-        (do_short (two (width e)) (steps_of body) (count body) pc (read_at (variable_of e) te) (λ p. code_of_tree te p e)
+        (do_short (two (width e)) (steps_of body) (count body) pc (stands_at e te) (λ p. code_of_tree te p e)
         (λ p. statement_code number at t px pt p body)
         (λ p. tree e te p) (λ p. statement_short body t px pt p))
     statement_short break_statement t x y pc = fewer 2 1 (omega arith) (omega arith) (one (Jump x) (omega arith))
@@ -301,14 +290,14 @@ module _ (number : Numbers) (at : StatementContext) where
     statement_short (return_statement None) t x y pc = fewer 2 1 (omega arith) (omega arith) (one ReturnNone (omega arith))
     statement_short (return_statement (Some e)) t x y pc =
         fewer (steps_of (return_statement (Some e))) 1 (omega arith) (omega arith)
-        (both (tree e (t + 1) pc) (behind_short at.secret_result (gives_private at.here e) t (read_at (variable_of e) (t + 1)) Return (λ r. omega arith)))
+        (both (tree e (t + 1) pc) (behind_short at.secret_result (gives_private at.here e) t (stands_at e (t + 1)) Return (λ r. omega arith)))
     statement_short (assert_statement line e) t x y pc =
-        fewer (steps_of (assert_statement line e)) 1 (omega arith) (omega arith) (both (tree e t pc) (one (Assert line (read_at (variable_of e) t))
+        fewer (steps_of (assert_statement line e)) 1 (omega arith) (omega arith) (both (tree e t pc) (one (Assert line (stands_at e t))
         (omega arith)))
     statement_short (store_statement k e) t x y pc =
         fewer (steps_of (store_statement k e)) 1 (omega arith) (omega arith)
         (both (tree e (t + 1) pc)
-        (behind_short (slot_is_private at.here k) (gives_private at.here e) t (read_at (variable_of e) (t + 1)) (Store k) (λ r. omega arith)))
+        (behind_short (slot_is_private at.here k) (gives_private at.here e) t (stands_at e (t + 1)) (Store k) (λ r. omega arith)))
     statement_short (default_statement k) t x y pc =
         fewer (steps_of (default_statement k)) 1 (omega arith) (omega arith)
         (behind_short (slot_is_private at.here k) false t (length at.here.slots + shape_number (slot_shape at.here k)) (Store k) (λ r. omega arith))
@@ -316,7 +305,7 @@ module _ (number : Numbers) (at : StatementContext) where
         let u = t + 1 + width n in
         let cn = code_of_tree (t + 1) pc n in
         fewer (steps_of (fill_statement line k n e)) 1 (omega arith) (omega arith) (both (tree n (t + 1) pc) (both (tree e u (pc + length cn))
-        (behind_short (slot_is_private at.here k) (gives_private at.here e) t (read_at (variable_of e) u) (Fill line k (read_at (variable_of n) (t + 1)))
+        (behind_short (slot_is_private at.here k) (gives_private at.here e) t (stands_at e u) (Fill line k (stands_at n (t + 1)))
         (λ r. omega arith))))
     statement_short (input_statement line k text) t x y pc =
         fewer (steps_of (input_statement line k text)) 1 (omega arith) (omega arith)
@@ -325,11 +314,11 @@ module _ (number : Numbers) (at : StatementContext) where
         let u = t + 1 + width i in
         let ci = code_of_tree (t + 1) pc i in
         fewer (steps_of (element_statement line k i e)) 1 (omega arith) (omega arith) (both (tree i (t + 1) pc) (both (tree e u (pc + length ci))
-        (behind_short (slot_is_private at.here k) (gives_private at.here e) t (read_at (variable_of e) u) (Put line k (read_at (variable_of i) (t + 1)))
+        (behind_short (slot_is_private at.here k) (gives_private at.here e) t (stands_at e u) (Put line k (stands_at i (t + 1)))
         (λ r. omega arith))))
     statement_short (publish_statement text e) t x y pc =
         fewer (steps_of (publish_statement text e)) 1 (omega arith) (omega arith) (both (tree e t pc)
-        (step 1 (Publish text (read_at (variable_of e) t)) (omega arith) nothing))
+        (step 1 (Publish text (stands_at e t)) (omega arith) nothing))
     statement_short (evaluate_statement e) t x y pc =
         fewer (steps_of (evaluate_statement e)) 1 (omega arith) (omega arith) (unread_short number at.here e t pc)
 

@@ -11,7 +11,7 @@ use Rattle.language_model.specs.Evaluation.{StatementContext}
 use Rattle.bytecode.specs.declared.kind.Kind.{Kind}
 use Rattle.verified_code.specs.Steps.{Step, Branch, Jump}
 use Rattle.code_model.specs.Kinds.{width}
-use Rattle.code_model.specs.Expressions.{Numbers, variable_of, read_at, operand_code}
+use Rattle.code_model.specs.Expressions.{Numbers, stands_at, expression_code}
 use Rattle.code_model.specs.Statements.{statement_width, statement_code, statement_kinds, statements_kinds}
 use Rattle.code_model.specs.Programs.{last_kinds, last_step}
 use Rattle.lowered_expressions.specs.Built.{BodyPiece, whole, break_jump, continue_jump, Built}
@@ -54,7 +54,7 @@ module _ (number : Numbers) (at : StatementContext) where
     statement_pieces t pc (block_statement cs) = statements_pieces t pc cs
     statement_pieces t pc (if_statement e a b) =
         let ta = t + width e in
-        if_pieces pc (read_at (variable_of e) t) (operand_code number at.here t pc e) (λ p. statement_pieces ta p a)
+        if_pieces pc (stands_at e t) (expression_code number at.here t pc e) (λ p. statement_pieces ta p a)
         (λ p. statement_pieces (ta + statement_width a) p b)
     statement_pieces t pc break_statement = break_jump ∷ []
     statement_pieces t pc continue_statement = continue_jump ∷ []

@@ -10,7 +10,7 @@ use Rattle.typed_tree.specs.Tree.{binary_node, cat_node, cut_node, element_node,
 use Rattle.language_model.specs.Evaluation.{gives_private, connective, next_is_private}
 use Rattle.verified_code.specs.Steps.{ReturnNone}
 use Rattle.code_model.specs.Kinds.{width, widths, kind_of, kind_in, private_kind_in, truth_kind, expression_kinds, arguments_kinds}
-use Rattle.code_model.specs.Expressions.{variable_of, read_at, operand_code, arguments_code, arguments_places, lacks, picked}
+use Rattle.code_model.specs.Expressions.{stands_at, expression_code, arguments_code, arguments_places, lacks, picked}
 use Rattle.code_model.proofs.Widths.{expression_registers}
 use Rattle.lowered_expressions.specs.Built.{Built, with_kind, with_code}
 use Rattle.lowered_expressions.specs.Parts.{binary_rest, cut_rest, cut_closed}
@@ -25,8 +25,8 @@ use Rattle.lowered_expressions.proofs.expressions.+expressions.Goals as goal
 
 -- ---- ELEMENTS
 
-pub element-read-requires : goal.element-read-requires
-element-read-requires t c =
+pub element-expression-requires : goal.element-expression-requires
+element-expression-requires t c =
     let here = here_of c.args.around.now in
     let a = typed_tree c.args.array.now in
     let i = typed_tree c.args.index.now in
@@ -43,9 +43,9 @@ element-returns t c =
     let i = typed_tree c.args.index.now in
     let b = built c.args.body.now in
     on_ok_weaker c.push.result
-    (λ p. element_made b (built c.fresh.new.self) (built c.read.new.body) (built c.read-2.new.body) (built c.push.new.self)
+    (λ p. element_made b (built c.fresh.new.self) (built c.expression.new.body) (built c.expression-2.new.body) (built c.push.new.self)
     (kind_in here (element_node c.args.line a i)) (expression_kinds here a) (expression_kinds here i)
-    (λ n q. operand_code number here n q a) (λ n q. operand_code number here n q i) (read_at (variable_of a)) (read_at (variable_of i)) c.args.line
+    (λ n q. expression_code number here n q a) (λ n q. expression_code number here n q i) (stands_at a) (stands_at i) c.args.line
     c.in_ok-to.to c.in_ok-from.from c.in_ok-at.at (width a)
     (c.in_ok-to.ensures.built ∙ ap (with_kind b) (c.first_kind.ensures ∙ ap first_kind c.requires)) c.in_ok-from.ensures.built
     c.in_ok-at.ensures.built p c.in_ok-to.ensures.number
@@ -92,7 +92,7 @@ cat-returns t c =
     on_ok_weaker c.push.result
     (λ p. cat_made b (built c.fresh-3.new.self) (built c.operand.new.body) (built c.operand-2.new.body) (built c.push.new.self)
     (kind_in here node ∷ private_kind_in here x ∷ private_kind_in here y ∷ []) (expression_kinds here x) (expression_kinds here y)
-    (λ n q. operand_code number here n q x) (λ n q. operand_code number here n q y) (read_at (variable_of x)) (read_at (variable_of y))
+    (λ n q. expression_code number here n q x) (λ n q. expression_code number here n q y) (stands_at x) (stands_at y)
     (lacks c.first_is_private-private.result (gives_private here x)) (lacks c.first_is_private-private.result (gives_private here y)) c.args.line
     c.in_ok-to.to c.in_ok-first.first
     c.in_ok-second.second c.in_ok-left.left c.in_ok-right.right (width x)
@@ -104,8 +104,8 @@ cat-returns t c =
 
 -- ---- OPERATIONS ON TWO OPERANDS
 
-pub binary-read-requires : goal.binary-read-requires
-binary-read-requires t c =
+pub binary-expression-requires : goal.binary-expression-requires
+binary-expression-requires t c =
     let here = here_of c.args.around.now in
     let x = typed_tree c.args.a.now in
     let y = typed_tree c.args.b.now in
@@ -125,10 +125,10 @@ binary-both-requires t c =
     c.in_ok-fresh-2.ensures.built in
     let right : c.parted.result.1.now ≡ notes_of here y =
     right_found here _ x y c.args.notes.now c.behind_first.result.now c.parted.result.1.now c.requires c.behind_first.ensures c.parted.ensures.behind in
-    let there : length (built c.read.new.body).kinds ≡ c.in_ok-to.to + 3 + width x =
-    part_registers (built c.args.body.now) (built c.fresh-3.new.self) (built c.read.new.body) _ 3 (expression_kinds here x) _ (width x) c.in_ok-to.to
+    let there : length (built c.expression.new.body).kinds ≡ c.in_ok-to.to + 3 + width x =
+    part_registers (built c.args.body.now) (built c.fresh-3.new.self) (built c.expression.new.body) _ 3 (expression_kinds here x) _ (width x) c.in_ok-to.to
     begun c.in_ok-value.ensures.built (expression_registers here x) c.in_ok-to.ensures.number in
-    let within : c.in_ok-to.to + 3 ≤ length (built c.read.new.body).kinds = omega (arith, there) in
+    let within : c.in_ok-to.to + 3 ≤ length (built c.expression.new.body).kinds = omega (arith, there) in
     search rules
 
 pub binary-returns : goal.binary-returns
@@ -151,24 +151,24 @@ binary-returns t c =
     (c.in_ok-to.ensures.built ∙ ap (with_kind b) kind)
     (c.in_ok-fresh.ensures.built ∙ ap (with_kind (built c.fresh.new.self)) (c.first_private_kind.ensures ∙ ap first_private_kind left))
     (c.in_ok-fresh-2.ensures.built ∙ ap (with_kind (built c.fresh-2.new.self)) (c.first_private_kind-2.ensures ∙ ap first_private_kind right)) in
-    let left_is : c.in_ok-value.value ≡ read_at (variable_of x) (c.in_ok-to.to + 3) =
-    c.in_ok-value.ensures.register ∙ ap (read_at (variable_of x)) (begun.registers ∙ sym (ap (λ n. n + 3) c.in_ok-to.ensures.number)) in
+    let left_is : c.in_ok-value.value ≡ stands_at x (c.in_ok-to.to + 3) =
+    c.in_ok-value.ensures.register ∙ ap (stands_at x) (begun.registers ∙ sym (ap (λ n. n + 3) c.in_ok-to.ensures.number)) in
     let rest = λ (g : Bool) (v n u q : ℕ).
-    binary_rest n v (read_at (variable_of y) u) q o.line o.operator o.operands g (gives_private here y) (λ r. operand_code number here u r y) in
+    binary_rest n v (stands_at y u) q o.line o.operator o.operands g (gives_private here y) (λ r. expression_code number here u r y) in
     on_ok_weaker c.both.result
-    (λ p. two_parts b (built c.fresh-3.new.self) (built c.read.new.body) (built c.both.new.body)
+    (λ p. two_parts b (built c.fresh-3.new.self) (built c.expression.new.body) (built c.both.new.body)
     (kind_in here node ∷ private_kind_in here x ∷ private_kind_in here y ∷ []) 3 (expression_kinds here x) (expression_kinds here y)
-    (λ n q. operand_code number here n q x)
-    (λ n u q. rest (gives_private here x) (read_at (variable_of x) (n + 3)) n u q) c.in_ok-to.to (width x) begun c.in_ok-value.ensures.built
-    (p ∙ ap₂ (λ (g : Bool) (v : ℕ). with_code (built c.read.new.body) (expression_kinds here y)
-    (rest g v c.in_ok-to.to (length (built c.read.new.body).kinds) (length (built c.read.new.body).pieces))) secret left_is)
+    (λ n q. expression_code number here n q x)
+    (λ n u q. rest (gives_private here x) (stands_at x (n + 3)) n u q) c.in_ok-to.to (width x) begun c.in_ok-value.ensures.built
+    (p ∙ ap₂ (λ (g : Bool) (v : ℕ). with_code (built c.expression.new.body) (expression_kinds here y)
+    (rest g v c.in_ok-to.to (length (built c.expression.new.body).kinds) (length (built c.expression.new.body).pieces))) secret left_is)
     c.in_ok-to.ensures.number (expression_registers here x))
     c.both.ensures
 
 -- ---- CONNECTIVES
 
-pub cut-read-requires : goal.cut-read-requires
-cut-read-requires t c =
+pub cut-expression-requires : goal.cut-expression-requires
+cut-expression-requires t c =
     let here = here_of c.args.around.now in
     let x = typed_tree c.args.a.now in
     let y = typed_tree c.args.b.now in
@@ -187,10 +187,10 @@ cut-both-requires t c =
     c.first_kind.result c.kind_of.result c.kind_of-2.result c.in_ok-to.ensures.built c.in_ok-fresh.ensures.built c.in_ok-fresh-2.ensures.built in
     let right : c.parted.result.1.now ≡ notes_of here y =
     right_found here _ x y c.args.notes.now c.behind_first.result.now c.parted.result.1.now c.requires c.behind_first.ensures c.parted.ensures.behind in
-    let there : length (built c.read.new.body).kinds ≡ c.in_ok-to.to + 3 + width x =
-    part_registers (built c.args.body.now) (built c.fresh-3.new.self) (built c.read.new.body) _ 3 (expression_kinds here x) _ (width x) c.in_ok-to.to
+    let there : length (built c.expression.new.body).kinds ≡ c.in_ok-to.to + 3 + width x =
+    part_registers (built c.args.body.now) (built c.fresh-3.new.self) (built c.expression.new.body) _ 3 (expression_kinds here x) _ (width x) c.in_ok-to.to
     begun c.in_ok-value.ensures.built (expression_registers here x) c.in_ok-to.ensures.number in
-    let within : c.in_ok-to.to + 3 ≤ length (built c.read.new.body).kinds = omega (arith, there) in
+    let within : c.in_ok-to.to + 3 ≤ length (built c.expression.new.body).kinds = omega (arith, there) in
     search rules
 
 pub cut-cut_short-requires : goal.cut-cut_short-requires
@@ -203,10 +203,10 @@ cut-cut_short-requires t c =
     c.first_kind.result c.kind_of.result c.kind_of-2.result c.in_ok-to.ensures.built c.in_ok-fresh.ensures.built c.in_ok-fresh-2.ensures.built in
     let right : c.parted.result.1.now ≡ notes_of here y =
     right_found here _ x y c.args.notes.now c.behind_first.result.now c.parted.result.1.now c.requires c.behind_first.ensures c.parted.ensures.behind in
-    let there : length (built c.read.new.body).kinds ≡ c.in_ok-to.to + 3 + width x =
-    part_registers (built c.args.body.now) (built c.fresh-3.new.self) (built c.read.new.body) _ 3 (expression_kinds here x) _ (width x) c.in_ok-to.to
+    let there : length (built c.expression.new.body).kinds ≡ c.in_ok-to.to + 3 + width x =
+    part_registers (built c.args.body.now) (built c.fresh-3.new.self) (built c.expression.new.body) _ 3 (expression_kinds here x) _ (width x) c.in_ok-to.to
     begun c.in_ok-value.ensures.built (expression_registers here x) c.in_ok-to.ensures.number in
-    let within : c.in_ok-to.to + 3 ≤ length (built c.read.new.body).kinds = omega (arith, there) in
+    let within : c.in_ok-to.to + 3 ≤ length (built c.expression.new.body).kinds = omega (arith, there) in
     search rules
 
 pub cut-returns-then-secret : goal.cut-returns-then-secret
@@ -230,19 +230,21 @@ cut-returns-then-secret t c =
     (c.in_ok-to.ensures.built ∙ ap (with_kind b) kind)
     (c.in_ok-fresh.ensures.built ∙ ap (with_kind (built c.fresh.new.self)) first)
     (c.in_ok-fresh-2.ensures.built ∙ ap (with_kind (built c.fresh-2.new.self)) second) in
-    let left_is : c.in_ok-value.value ≡ read_at (variable_of x) (c.in_ok-to.to + 3) =
-    c.in_ok-value.ensures.register ∙ ap (read_at (variable_of x)) (begun.registers ∙ sym (ap (λ n. n + 3) c.in_ok-to.ensures.number)) in
-    let rest = λ (g : Bool) (o : BoolOperator) (v n u q : ℕ). binary_rest n v (read_at (variable_of y) u) q 0 (binary.Bools o) Scalars g
-    (gives_private here y) (λ r. operand_code number here u r y) in
+    let left_is : c.in_ok-value.value ≡ stands_at x (c.in_ok-to.to + 3) =
+    c.in_ok-value.ensures.register ∙ ap (stands_at x) (begun.registers ∙ sym (ap (λ n. n + 3) c.in_ok-to.ensures.number)) in
+    let rest = λ (g : Bool) (o : BoolOperator) (v n u q : ℕ). binary_rest n v (stands_at y u) q 0 (binary.Bools o) Scalars g
+    (gives_private here y) (λ r. expression_code number here u r y) in
     on_ok_weaker c.both.result
-    (λ p. two_parts b (built c.fresh-3.new.self) (built c.read.new.body) (built c.both.new.body)
+    (λ p. two_parts b (built c.fresh-3.new.self) (built c.expression.new.body) (built c.both.new.body)
     (kind_in here node ∷ truth_kind (gives_private here x) ∷ truth_kind true ∷ []) 3 (expression_kinds here x) (expression_kinds here y)
-    (λ n q. operand_code number here n q x) (λ k u q. rest (gives_private here x) (connective n) (read_at (variable_of x) (k + 3)) k u q)
+    (λ n q. expression_code number here n q x) (λ k u q. rest (gives_private here x) (connective n) (stands_at x (k + 3)) k u q)
     c.in_ok-to.to (width x) begun c.in_ok-value.ensures.built
-    (p ∙ ap₂ (λ (g : Bool) (o : BoolOperator). with_code (built c.read.new.body) (expression_kinds here y)
-    (rest g o c.in_ok-value.value c.in_ok-to.to (length (built c.read.new.body).kinds) (length (built c.read.new.body).pieces))) secret c.operator.ensures
-    ∙ ap (λ (v : ℕ). with_code (built c.read.new.body) (expression_kinds here y)
-    (rest (gives_private here x) (connective n) v c.in_ok-to.to (length (built c.read.new.body).kinds) (length (built c.read.new.body).pieces))) left_is)
+    (p ∙ ap₂ (λ (g : Bool) (o : BoolOperator). with_code (built c.expression.new.body) (expression_kinds here y)
+    (rest g o c.in_ok-value.value c.in_ok-to.to (length (built c.expression.new.body).kinds) (length (built c.expression.new.body).pieces))) secret
+    c.operator.ensures
+    ∙ ap (λ (v : ℕ). with_code (built c.expression.new.body) (expression_kinds here y)
+    (rest (gives_private here x) (connective n) v c.in_ok-to.to (length (built c.expression.new.body).kinds) (length (built c.expression.new.body).pieces)))
+    left_is)
     c.in_ok-to.ensures.number (expression_registers here x)
     ∙ ap (λ (g : Bool). with_code b (expression_kinds here node) (cut_of number here n x y b g)) (sym private))
     c.both.ensures
@@ -268,17 +270,17 @@ cut-returns-else-secret t c =
     (c.in_ok-to.ensures.built ∙ ap (with_kind b) kind)
     (c.in_ok-fresh.ensures.built ∙ ap (with_kind (built c.fresh.new.self)) first)
     (c.in_ok-fresh-2.ensures.built ∙ ap (with_kind (built c.fresh-2.new.self)) second) in
-    let left_is : c.in_ok-value.value ≡ read_at (variable_of x) (c.in_ok-to.to + 3) =
-    c.in_ok-value.ensures.register ∙ ap (read_at (variable_of x)) (begun.registers ∙ sym (ap (λ n. n + 3) c.in_ok-to.ensures.number)) in
+    let left_is : c.in_ok-value.value ≡ stands_at x (c.in_ok-to.to + 3) =
+    c.in_ok-value.ensures.register ∙ ap (stands_at x) (begun.registers ∙ sym (ap (λ n. n + 3) c.in_ok-to.ensures.number)) in
     on_ok_weaker c.cut_short.result
-    (λ p. two_parts b (built c.fresh-3.new.self) (built c.read.new.body) (built c.cut_short.new.body)
+    (λ p. two_parts b (built c.fresh-3.new.self) (built c.expression.new.body) (built c.cut_short.new.body)
     (kind_in here node ∷ truth_kind (gives_private here x) ∷ truth_kind true ∷ []) 3 (expression_kinds here x) (expression_kinds here y)
-    (λ n q. operand_code number here n q x)
-    (λ m u q. cut_rest m (read_at (variable_of x) (m + 3)) (read_at (variable_of y) u) q n (gives_private here y) (λ r. operand_code number here u r y))
+    (λ n q. expression_code number here n q x)
+    (λ m u q. cut_rest m (stands_at x (m + 3)) (stands_at y u) q n (gives_private here y) (λ r. expression_code number here u r y))
     c.in_ok-to.to (width x) begun c.in_ok-value.ensures.built
-    (p ∙ ap (λ (v : ℕ). with_code (built c.read.new.body) (expression_kinds here y) (cut_rest c.in_ok-to.to v
-    (read_at (variable_of y) (length (built c.read.new.body).kinds)) (length (built c.read.new.body).pieces) n (gives_private here y)
-    (λ r. operand_code number here (length (built c.read.new.body).kinds) r y))) left_is)
+    (p ∙ ap (λ (v : ℕ). with_code (built c.expression.new.body) (expression_kinds here y) (cut_rest c.in_ok-to.to v
+    (stands_at y (length (built c.expression.new.body).kinds)) (length (built c.expression.new.body).pieces) n (gives_private here y)
+    (λ r. expression_code number here (length (built c.expression.new.body).kinds) r y))) left_is)
     c.in_ok-to.ensures.number (expression_registers here x)
     ∙ ap (λ (g : Bool). with_code b (expression_kinds here node) (cut_of number here n x y b g)) (sym private))
     c.cut_short.ensures
@@ -290,11 +292,11 @@ cut_short-returns t c =
     let y = typed_tree c.args.b.now in
     let b = built c.args.body.now in
     on_ok_weaker c.close_cut.result
-    (λ p. cut_made b (built c.push.new.self) (built c.read.new.body) (built c.close_cut.new.body) ReturnNone (expression_kinds here y)
-    (λ n q. operand_code number here n q y) (read_at (variable_of y)) c.args.connective (gives_private here y) c.args.left.to c.args.left.value
+    (λ p. cut_made b (built c.push.new.self) (built c.expression.new.body) (built c.close_cut.new.body) ReturnNone (expression_kinds here y)
+    (λ n q. expression_code number here n q y) (stands_at y) c.args.connective (gives_private here y) c.args.left.to c.args.left.value
     c.in_ok-value.value c.next_place-branch.result c.in_ok-push.ensures c.in_ok-value.ensures.built
-    (p ∙ ap (λ (g : Bool). cut_closed (built c.read.new.body) c.args.connective g c.args.left.to c.args.left.value c.in_ok-value.value
-    c.next_place-branch.result) (c.first_is_private-secret.ensures ∙ ap first_is_private c.requires.notes))
+    (p ∙ ap (λ (g : Bool). cut_closed (built c.expression.new.body) c.args.connective g c.args.left.to c.args.left.value c.in_ok-value.value
+    c.next_place-branch.result) (c.first_is_private-private.ensures ∙ ap first_is_private c.requires.notes))
     c.in_ok-value.ensures.register c.next_place-branch.ensures)
     c.close_cut.ensures
 
@@ -367,7 +369,7 @@ arguments-loop-e-preserved t c =
           c.in_ok-push.ensures.items
           ∙ ap₂ (λ l r. l ++ r ∷ []) c.loop-e.invariant.places
           (c.in_ok-register.ensures.register
-          ∙ ap (λ (g : Bool). picked (lacks g (gives_private here e)) (length before.kinds) (read_at (variable_of e) (length before.kinds + 1))) private)
+          ∙ ap (λ (g : Bool). picked (lacks g (gives_private here e)) (length before.kinds) (stands_at e (length before.kinds + 1))) private)
           ∙ sym (several.places_more number here bound ts e ss (length b.kinds) (drop i ss) (length before.kinds) slots n)
           ∙ ap (λ l. arguments_places number here bound ss (length b.kinds) (typed_trees_of l)) (sym more);
     }

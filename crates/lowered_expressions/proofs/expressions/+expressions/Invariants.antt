@@ -8,11 +8,11 @@ use Rattle.lowered_expressions.specs.Views.{built, here_of, numbers_of}
 use Rattle.lowered_expressions.specs.inner.Notes.{arguments_notes}
 use Rattle.lowered_expressions.proofs.expressions.+expressions.Given as goal
 
-abbrev pub decreases-expression : goal.decreases-expression
-decreases-expression l = 4 * width (typed_tree l.e.now)
+abbrev pub decreases-node : goal.decreases-node
+decreases-node l = 4 * width (typed_tree l.e.now)
 
-abbrev pub decreases-read : goal.decreases-read
-decreases-read l = 4 * width (typed_tree l.e.now) + 1
+abbrev pub decreases-expression : goal.decreases-expression
+decreases-expression l = 4 * width (typed_tree l.e.now) + 1
 
 abbrev pub decreases-operand : goal.decreases-operand
 decreases-operand l = 4 * width (typed_tree l.e.now) + 2

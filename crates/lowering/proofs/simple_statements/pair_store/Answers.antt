@@ -3,7 +3,7 @@ use Rattle.std.proofs.lemmas.Result.{on_ok_weaker}
 use Rattle.typed_tree.specs.Tree.{typed_tree}
 use Rattle.language_model.specs.Evaluation.{gives_private}
 use Rattle.code_model.specs.Kinds.{width, expression_kinds, private_kind_in}
-use Rattle.code_model.specs.Expressions.{variable_of, read_at, operand_code, lacks}
+use Rattle.code_model.specs.Expressions.{stands_at, expression_code, lacks}
 use Rattle.code_model.proofs.Widths.{expression_registers}
 use Rattle.lowered_expressions.specs.Built.{with_code, with_kind, with_step}
 use Rattle.lowered_expressions.specs.Views.{built, here_of, numbers_of}
@@ -21,9 +21,9 @@ returns c =
     let last = pair_step c.args.store.pair c.args.store.line c.args.store.slot in
     let l = lacks c.slot_is_private-private.result (gives_private here e) in
     on_ok_weaker c.push.result
-    (λ p. pair_made b (built c.fresh.new.self) (built c.read.new.body) (built c.operand.new.body) (built c.push.new.self) (private_kind_in here e)
-    (expression_kinds here n) (expression_kinds here e) (λ t q. operand_code number here t q n) (λ t q. operand_code number here t q e)
-    (read_at (variable_of n)) (read_at (variable_of e)) l
+    (λ p. pair_made b (built c.fresh.new.self) (built c.expression.new.body) (built c.operand.new.body) (built c.push.new.self) (private_kind_in here e)
+    (expression_kinds here n) (expression_kinds here e) (λ t q. expression_code number here t q n) (λ t q. expression_code number here t q e)
+    (stands_at n) (stands_at e) l
     c.in_ok-classified.classified c.in_ok-first.first c.in_ok-second.second (width n) last
     (c.in_ok-classified.ensures.built ∙ ap (with_kind b) c.private_kind.ensures) c.in_ok-first.ensures.built c.in_ok-second.ensures.built
     (p ∙ ap (with_step (built c.operand.new.body)) c.pair_step.ensures) c.in_ok-classified.ensures.number c.in_ok-first.ensures.register

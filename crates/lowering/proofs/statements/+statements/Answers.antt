@@ -6,7 +6,7 @@ use Rattle.typed_tree.specs.Tree.{typed_tree}
 use Rattle.typed_tree.specs.Statements.{typed_statement, typed_statements_of}
 use Rattle.verified_code.specs.Steps.{Branch, Jump, ReturnNone}
 use Rattle.code_model.specs.Kinds.{width, expression_kinds}
-use Rattle.code_model.specs.Expressions.{variable_of, read_at, operand_code}
+use Rattle.code_model.specs.Expressions.{stands_at, expression_code}
 use Rattle.code_model.specs.Statements.{statement_width, statement_kinds}
 use Rattle.code_model.proofs.Widths.{expression_registers}
 use Rattle.lowered_expressions.specs.Built.{Built, whole}
@@ -60,7 +60,7 @@ choice-set-requires t c =
     let at = place_seen c.args.at.now in
     let b2 = built c.push.new.self in
     let b4 = built c.push-2.new.self in
-    let p2 = places_step (built c.read.new.body) b2 ReturnNone c.in_ok-push.ensures in
+    let p2 = places_step (built c.expression.new.body) b2 ReturnNone c.in_ok-push.ensures in
     let p3 = places_behind b2 (built c.statement.new.body) (statement_kinds at.here (typed_statement c.args.first.now))
     (statement_pieces number at (length b2.kinds) (length b2.pieces) (typed_statement c.args.first.now)) c.in_ok-statement.ensures in
     let p4 = places_step (built c.statement.new.body) b4 ReturnNone c.in_ok-push-2.ensures in
@@ -88,10 +88,10 @@ choice-returns t c =
     let e = typed_tree c.args.e.now in
     let x = typed_statement c.args.first.now in
     let y = typed_statement c.args.second.now in
-    if_made (built c.args.body.now) (built c.read.new.body) (built c.push.new.self) (built c.statement.new.body) (built c.push-2.new.self)
+    if_made (built c.args.body.now) (built c.expression.new.body) (built c.push.new.self) (built c.statement.new.body) (built c.push-2.new.self)
     (built c.statement-2.new.body) (built c.set.new.self) (built c.set-2.new.self)
     (expression_kinds at.here e) (statement_kinds at.here x) (statement_kinds at.here y)
-    (λ n p. operand_code number at.here n p e) (read_at (variable_of e)) (λ n p. statement_pieces number at n p x) (λ n p. statement_pieces number at n p y)
+    (λ n p. expression_code number at.here n p e) (stands_at e) (λ n p. statement_pieces number at n p x) (λ n p. statement_pieces number at n p y)
     (width e) (statement_width x) c.in_ok-condition.condition c.next_place-branch.result c.next_place-jump.result c.next_place-target.result
     c.next_place-end.result
     c.in_ok-condition.ensures.built c.in_ok-push.ensures c.in_ok-statement.ensures c.in_ok-push-2.ensures c.in_ok-statement-2.ensures c.set.ensures
@@ -108,14 +108,14 @@ turns-set-requires t c =
     let b1 = built c.push.new.self in
     let b2 = built c.statement.new.body in
     let b3 = built c.statement-2.new.body in
-    let b4 = built c.read.new.body in
+    let b4 = built c.expression.new.body in
     let e = typed_tree c.args.e.now in
     let p1 = places_step (built c.args.body.now) b1 ReturnNone c.in_ok-push.ensures in
     let p2 = places_behind b1 b2 (statement_kinds at.here (typed_statement c.args.repeated.now))
     (statement_pieces number at (length b1.kinds) (length b1.pieces) (typed_statement c.args.repeated.now)) c.in_ok-statement.ensures in
     let p3 = places_behind b2 b3 (statement_kinds at.here (typed_statement c.args.step.now))
     (statement_pieces number at (length b2.kinds) (length b2.pieces) (typed_statement c.args.step.now)) c.in_ok-statement-2.ensures in
-    let p4 = places_behind b3 b4 (expression_kinds at.here e) (map whole (operand_code number at.here (length b3.kinds) (length b3.pieces) e))
+    let p4 = places_behind b3 b4 (expression_kinds at.here e) (map whole (expression_code number at.here (length b3.kinds) (length b3.pieces) e))
     c.in_ok-condition.ensures.built in
     let p5 = places_step b4 (built c.push-2.new.self) (Branch c.in_ok-condition.condition true c.next_place-start.result) c.in_ok-push-2.ensures in
     omega (arith, p1, p2, p3, p4, p5, c.next_place-jump.ensures)
@@ -127,13 +127,13 @@ turns-settle-requires t c =
     let b1 = built c.push.new.self in
     let b2 = built c.statement.new.body in
     let b3 = built c.statement-2.new.body in
-    let b4 = built c.read.new.body in
+    let b4 = built c.expression.new.body in
     let e = typed_tree c.args.e.now in
     let p2 = places_behind b1 b2 (statement_kinds at.here (typed_statement c.args.repeated.now))
     (statement_pieces number at (length b1.kinds) (length b1.pieces) (typed_statement c.args.repeated.now)) c.in_ok-statement.ensures in
     let p3 = places_behind b2 b3 (statement_kinds at.here (typed_statement c.args.step.now))
     (statement_pieces number at (length b2.kinds) (length b2.pieces) (typed_statement c.args.step.now)) c.in_ok-statement-2.ensures in
-    let p4 = places_behind b3 b4 (expression_kinds at.here e) (map whole (operand_code number at.here (length b3.kinds) (length b3.pieces) e))
+    let p4 = places_behind b3 b4 (expression_kinds at.here e) (map whole (expression_code number at.here (length b3.kinds) (length b3.pieces) e))
     c.in_ok-condition.ensures.built in
     let p5 = places_step b4 (built c.push-2.new.self) (Branch c.in_ok-condition.condition true c.next_place-start.result) c.in_ok-push-2.ensures in
     let p6 = ap (λ (z : Built). length z.pieces) c.set.ensures
@@ -149,11 +149,11 @@ turns-settle-requires-2 t c =
     let at = place_seen c.args.at.now in
     let b2 = built c.statement.new.body in
     let b3 = built c.statement-2.new.body in
-    let b4 = built c.read.new.body in
+    let b4 = built c.expression.new.body in
     let e = typed_tree c.args.e.now in
     let p3 = places_behind b2 b3 (statement_kinds at.here (typed_statement c.args.step.now))
     (statement_pieces number at (length b2.kinds) (length b2.pieces) (typed_statement c.args.step.now)) c.in_ok-statement-2.ensures in
-    let p4 = places_behind b3 b4 (expression_kinds at.here e) (map whole (operand_code number at.here (length b3.kinds) (length b3.pieces) e))
+    let p4 = places_behind b3 b4 (expression_kinds at.here e) (map whole (expression_code number at.here (length b3.kinds) (length b3.pieces) e))
     c.in_ok-condition.ensures.built in
     let p5 = places_step b4 (built c.push-2.new.self) (Branch c.in_ok-condition.condition true c.next_place-start.result) c.in_ok-push-2.ensures in
     let p6 = ap (λ (z : Built). length z.pieces) c.set.ensures
@@ -170,7 +170,7 @@ pub turns-returns : goal.turns-returns
 turns-returns t c =
     loop_made (numbers_at c.args.at.now) (place_seen c.args.at.now) (typed_tree c.args.e.now) (typed_statement c.args.step.now)
     (typed_statement c.args.repeated.now)
-    (built c.args.body.now) (built c.push.new.self) (built c.statement.new.body) (built c.statement-2.new.body) (built c.read.new.body)
+    (built c.args.body.now) (built c.push.new.self) (built c.statement.new.body) (built c.statement-2.new.body) (built c.expression.new.body)
     (built c.push-2.new.self) (built c.set.new.self) (built c.settle.new.body) (built c.settle-2.new.body)
     c.next_place-jump.result c.next_place-start.result c.next_place-onward.result c.next_place-test.result c.in_ok-condition.condition
     c.next_place-end.result
@@ -185,11 +185,11 @@ repeats-settle-requires t c =
     let at = place_seen c.args.at.now in
     let b0 = built c.args.body.now in
     let b1 = built c.statement.new.body in
-    let b2 = built c.read.new.body in
+    let b2 = built c.expression.new.body in
     let e = typed_tree c.args.e.now in
     let p1 = places_behind b0 b1 (statement_kinds at.here (typed_statement c.args.repeated.now))
     (statement_pieces number at (length b0.kinds) (length b0.pieces) (typed_statement c.args.repeated.now)) c.in_ok-statement.ensures in
-    let p2 = places_behind b1 b2 (expression_kinds at.here e) (map whole (operand_code number at.here (length b1.kinds) (length b1.pieces) e))
+    let p2 = places_behind b1 b2 (expression_kinds at.here e) (map whole (expression_code number at.here (length b1.kinds) (length b1.pieces) e))
     c.in_ok-condition.ensures.built in
     let p3 = places_step b2 (built c.push.new.self) (Branch c.in_ok-condition.condition true c.next_place-start.result) c.in_ok-push.ensures in
     record {
@@ -200,7 +200,7 @@ repeats-settle-requires t c =
 pub repeats-returns : goal.repeats-returns
 repeats-returns t c =
     do_made (numbers_at c.args.at.now) (place_seen c.args.at.now) (typed_tree c.args.e.now) (typed_statement c.args.repeated.now)
-    (built c.args.body.now) (built c.statement.new.body) (built c.read.new.body) (built c.push.new.self) (built c.settle.new.body)
+    (built c.args.body.now) (built c.statement.new.body) (built c.expression.new.body) (built c.push.new.self) (built c.settle.new.body)
     c.next_place-start.result c.next_place-test.result c.in_ok-condition.condition c.next_place-end.result
     (c.next_place-test.result - c.next_place-start.result)
     c.in_ok-statement.ensures c.in_ok-condition.ensures.built c.in_ok-push.ensures c.settle.ensures c.next_place-start.ensures c.next_place-test.ensures
