@@ -1,5 +1,14 @@
 // What came out against what the row says.
-ghost use Rattle.std.specs.Prelude.{◌≡◌, true, IfOk};
+ghost use Rattle.std.specs.Prelude.{◌≡◌, ◌==◌, ◌++◌, ◌||◌, IfOk, OnOk, map, not, option_map, string_bytes, take};
+ghost use Rattle.std.specs.List.{flat_map, list_any};
+ghost use Rattle.std.specs.Str.{bytes_eq};
+ghost use Rattle.outside.specs.Files.{file_at};
+ghost use Rattle.outside.specs.MemFiles.{files_in};
+ghost use Rattle.outside.specs.SpawnCall.{call_of, calls_of};
+ghost use Rattle.row_files.specs.Agreeing.{agrees, are_called, is_sent};
+ghost use Rattle.row_files.specs.Calls.{call_told, calls_told, word_told};
+ghost use Rattle.row_files.specs.Texts.{speaks_of, last_end_text, end_text, fits, fits_at, files_fit, peer_named};
+ghost use Rattle.row_files.specs.Texts.{is_of_file as file_kind, is_of_end as end_kind};
 
 use crate::row::{Kind, Row, Text, peer_of};
 use outside::{MemFiles, MemLinks, MemSink, MemSpawner, SpawnCall};
@@ -99,7 +108,7 @@ fn add_bytes(report: &mut Report, bytes: &[u8]) {
 
 // Whether the two are the same. Where they are not, the report says so.
 fn same(report: &mut Report, name: &str, path: &str, wanted: &[u8], found: &[u8]) -> bool
-    ensures { result ≡ true → wanted.now ≡ found.now }
+    ensures { result ≡ bytes_eq wanted.now found.now }
 {
     if wanted == found {
         return true;
@@ -114,29 +123,41 @@ fn same(report: &mut Report, name: &str, path: &str, wanted: &[u8], found: &[u8]
     false
 }
 
-// Whether a text speaks of this file.
-fn is_of(text: &Text, path: &str) -> bool {
-    matches!(text.kind, Kind::Held | Kind::Written | Kind::Absent) && text.name.as_str() == path
+// Whether texts of this kind speak of a file.
+fn is_of_file(kind: Kind) -> bool
+    ensures { result ≡ file_kind kind }
+{
+    matches!(kind, Kind::Held | Kind::Written | Kind::Absent)
+}
+
+// Whether texts of this kind say what is at a path in the end.
+fn is_of_end(kind: Kind) -> bool
+    ensures { result ≡ end_kind kind }
+{
+    matches!(kind, Kind::Written | Kind::Absent)
+}
+
+// The last text that says what is at this path in the end.
+fn last_end<'a>(row: &'a Row, path: &str) -> Option<&'a Text>
+    ensures { option_map (λ text. text.now) result ≡ last_end_text row.now.texts.items path.now }
+{
+    let mut texts = row.texts.iter().rev();
+    texts.find(|text| is_of_end(text.kind) && text.name.as_str() == path)
 }
 
 // What a file must be afterwards: the last text that says so of this path, or else what it was.
-fn wanted_file<'a>(row: &'a Row, path: &str) -> Option<&'a Text> {
-    for text in row.texts.iter().rev() {
-        if is_of(text, path) && !matches!(text.kind, Kind::Held) {
-            return Some(text);
-        }
-    }
-    row.find(Kind::Held, path)
+fn wanted_file<'a>(row: &'a Row, path: &str) -> Option<&'a Text>
+    ensures { option_map (λ text. text.now) result ≡ end_text row.now.texts.items path.now }
+{
+    last_end(row, path).or(row.find(Kind::Held, path))
 }
 
 // Whether one of so many texts speaks of this file.
-fn is_told(row: &Row, count: usize, path: &str) -> bool {
-    for text in row.texts.iter().take(count) {
-        if is_of(text, path) {
-            return true;
-        }
-    }
-    false
+fn is_told(row: &Row, count: usize, path: &str) -> bool
+    ensures { result ≡ list_any (speaks_of path.now) (take count row.now.texts.items) }
+{
+    let mut texts = row.texts.iter().take(count);
+    texts.any(|text| is_of_file(text.kind) && text.name.as_str() == path)
 }
 
 fn say_of_file(report: &mut Report, path: &str, what: &str) {
@@ -145,9 +166,10 @@ fn say_of_file(report: &mut Report, path: &str, what: &str) {
     report.add(what);
 }
 
-fn same_file(report: &mut Report, wanted: &Text, outcome: &Outcome) -> bool {
-    let path = wanted.name.as_str();
-    let is_absent = matches!(wanted.kind, Kind::Absent);
+fn same_file(report: &mut Report, path: &str, wanted: &Text, outcome: &Outcome) -> bool
+    ensures { result ≡ fits (file_at (files_in outcome.now.files) path.now) wanted.now }
+{
+    let is_absent = wanted.kind == Kind::Absent;
     match outcome.files.get(path) {
         Some(_) if is_absent => {
             say_of_file(report, path, ": is there\n");
@@ -163,21 +185,39 @@ fn same_file(report: &mut Report, wanted: &Text, outcome: &Outcome) -> bool {
     }
 }
 
+fn same_at(report: &mut Report, row: &Row, path: &str, outcome: &Outcome) -> bool
+    ensures { result ≡ fits_at row.now.texts.items (files_in outcome.now.files) path.now }
+{
+    match wanted_file(row, path) {
+        Some(wanted) => same_file(report, path, wanted, outcome),
+        None => true,
+    }
+}
+
+// Whether the file of which a text speaks, if it speaks of one, is what the row says. An earlier text can have said of it.
+fn same_text(report: &mut Report, row: &Row, index: usize, text: &Text, outcome: &Outcome) -> bool
+    ensures { let texts = row.now.texts.items in
+        let path = string_bytes text.now.name in
+        result ≡ (not (file_kind text.now.kind) || list_any (speaks_of path) (take index texts) || fits_at texts (files_in outcome.now.files) path) }
+{
+    let path = text.name.as_str();
+    !is_of_file(text.kind) || is_told(row, index, path) || same_at(report, row, path, outcome)
+}
+
 // Each file that the row names, once.
-fn same_files(report: &mut Report, row: &Row, outcome: &Outcome) -> bool {
+fn same_files(report: &mut Report, row: &Row, outcome: &Outcome) -> bool
+    ensures { result ≡ files_fit row.now.texts.items (files_in outcome.now.files) }
+{
     let mut all = true;
     for (index, text) in row.texts.iter().enumerate() {
-        let path = text.name.as_str();
-        if is_of(text, path) && !is_told(row, index, path) {
-            let wanted = wanted_file(row, path).unwrap_or(text);
-            let agrees = same_file(report, wanted, outcome);
-            all = all && agrees;
-        }
+        all &= same_text(report, row, index, text, outcome);
     }
     all
 }
 
-fn same_sent(report: &mut Report, row: &Row, outcome: &Outcome, name: &str) -> bool {
+fn same_sent(report: &mut Report, row: &Row, outcome: &Outcome, name: &str) -> bool
+    ensures { result ≡ is_sent row.now outcome.now (peer_named name.now) name.now }
+{
     same(
         report,
         "sent ",
@@ -187,41 +227,57 @@ fn same_sent(report: &mut Report, row: &Row, outcome: &Outcome, name: &str) -> b
     )
 }
 
-// A call of a child as a line: `start WORD WORD ..` or `wait CHILD`.
-fn add_call(calls: &mut Report, call: &SpawnCall) {
-    match call {
-        SpawnCall::Started { words, .. } => {
-            calls.add("start");
-            for word in words.iter() {
-                calls.add(" ");
-                calls.add(word.as_str());
-            }
-        }
-        SpawnCall::Awaited(child) => {
-            calls.add("wait ");
-            calls.add_number(u64::from(*child));
-        }
+// Adds each word behind a blank.
+fn add_words(line: &mut String, words: &[String]) -> Result<(), AllocError>
+    ensures { OnOk result (string_bytes line.new ≡ string_bytes line.old ++ flat_map word_told (map string_bytes words.now)) }
+{
+    for word in words {
+        line.push_str(" ")?;
+        line.push_str(word.as_str())?;
     }
-    calls.add("\n");
+    Ok(())
 }
 
-fn same_calls(alloc: Global, report: &mut Report, row: &Row, outcome: &Outcome) -> bool {
-    let mut calls = Report::new(alloc);
-    for call in outcome.children.calls() {
-        add_call(&mut calls, call);
+// Adds a call of a child as a line: `start WORD WORD ..` or `wait CHILD`.
+fn add_call(lines: &mut String, call: &SpawnCall) -> Result<(), AllocError>
+    ensures { OnOk result (string_bytes lines.new ≡ string_bytes lines.old ++ call_told (call_of call.now)) }
+{
+    match call {
+        SpawnCall::Started { words, .. } => {
+            lines.push_str("start")?;
+            add_words(lines, words)?;
+        }
+        SpawnCall::Awaited(child) => write!(lines, "wait {child}")?,
     }
-    report.is_short = report.is_short || calls.is_short;
-    same(
-        report,
-        "calls",
-        "",
-        row.bytes(Kind::Calls, ""),
-        calls.text.as_bytes(),
-    )
+    lines.push_str("\n")
+}
+
+// Each call as a line.
+fn call_lines(alloc: Global, calls: &[SpawnCall]) -> Result<String, AllocError>
+    ensures { IfOk result (λ lines. string_bytes lines ≡ calls_told (calls_of calls.now)) }
+{
+    let mut lines = String::new(alloc);
+    for call in calls {
+        add_call(&mut lines, call)?;
+    }
+    Ok(lines)
+}
+
+fn same_calls(
+    alloc: Global,
+    report: &mut Report,
+    row: &Row,
+    outcome: &Outcome,
+) -> Result<bool, AllocError>
+    ensures { IfOk result (λ same. same ≡ are_called row.now outcome.now) }
+{
+    let calls = call_lines(alloc, outcome.children.calls())?;
+    let wanted = row.bytes(Kind::Calls, "");
+    Ok(same(report, "calls", "", wanted, calls.as_bytes()))
 }
 
 fn same_status(report: &mut Report, row: &Row, outcome: &Outcome) -> bool
-    ensures { result ≡ true → outcome.now.status ≡ row.now.status }
+    ensures { result ≡ outcome.now.status == row.now.status }
 {
     if outcome.status == row.status {
         return true;
@@ -241,7 +297,7 @@ pub fn judge(
     row: &Row,
     outcome: &Outcome,
 ) -> Result<bool, AllocError>
-    ensures { IfOk result (λ agrees. agrees ≡ true → outcome.now.status ≡ row.now.status) }
+    ensures { IfOk result (λ yes. yes ≡ agrees row.now outcome.now) }
 {
     let mut told = Report::new(alloc);
     let status = same_status(&mut told, row, outcome);
@@ -253,10 +309,9 @@ pub fn judge(
     let first = same_sent(&mut told, row, outcome, "1");
     let second = same_sent(&mut told, row, outcome, "2");
     let third = same_sent(&mut told, row, outcome, "3");
-    let links = first && second && third;
-    let calls = same_calls(alloc, &mut told, row, outcome);
+    let calls = same_calls(alloc, &mut told, row, outcome)?;
     if told.is_short || report.push_str(told.text.as_str()).is_err() {
         return Err(AllocError);
     }
-    Ok(status && out && err && files && links && calls)
+    Ok(status && out && err && files && first && second && third && calls)
 }

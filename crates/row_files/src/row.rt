@@ -1,5 +1,6 @@
 // One call of the program, and what must come of it.
-ghost use Rattle.std.specs.Prelude.{◌≤◌};
+ghost use Rattle.std.specs.Prelude.{◌≡◌, ◌≤◌, option_map};
+ghost use Rattle.row_files.specs.Texts.{bytes_said, last_text, peer_named};
 
 use crate::wrong::Fault;
 use std::alloc::{AllocError, Global};
@@ -106,6 +107,7 @@ impl Drop for Row {
 pub fn peer_of(name: &str) -> u8
     ensures from { 1 ≤ result }
     ensures to { result ≤ 3 }
+    ensures named { result ≡ peer_named name.now }
 {
     match name {
         "1" => 1,
@@ -242,17 +244,19 @@ impl Row {
     }
 
     /// The last text of this kind and name.
-    pub fn find(&self, kind: Kind, name: &str) -> Option<&Text> {
-        for text in self.texts.iter().rev() {
-            if text.kind == kind && text.name.as_str() == name {
-                return Some(text);
-            }
-        }
-        None
+    pub fn find(&self, kind: Kind, name: &str) -> Option<&Text>
+        ensures { option_map (λ text. text.now) result ≡ last_text self.now.texts.items kind name.now }
+    {
+        self.texts
+            .iter()
+            .rev()
+            .find(|text| text.kind == kind && text.name.as_str() == name)
     }
 
     /// The bytes of the last text of this kind and name; none where there is no such text.
-    pub fn bytes(&self, kind: Kind, name: &str) -> &[u8] {
+    pub fn bytes(&self, kind: Kind, name: &str) -> &[u8]
+        ensures { result.now ≡ bytes_said self.now.texts.items kind name.now }
+    {
         match self.find(kind, name) {
             Some(text) => &text.bytes,
             None => &[],
