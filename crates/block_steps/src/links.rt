@@ -33,6 +33,11 @@ impl Links {
         }
     }
 
+    /// Where more memory comes from.
+    pub(crate) fn alloc(&self) -> Global {
+        *self.opened.allocator()
+    }
+
     /// A message comes from the previous miner; with no memory left all is as before.
     pub fn receive_from_previous(&mut self, msg: &Msg) -> Result<(), AllocError>
         ensures ok { OnOk result (self.new ≡ came_from_previous self.old msg.now) }

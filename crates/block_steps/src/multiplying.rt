@@ -5,7 +5,7 @@ ghost use Rattle.block_steps.specs.Outcomes.{outcome_of, Holds, IsBeside};
 ghost use Rattle.block_steps.specs.Pendings.{ring_left, progress_left, StandsThen, Shorter};
 
 use crate::links::Links;
-use crate::progress::{Progress, untold};
+use crate::progress::Progress;
 use crate::ring_block::RingBlock;
 use multiply::{Crossed, Masked, Mul};
 use proto_core::{Block, Party};
@@ -28,16 +28,16 @@ pub fn begin<R: ShareRing, P: Party>(
 {
     let (state, next) = Mul::start(&Block::from_words(u), &Block::from_words(v), words);
     links.to_next.push(&next)?;
-    Ok(RingBlock::MulMasked(state))
+    Ok(RingBlock::MulMasked(Box::new(links.alloc(), state)?))
 }
 
 /// Takes the previous miner's masks.
 pub fn masked<R: ShareRing, P: Party>(
-    state: Mul<R, P, Masked>,
+    state: Box<Mul<R, P, Masked>>,
     links: &mut Links,
-) -> Result<Progress<RingBlock<R, P>, P>, AllocError>
+) -> Result<Progress<RingBlock<R, P>>, AllocError>
     ensures same { IfOk result (λ to. outcome_of P.me links.new (progress_left (ring_left R.ring P.me) to)
-        ≡ outcome_of P.me links.old (mul_masked R.ring (length state.mask) P.me state)) }
+        ≡ outcome_of P.me links.old (mul_masked R.ring (length state.value.mask) P.me state.value)) }
     ensures stands { IfOk result (λ to. StandsThen (ring_left R.ring P.me) P.me links.new to) }
     ensures falls { IfOk result (λ to. Shorter links.old links.new to) }
     ensures kept { OnOk result (Holds links.old links.new) }
@@ -45,14 +45,14 @@ pub fn masked<R: ShareRing, P: Party>(
     let Some(msg) = links.from_previous.front() else {
         return Ok(Progress::Stands(RingBlock::MulMasked(state), None));
     };
-    match state.got(&msg) {
+    match Box::into_inner(state).got(&msg) {
         Ok((state, next)) => {
             links.from_previous.take();
             links.to_next.push(&next)?;
-            Ok(Progress::Goes(RingBlock::MulCrossed(state)))
+            Ok(Progress::Goes(RingBlock::MulCrossed(Box::new(links.alloc(), state)?)))
         }
         Err(refused) => Ok(Progress::Stands(
-            RingBlock::MulMasked(refused.state),
+            RingBlock::MulMasked(Box::new(links.alloc(), refused.state)?),
             Some(refused.cause),
         )),
     }
@@ -60,11 +60,11 @@ pub fn masked<R: ShareRing, P: Party>(
 
 /// Takes the previous miner's factors.
 pub fn crossed<R: ShareRing, P: Party>(
-    state: Mul<R, P, Crossed>,
+    state: Box<Mul<R, P, Crossed>>,
     links: &mut Links,
-) -> Result<Progress<RingBlock<R, P>, P>, AllocError>
+) -> Result<Progress<RingBlock<R, P>>, AllocError>
     ensures same { IfOk result (λ to. outcome_of P.me links.new (progress_left (ring_left R.ring P.me) to)
-        ≡ outcome_of P.me links.old (mul_crossed R.ring (length state.mask) P.me state)) }
+        ≡ outcome_of P.me links.old (mul_crossed R.ring (length state.value.mask) P.me state.value)) }
     ensures stands { IfOk result (λ to. StandsThen (ring_left R.ring P.me) P.me links.new to) }
     ensures falls { IfOk result (λ to. Shorter links.old links.new to) }
     ensures kept { OnOk result (Holds links.old links.new) }
@@ -72,16 +72,16 @@ pub fn crossed<R: ShareRing, P: Party>(
     let Some(msg) = links.from_previous.front() else {
         return Ok(Progress::Stands(RingBlock::MulCrossed(state), None));
     };
-    match state.got(&msg) {
+    match Box::into_inner(state).got(&msg) {
         Ok(share) => {
             links.from_previous.take();
             Ok(Progress::Made {
-                first: untold(&share),
+                first: Vec::from_slice(links.alloc(), share.words())?,
                 second: None,
             })
         }
         Err(refused) => Ok(Progress::Stands(
-            RingBlock::MulCrossed(refused.state),
+            RingBlock::MulCrossed(Box::new(links.alloc(), refused.state)?),
             Some(refused.cause),
         )),
     }
