@@ -1,4 +1,4 @@
-// Truth values turned into numbers, block by block.
+// Truth values turned into numbers, block by block. No function is inlined: each has room for states and messages, which is made anew with each call.
 ghost use Rattle.std.specs.Prelude.{◌≡◌, ◌≤◌, ◌*◌, length, OnOk, IfOk};
 ghost use Rattle.proto_core.specs.declared.party.Number.TheVariants as number;
 ghost use Rattle.share_convert.specs.Converting.{conv_draws};
@@ -81,6 +81,7 @@ impl<P: Party> Conversion<P> {
 }
 
 /// Begins a block: the first miner deals to both others, and the third one's mask goes to the first.
+#[inline(never)]
 pub fn begin<P: Party>(
     u: &[u64],
     words: &[u64],
@@ -95,10 +96,10 @@ pub fn begin<P: Party>(
     match P::number() {
         Number::One => deal(u, words, links),
         Number::Two => Ok(Conversion {
-            state: Converting::TwoFirst(Box::new(
-                links.alloc(),
-                Conv::<P2, First>::start(&Block::from_words(u), words),
-            )?),
+            state: Converting::TwoFirst(links.boxed(Conv::<P2, First>::start(
+                &Block::from_words(u),
+                words,
+            ))?),
             of: PhantomData,
         }),
         Number::Three => send_mask(u, words, links),
@@ -106,6 +107,7 @@ pub fn begin<P: Party>(
 }
 
 /// The first miner's beginning.
+#[inline(never)]
 fn deal<P: Party>(u: &[u64], words: &[u64], links: &mut Links) -> Result<Conversion<P>, AllocError>
     requires first { P.me ≡ number.One }
     requires short { length u.now ≤ 512 }
@@ -118,12 +120,13 @@ fn deal<P: Party>(u: &[u64], words: &[u64], links: &mut Links) -> Result<Convers
     links.to_next.push(&to_two)?;
     links.to_previous.push(&to_three)?;
     Ok(Conversion {
-        state: Converting::One(Box::new(links.alloc(), state)?),
+        state: Converting::One(links.boxed(state)?),
         of: PhantomData,
     })
 }
 
 /// The third miner's beginning.
+#[inline(never)]
 fn send_mask<P: Party>(
     u: &[u64],
     words: &[u64],
@@ -139,12 +142,13 @@ fn send_mask<P: Party>(
     let (state, to_one) = Conv::<P3, First>::start(&Block::from_words(u), words);
     links.to_next.push(&to_one)?;
     Ok(Conversion {
-        state: Converting::ThreeFirst(Box::new(links.alloc(), state)?),
+        state: Converting::ThreeFirst(links.boxed(state)?),
         of: PhantomData,
     })
 }
 
 /// The first miner takes the third one's mask.
+#[inline(never)]
 fn got31<P: Party>(
     state: Box<Conv<P1, Sent>>,
     links: &mut Links,
@@ -175,7 +179,7 @@ fn got31<P: Party>(
         }
         Err(refused) => Ok(Progress::Stands(
             Conversion {
-                state: Converting::One(Box::new(links.alloc(), refused.state)?),
+                state: Converting::One(links.boxed(refused.state)?),
                 of: PhantomData,
             },
             Some(refused.cause),
@@ -184,6 +188,7 @@ fn got31<P: Party>(
 }
 
 /// The second miner takes what the first one dealt, and sends its bits and mask.
+#[inline(never)]
 fn got12<P: Party>(
     state: Box<Conv<P2, First>>,
     links: &mut Links,
@@ -209,13 +214,13 @@ fn got12<P: Party>(
             links.from_previous.take();
             links.to_next.push(&reply)?;
             Ok(Progress::Goes(Conversion {
-                state: Converting::TwoSecond(Box::new(links.alloc(), state)?),
+                state: Converting::TwoSecond(links.boxed(state)?),
                 of: PhantomData,
             }))
         }
         Err(refused) => Ok(Progress::Stands(
             Conversion {
-                state: Converting::TwoFirst(Box::new(links.alloc(), refused.state)?),
+                state: Converting::TwoFirst(links.boxed(refused.state)?),
                 of: PhantomData,
             },
             Some(refused.cause),
@@ -224,6 +229,7 @@ fn got12<P: Party>(
 }
 
 /// The second miner takes the third one's bits.
+#[inline(never)]
 fn got32<P: Party>(
     state: Box<Conv<P2, Second>>,
     links: &mut Links,
@@ -254,7 +260,7 @@ fn got32<P: Party>(
         }
         Err(refused) => Ok(Progress::Stands(
             Conversion {
-                state: Converting::TwoSecond(Box::new(links.alloc(), refused.state)?),
+                state: Converting::TwoSecond(links.boxed(refused.state)?),
                 of: PhantomData,
             },
             Some(refused.cause),
@@ -263,6 +269,7 @@ fn got32<P: Party>(
 }
 
 /// The third miner takes what the first one dealt, and sends its bits.
+#[inline(never)]
 fn got13<P: Party>(
     state: Box<Conv<P3, First>>,
     links: &mut Links,
@@ -288,13 +295,13 @@ fn got13<P: Party>(
             links.from_next.take();
             links.to_previous.push(&reply)?;
             Ok(Progress::Goes(Conversion {
-                state: Converting::ThreeSecond(Box::new(links.alloc(), state)?),
+                state: Converting::ThreeSecond(links.boxed(state)?),
                 of: PhantomData,
             }))
         }
         Err(refused) => Ok(Progress::Stands(
             Conversion {
-                state: Converting::ThreeFirst(Box::new(links.alloc(), refused.state)?),
+                state: Converting::ThreeFirst(links.boxed(refused.state)?),
                 of: PhantomData,
             },
             Some(refused.cause),
@@ -303,6 +310,7 @@ fn got13<P: Party>(
 }
 
 /// The third miner takes the second one's bits and mask.
+#[inline(never)]
 fn got23<P: Party>(
     state: Box<Conv<P3, Second>>,
     links: &mut Links,
@@ -333,7 +341,7 @@ fn got23<P: Party>(
         }
         Err(refused) => Ok(Progress::Stands(
             Conversion {
-                state: Converting::ThreeSecond(Box::new(links.alloc(), refused.state)?),
+                state: Converting::ThreeSecond(links.boxed(refused.state)?),
                 of: PhantomData,
             },
             Some(refused.cause),

@@ -1,4 +1,4 @@
-// A product, block by block.
+// A product, block by block. No function is inlined: each has room for states and messages, which is made anew with each call.
 ghost use Rattle.std.specs.Prelude.{◌≡◌, ◌≤◌, ◌*◌, length, OnOk, IfOk};
 ghost use Rattle.multiply.specs.MulStrand.{mul_strand, mul_masked, mul_crossed};
 ghost use Rattle.block_steps.specs.Outcomes.{outcome_of, Holds, IsBeside};
@@ -13,6 +13,7 @@ use share_ring::ShareRing;
 use std::alloc::AllocError;
 
 /// Sends the masks.
+#[inline(never)]
 pub fn begin<R: ShareRing, P: Party>(
     u: &[u64],
     v: &[u64],
@@ -28,10 +29,11 @@ pub fn begin<R: ShareRing, P: Party>(
 {
     let (state, next) = Mul::start(&Block::from_words(u), &Block::from_words(v), words);
     links.to_next.push(&next)?;
-    Ok(RingBlock::MulMasked(Box::new(links.alloc(), state)?))
+    Ok(RingBlock::MulMasked(links.boxed(state)?))
 }
 
 /// Takes the previous miner's masks.
+#[inline(never)]
 pub fn masked<R: ShareRing, P: Party>(
     state: Box<Mul<R, P, Masked>>,
     links: &mut Links,
@@ -49,16 +51,17 @@ pub fn masked<R: ShareRing, P: Party>(
         Ok((state, next)) => {
             links.from_previous.take();
             links.to_next.push(&next)?;
-            Ok(Progress::Goes(RingBlock::MulCrossed(Box::new(links.alloc(), state)?)))
+            Ok(Progress::Goes(RingBlock::MulCrossed(links.boxed(state)?)))
         }
         Err(refused) => Ok(Progress::Stands(
-            RingBlock::MulMasked(Box::new(links.alloc(), refused.state)?),
+            RingBlock::MulMasked(links.boxed(refused.state)?),
             Some(refused.cause),
         )),
     }
 }
 
 /// Takes the previous miner's factors.
+#[inline(never)]
 pub fn crossed<R: ShareRing, P: Party>(
     state: Box<Mul<R, P, Crossed>>,
     links: &mut Links,
@@ -81,7 +84,7 @@ pub fn crossed<R: ShareRing, P: Party>(
             })
         }
         Err(refused) => Ok(Progress::Stands(
-            RingBlock::MulCrossed(Box::new(links.alloc(), refused.state)?),
+            RingBlock::MulCrossed(links.boxed(refused.state)?),
             Some(refused.cause),
         )),
     }

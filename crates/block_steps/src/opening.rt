@@ -1,4 +1,4 @@
-// A value that is opened, block by block.
+// A value that is opened, block by block. No function is inlined: each has room for states and messages, which is made anew with each call.
 ghost use Rattle.std.specs.Prelude.{◌≡◌, ◌≤◌, length, OnOk, IfOk};
 ghost use Rattle.open_result.specs.Opening.{open_strand};
 ghost use Rattle.open_result.specs.Steps.{left_masked, left_from_previous, left_from_next};
@@ -14,6 +14,7 @@ use share_ring::ShareRing;
 use std::alloc::AllocError;
 
 /// Sends the mask.
+#[inline(never)]
 pub fn begin<R: ShareRing, P: Party>(
     u: &[u64],
     words: &[u64],
@@ -27,10 +28,11 @@ pub fn begin<R: ShareRing, P: Party>(
 {
     let (state, next) = Open::start(&Block::from_words(u), words);
     links.to_next.push(&next)?;
-    Ok(RingBlock::OpenMasked(Box::new(links.alloc(), state)?))
+    Ok(RingBlock::OpenMasked(links.boxed(state)?))
 }
 
 /// Takes the previous miner's mask, and sends the new share to both others.
+#[inline(never)]
 pub fn masked<R: ShareRing, P: Party>(
     state: Box<Open<R, P, Masked>>,
     links: &mut Links,
@@ -49,16 +51,17 @@ pub fn masked<R: ShareRing, P: Party>(
             links.from_previous.take();
             links.to_next.push(&next)?;
             links.to_previous.push(&previous)?;
-            Ok(Progress::Goes(RingBlock::OpenFromPrevious(Box::new(links.alloc(), state)?)))
+            Ok(Progress::Goes(RingBlock::OpenFromPrevious(links.boxed(state)?)))
         }
         Err(refused) => Ok(Progress::Stands(
-            RingBlock::OpenMasked(Box::new(links.alloc(), refused.state)?),
+            RingBlock::OpenMasked(links.boxed(refused.state)?),
             Some(refused.cause),
         )),
     }
 }
 
 /// Takes the previous miner's new share.
+#[inline(never)]
 pub fn from_previous<R: ShareRing, P: Party>(
     state: Box<Open<R, P, FromPrev>>,
     links: &mut Links,
@@ -75,16 +78,17 @@ pub fn from_previous<R: ShareRing, P: Party>(
     match Box::into_inner(state).got(&msg) {
         Ok(state) => {
             links.from_previous.take();
-            Ok(Progress::Goes(RingBlock::OpenFromNext(Box::new(links.alloc(), state)?)))
+            Ok(Progress::Goes(RingBlock::OpenFromNext(links.boxed(state)?)))
         }
         Err(refused) => Ok(Progress::Stands(
-            RingBlock::OpenFromPrevious(Box::new(links.alloc(), refused.state)?),
+            RingBlock::OpenFromPrevious(links.boxed(refused.state)?),
             Some(refused.cause),
         )),
     }
 }
 
 /// Takes the next miner's new share, and keeps the words that are opened.
+#[inline(never)]
 pub fn from_next<R: ShareRing, P: Party>(
     state: Box<Open<R, P, FromNext>>,
     links: &mut Links,
@@ -108,7 +112,7 @@ pub fn from_next<R: ShareRing, P: Party>(
             })
         }
         Err(refused) => Ok(Progress::Stands(
-            RingBlock::OpenFromNext(Box::new(links.alloc(), refused.state)?),
+            RingBlock::OpenFromNext(links.boxed(refused.state)?),
             Some(refused.cause),
         )),
     }

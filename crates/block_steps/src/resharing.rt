@@ -1,4 +1,4 @@
-// A value that is shared anew, block by block.
+// A value that is shared anew, block by block. No function is inlined: each has room for states and messages, which is made anew with each call.
 ghost use Rattle.std.specs.Prelude.{◌≡◌, ◌≤◌, length, OnOk, IfOk};
 ghost use Rattle.reshare.specs.Resharing.{reshare_strand};
 ghost use Rattle.reshare.specs.Steps.{left_sent};
@@ -14,6 +14,7 @@ use share_ring::ShareRing;
 use std::alloc::AllocError;
 
 /// Sends the mask.
+#[inline(never)]
 pub fn begin<R: ShareRing, P: Party>(
     u: &[u64],
     words: &[u64],
@@ -27,10 +28,11 @@ pub fn begin<R: ShareRing, P: Party>(
 {
     let (state, next) = Reshare::start(&Block::from_words(u), words);
     links.to_next.push(&next)?;
-    Ok(RingBlock::Resharing(Box::new(links.alloc(), state)?))
+    Ok(RingBlock::Resharing(links.boxed(state)?))
 }
 
 /// Takes the previous miner's mask.
+#[inline(never)]
 pub fn sent<R: ShareRing, P: Party>(
     state: Box<Reshare<R, P, Sent>>,
     links: &mut Links,
@@ -53,7 +55,7 @@ pub fn sent<R: ShareRing, P: Party>(
             })
         }
         Err(refused) => Ok(Progress::Stands(
-            RingBlock::Resharing(Box::new(links.alloc(), refused.state)?),
+            RingBlock::Resharing(links.boxed(refused.state)?),
             Some(refused.cause),
         )),
     }

@@ -1,4 +1,4 @@
-// Numbers split into two words each, block by block.
+// Numbers split into two words each, block by block. No function is inlined: each has room for states and messages, which is made anew with each call.
 ghost use Rattle.std.specs.Prelude.{◌≡◌, ◌≤◌, false, length, OnOk, IfOk};
 ghost use Rattle.proto_core.specs.declared.party.Number.TheVariants as number;
 ghost use Rattle.split_share.specs.Splitting.{split_draws};
@@ -69,6 +69,7 @@ impl<P: Party> Splits<P> {
 }
 
 /// Begins a block: the first miner deals to both others, and is through.
+#[inline(never)]
 pub fn begin<P: Party>(
     negated: bool,
     u: &[u64],
@@ -85,23 +86,24 @@ pub fn begin<P: Party>(
     match P::number() {
         Number::One => deal(u, words, links),
         Number::Two => Ok(Progress::Goes(Splits {
-            state: Splitting::Two(Box::new(
-                links.alloc(),
-                Split::<P2, Waiting>::start(&Block::from_words(u), negated),
-            )?),
+            state: Splitting::Two(links.boxed(Split::<P2, Waiting>::start(
+                &Block::from_words(u),
+                negated,
+            ))?),
             of: PhantomData,
         })),
         Number::Three => Ok(Progress::Goes(Splits {
-            state: Splitting::Three(Box::new(
-                links.alloc(),
-                Split::<P3, Waiting>::start(&Block::from_words(u), negated),
-            )?),
+            state: Splitting::Three(links.boxed(Split::<P3, Waiting>::start(
+                &Block::from_words(u),
+                negated,
+            ))?),
             of: PhantomData,
         })),
     }
 }
 
 /// The first miner's part, which is the same where the splitting is negated.
+#[inline(never)]
 fn deal<P: Party>(
     u: &[u64],
     words: &[u64],
@@ -125,6 +127,7 @@ fn deal<P: Party>(
 }
 
 /// The second miner takes its words.
+#[inline(never)]
 fn got12<P: Party>(
     state: Box<Split<P2, Waiting>>,
     links: &mut Links,
@@ -155,7 +158,7 @@ fn got12<P: Party>(
         }
         Err(refused) => Ok(Progress::Stands(
             Splits {
-                state: Splitting::Two(Box::new(links.alloc(), refused.state)?),
+                state: Splitting::Two(links.boxed(refused.state)?),
                 of: PhantomData,
             },
             Some(refused.cause),
@@ -164,6 +167,7 @@ fn got12<P: Party>(
 }
 
 /// The third miner takes its words.
+#[inline(never)]
 fn got13<P: Party>(
     state: Box<Split<P3, Waiting>>,
     links: &mut Links,
@@ -194,7 +198,7 @@ fn got13<P: Party>(
         }
         Err(refused) => Ok(Progress::Stands(
             Splits {
-                state: Splitting::Three(Box::new(links.alloc(), refused.state)?),
+                state: Splitting::Three(links.boxed(refused.state)?),
                 of: PhantomData,
             },
             Some(refused.cause),
