@@ -1,5 +1,6 @@
 -- A miner's shares of the values that a gate makes.
-use Rattle.std.specs.Prelude.{ℕ, Bool, true, false, List, [], ◌∷◌, Option, Some, None, Vec, Global}
+use Rattle.std.specs.Prelude.{ℕ, Bool, true, false, List, [], ◌∷◌, Option, Some, None, Vec}
+use Rattle.std.specs.Global.{Global}
 
 -- of one value, or of two
 abbrev pub shares_of : Vec ℕ Global → Option (Vec ℕ Global) → List (List ℕ)
