@@ -141,13 +141,14 @@ module _ (i : Number) (link : Link) (shape : Shape) (front q : List (List ℕ)) 
 pub one-times : (n : ℕ) → n ≡ 1 * n
 one-times n = omega arith
 
-module _ {S : Type 0} (size : S → ℕ) (fields : List Field) (before : S) (want : ℕ) (m : List ℕ) (refused : Refused S) (i : Number) (front q : List (List ℕ))
-    (is : want ≡ length fields * size before) (wrong : WrongLength before want (length m) refused) where
+-- the state that is refused goes into a box anew
+module _ {S : Type 0} (size : S → ℕ) (fields : List Field) (before : S) (want : ℕ) (m : List ℕ) (refused : Refused S) (boxed : S) (i : Number)
+    (front q : List (List ℕ)) (is : want ≡ length fields * size before) (wrong : WrongLength before want (length m) refused) (kept : boxed ≡ refused.state) where
   abbrev wanted : Shape
-  wanted = shaped (size refused.state) fields
+  wanted = shaped (size boxed) fields
 
   told : fault_of wanted m ≡ Some refused.cause
-  told = wrong_length_is_told before wanted want m refused (is ∙ ap (λ s. length fields * size s) (sym wrong.state)) wrong
+  told = wrong_length_is_told before wanted want m refused (is ∙ ap (λ s. length fields * size s) (sym (kept ∙ wrong.state))) wrong
 
   pub wrong-previous : (link : Link) → link ≡ from_previous i → FrontIs (Some m) front → HasNoneOf wanted (Some refused.cause) (mail_of i front q link)
   wrong-previous link on h = refused-previous i link wanted front q m refused.cause on h told

@@ -11,7 +11,7 @@ ghost use Rattle.block_steps.specs.Pendings.{pending_left, progress_left, HasBeg
 
 use crate::links::Links;
 use crate::pending::Pending;
-use crate::progress::{Progress, through};
+use crate::progress::Progress;
 use crate::{converting, multiplying, opening, resharing, splitting};
 use gates::RingKind;
 use joint_run::Exchange;
@@ -29,7 +29,7 @@ pub fn begin<P: Party>(
     v: &[u64],
     words: &[u64],
     links: &mut Links,
-) -> Result<Progress<Pending<P>, P>, AllocError>
+) -> Result<Progress<Pending<P>>, AllocError>
     requires short { length u.now ≤ 512 }
     requires second { length v.now ≡ (protocol_of exchange).second (length u.now) }
     requires drawn { length words.now ≡ (protocol_of exchange).draws (length u.now) P.me }
@@ -57,7 +57,7 @@ fn begin_product<P: Party>(
     v: &[u64],
     words: &[u64],
     links: &mut Links,
-) -> Result<Progress<Pending<P>, P>, AllocError>
+) -> Result<Progress<Pending<P>>, AllocError>
     requires short { length u.now ≤ 512 }
     requires second { length v.now ≡ length u.now }
     requires drawn { length words.now ≡ 3 * length u.now }
@@ -84,7 +84,7 @@ fn begin_opening<P: Party>(
     u: &[u64],
     words: &[u64],
     links: &mut Links,
-) -> Result<Progress<Pending<P>, P>, AllocError>
+) -> Result<Progress<Pending<P>>, AllocError>
     requires short { length u.now ≤ 512 }
     requires drawn { length words.now ≡ length u.now }
     ensures same { IfOk result (λ to. outcome_of P.me links.new (progress_left (pending_left P.me) to)
@@ -110,7 +110,7 @@ fn begin_resharing<P: Party>(
     u: &[u64],
     words: &[u64],
     links: &mut Links,
-) -> Result<Progress<Pending<P>, P>, AllocError>
+) -> Result<Progress<Pending<P>>, AllocError>
     requires short { length u.now ≤ 512 }
     requires drawn { length words.now ≡ length u.now }
     ensures same { IfOk result (λ to. outcome_of P.me links.new (progress_left (pending_left P.me) to)
@@ -130,14 +130,13 @@ fn begin_resharing<P: Party>(
     }
 }
 
-/// A splitting. Not inlined, for the reason that `through` gives.
-#[inline(never)]
+/// A splitting.
 fn begin_splitting<P: Party>(
     negated: bool,
     u: &[u64],
     words: &[u64],
     links: &mut Links,
-) -> Result<Progress<Pending<P>, P>, AllocError>
+) -> Result<Progress<Pending<P>>, AllocError>
     requires short { length u.now ≤ 512 }
     requires drawn { length words.now ≡ split_draws (length u.now) P.me }
     ensures same { IfOk result (λ to. outcome_of P.me links.new (progress_left (pending_left P.me) to)
@@ -148,6 +147,6 @@ fn begin_splitting<P: Party>(
     Ok(match splitting::begin(negated, u, words, links)? {
         Progress::Stands(state, cause) => Progress::Stands(Pending::Splitting(state), cause),
         Progress::Goes(state) => Progress::Goes(Pending::Splitting(state)),
-        Progress::Made { first, second } => through(first, second),
+        Progress::Made { first, second } => Progress::Made { first, second },
     })
 }

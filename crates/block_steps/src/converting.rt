@@ -1,4 +1,4 @@
-// Truth values turned into numbers, block by block.
+// Truth values turned into numbers, block by block. No function is inlined: each has room for states and messages, which is made anew with each call.
 ghost use Rattle.std.specs.Prelude.{◌≡◌, ◌≤◌, ◌*◌, length, OnOk, IfOk};
 ghost use Rattle.proto_core.specs.declared.party.Number.TheVariants as number;
 ghost use Rattle.share_convert.specs.Converting.{conv_draws};
@@ -8,25 +8,25 @@ ghost use Rattle.block_steps.specs.Outcomes.{outcome_of, AwaitsOn, Holds, IsBesi
 ghost use Rattle.block_steps.specs.Pendings.{progress_left, StandsThen, Shorter};
 
 use crate::links::Links;
-use crate::progress::{Progress, untold};
+use crate::progress::Progress;
 use proto_core::{Block, Link, Number, P1, P2, P3, Party};
 use share_convert::{Conv, First, Second, Sent};
 use std::alloc::AllocError;
 use std::marker::{Model, PhantomData};
 
-/// A miner's part in a block that is converted, by miner and by the message that is awaited.
+/// A miner's part in a block that is converted, by miner and by the message that is awaited. Each is boxed, as a `RingBlock` is.
 #[derive(Drop)]
 pub enum Converting {
     /// The first miner has dealt, and awaits the third one's mask.
-    One(Conv<P1, Sent>),
+    One(Box<Conv<P1, Sent>>),
     /// The second miner awaits what the first one deals.
-    TwoFirst(Conv<P2, First>),
+    TwoFirst(Box<Conv<P2, First>>),
     /// The second miner awaits the third one's bits.
-    TwoSecond(Conv<P2, Second>),
+    TwoSecond(Box<Conv<P2, Second>>),
     /// The third miner awaits what the first one deals.
-    ThreeFirst(Conv<P3, First>),
+    ThreeFirst(Box<Conv<P3, First>>),
     /// The third miner awaits the second one's bits and mask.
-    ThreeSecond(Conv<P3, Second>),
+    ThreeSecond(Box<Conv<P3, Second>>),
 }
 
 /// The part of the miner `P` in a block that is converted.
@@ -50,7 +50,7 @@ impl<P: Party> Model for Conversion<P> {
 
 impl<P: Party> Conversion<P> {
     /// As far as the oldest message leads. Fails where memory is wanting.
-    pub fn step(self, links: &mut Links) -> Result<Progress<Conversion<P>, P>, AllocError>
+    pub fn step(self, links: &mut Links) -> Result<Progress<Conversion<P>>, AllocError>
         ensures same { IfOk result (λ to. outcome_of P.me links.new (progress_left converting_left to)
             ≡ outcome_of P.me links.old (converting_left self)) }
         ensures stands { IfOk result (λ to. StandsThen converting_left P.me links.new to) }
@@ -81,6 +81,7 @@ impl<P: Party> Conversion<P> {
 }
 
 /// Begins a block: the first miner deals to both others, and the third one's mask goes to the first.
+#[inline(never)]
 pub fn begin<P: Party>(
     u: &[u64],
     words: &[u64],
@@ -95,7 +96,10 @@ pub fn begin<P: Party>(
     match P::number() {
         Number::One => deal(u, words, links),
         Number::Two => Ok(Conversion {
-            state: Converting::TwoFirst(Conv::<P2, First>::start(&Block::from_words(u), words)),
+            state: Converting::TwoFirst(links.boxed(Conv::<P2, First>::start(
+                &Block::from_words(u),
+                words,
+            ))?),
             of: PhantomData,
         }),
         Number::Three => send_mask(u, words, links),
@@ -103,6 +107,7 @@ pub fn begin<P: Party>(
 }
 
 /// The first miner's beginning.
+#[inline(never)]
 fn deal<P: Party>(u: &[u64], words: &[u64], links: &mut Links) -> Result<Conversion<P>, AllocError>
     requires first { P.me ≡ number.One }
     requires short { length u.now ≤ 512 }
@@ -115,12 +120,13 @@ fn deal<P: Party>(u: &[u64], words: &[u64], links: &mut Links) -> Result<Convers
     links.to_next.push(&to_two)?;
     links.to_previous.push(&to_three)?;
     Ok(Conversion {
-        state: Converting::One(state),
+        state: Converting::One(links.boxed(state)?),
         of: PhantomData,
     })
 }
 
 /// The third miner's beginning.
+#[inline(never)]
 fn send_mask<P: Party>(
     u: &[u64],
     words: &[u64],
@@ -136,19 +142,20 @@ fn send_mask<P: Party>(
     let (state, to_one) = Conv::<P3, First>::start(&Block::from_words(u), words);
     links.to_next.push(&to_one)?;
     Ok(Conversion {
-        state: Converting::ThreeFirst(state),
+        state: Converting::ThreeFirst(links.boxed(state)?),
         of: PhantomData,
     })
 }
 
 /// The first miner takes the third one's mask.
+#[inline(never)]
 fn got31<P: Party>(
-    state: Conv<P1, Sent>,
+    state: Box<Conv<P1, Sent>>,
     links: &mut Links,
-) -> Result<Progress<Conversion<P>, P>, AllocError>
+) -> Result<Progress<Conversion<P>>, AllocError>
     requires first { P.me ≡ number.One }
     ensures same { IfOk result (λ to. outcome_of P.me links.new (progress_left converting_left to)
-        ≡ outcome_of P.me links.old (awaits31 (length state.mask) state)) }
+        ≡ outcome_of P.me links.old (awaits31 (length state.value.mask) state.value)) }
     ensures stands { IfOk result (λ to. StandsThen converting_left P.me links.new to) }
     ensures falls { IfOk result (λ to. Shorter links.old links.new to) }
     ensures kept { OnOk result (Holds links.old links.new) }
@@ -162,17 +169,17 @@ fn got31<P: Party>(
             None,
         ));
     };
-    match state.got31(&msg) {
+    match Box::into_inner(state).got31(&msg) {
         Ok(share) => {
             links.from_previous.take();
             Ok(Progress::Made {
-                first: untold(&share),
+                first: Vec::from_slice(links.alloc(), share.words())?,
                 second: None,
             })
         }
         Err(refused) => Ok(Progress::Stands(
             Conversion {
-                state: Converting::One(refused.state),
+                state: Converting::One(links.boxed(refused.state)?),
                 of: PhantomData,
             },
             Some(refused.cause),
@@ -181,13 +188,14 @@ fn got31<P: Party>(
 }
 
 /// The second miner takes what the first one dealt, and sends its bits and mask.
+#[inline(never)]
 fn got12<P: Party>(
-    state: Conv<P2, First>,
+    state: Box<Conv<P2, First>>,
     links: &mut Links,
-) -> Result<Progress<Conversion<P>, P>, AllocError>
+) -> Result<Progress<Conversion<P>>, AllocError>
     requires second { P.me ≡ number.Two }
     ensures same { IfOk result (λ to. outcome_of P.me links.new (progress_left converting_left to)
-        ≡ outcome_of P.me links.old (awaits12 (length state.mask) state)) }
+        ≡ outcome_of P.me links.old (awaits12 (length state.value.mask) state.value)) }
     ensures stands { IfOk result (λ to. StandsThen converting_left P.me links.new to) }
     ensures falls { IfOk result (λ to. Shorter links.old links.new to) }
     ensures kept { OnOk result (Holds links.old links.new) }
@@ -201,18 +209,18 @@ fn got12<P: Party>(
             None,
         ));
     };
-    match state.got12(&msg) {
+    match Box::into_inner(state).got12(&msg) {
         Ok((state, reply)) => {
             links.from_previous.take();
             links.to_next.push(&reply)?;
             Ok(Progress::Goes(Conversion {
-                state: Converting::TwoSecond(state),
+                state: Converting::TwoSecond(links.boxed(state)?),
                 of: PhantomData,
             }))
         }
         Err(refused) => Ok(Progress::Stands(
             Conversion {
-                state: Converting::TwoFirst(refused.state),
+                state: Converting::TwoFirst(links.boxed(refused.state)?),
                 of: PhantomData,
             },
             Some(refused.cause),
@@ -221,13 +229,14 @@ fn got12<P: Party>(
 }
 
 /// The second miner takes the third one's bits.
+#[inline(never)]
 fn got32<P: Party>(
-    state: Conv<P2, Second>,
+    state: Box<Conv<P2, Second>>,
     links: &mut Links,
-) -> Result<Progress<Conversion<P>, P>, AllocError>
+) -> Result<Progress<Conversion<P>>, AllocError>
     requires second { P.me ≡ number.Two }
     ensures same { IfOk result (λ to. outcome_of P.me links.new (progress_left converting_left to)
-        ≡ outcome_of P.me links.old (awaits32 (length state.mask) state)) }
+        ≡ outcome_of P.me links.old (awaits32 (length state.value.mask) state.value)) }
     ensures stands { IfOk result (λ to. StandsThen converting_left P.me links.new to) }
     ensures falls { IfOk result (λ to. Shorter links.old links.new to) }
     ensures kept { OnOk result (Holds links.old links.new) }
@@ -241,17 +250,17 @@ fn got32<P: Party>(
             None,
         ));
     };
-    match state.got32(&msg) {
+    match Box::into_inner(state).got32(&msg) {
         Ok(share) => {
             links.from_next.take();
             Ok(Progress::Made {
-                first: untold(&share),
+                first: Vec::from_slice(links.alloc(), share.words())?,
                 second: None,
             })
         }
         Err(refused) => Ok(Progress::Stands(
             Conversion {
-                state: Converting::TwoSecond(refused.state),
+                state: Converting::TwoSecond(links.boxed(refused.state)?),
                 of: PhantomData,
             },
             Some(refused.cause),
@@ -260,13 +269,14 @@ fn got32<P: Party>(
 }
 
 /// The third miner takes what the first one dealt, and sends its bits.
+#[inline(never)]
 fn got13<P: Party>(
-    state: Conv<P3, First>,
+    state: Box<Conv<P3, First>>,
     links: &mut Links,
-) -> Result<Progress<Conversion<P>, P>, AllocError>
+) -> Result<Progress<Conversion<P>>, AllocError>
     requires third { P.me ≡ number.Three }
     ensures same { IfOk result (λ to. outcome_of P.me links.new (progress_left converting_left to)
-        ≡ outcome_of P.me links.old (awaits13 (length state.mask) state)) }
+        ≡ outcome_of P.me links.old (awaits13 (length state.value.mask) state.value)) }
     ensures stands { IfOk result (λ to. StandsThen converting_left P.me links.new to) }
     ensures falls { IfOk result (λ to. Shorter links.old links.new to) }
     ensures kept { OnOk result (Holds links.old links.new) }
@@ -280,18 +290,18 @@ fn got13<P: Party>(
             None,
         ));
     };
-    match state.got13(&msg) {
+    match Box::into_inner(state).got13(&msg) {
         Ok((state, reply)) => {
             links.from_next.take();
             links.to_previous.push(&reply)?;
             Ok(Progress::Goes(Conversion {
-                state: Converting::ThreeSecond(state),
+                state: Converting::ThreeSecond(links.boxed(state)?),
                 of: PhantomData,
             }))
         }
         Err(refused) => Ok(Progress::Stands(
             Conversion {
-                state: Converting::ThreeFirst(refused.state),
+                state: Converting::ThreeFirst(links.boxed(refused.state)?),
                 of: PhantomData,
             },
             Some(refused.cause),
@@ -300,13 +310,14 @@ fn got13<P: Party>(
 }
 
 /// The third miner takes the second one's bits and mask.
+#[inline(never)]
 fn got23<P: Party>(
-    state: Conv<P3, Second>,
+    state: Box<Conv<P3, Second>>,
     links: &mut Links,
-) -> Result<Progress<Conversion<P>, P>, AllocError>
+) -> Result<Progress<Conversion<P>>, AllocError>
     requires third { P.me ≡ number.Three }
     ensures same { IfOk result (λ to. outcome_of P.me links.new (progress_left converting_left to)
-        ≡ outcome_of P.me links.old (awaits23 (length state.mask) state)) }
+        ≡ outcome_of P.me links.old (awaits23 (length state.value.mask) state.value)) }
     ensures stands { IfOk result (λ to. StandsThen converting_left P.me links.new to) }
     ensures falls { IfOk result (λ to. Shorter links.old links.new to) }
     ensures kept { OnOk result (Holds links.old links.new) }
@@ -320,17 +331,17 @@ fn got23<P: Party>(
             None,
         ));
     };
-    match state.got23(&msg) {
+    match Box::into_inner(state).got23(&msg) {
         Ok(share) => {
             links.from_previous.take();
             Ok(Progress::Made {
-                first: untold(&share),
+                first: Vec::from_slice(links.alloc(), share.words())?,
                 second: None,
             })
         }
         Err(refused) => Ok(Progress::Stands(
             Conversion {
-                state: Converting::ThreeSecond(refused.state),
+                state: Converting::ThreeSecond(links.boxed(refused.state)?),
                 of: PhantomData,
             },
             Some(refused.cause),

@@ -22,6 +22,6 @@ pub use converting::{Conversion, Converting};
 pub use inbox::Inbox;
 pub use links::Links;
 pub use pending::Pending;
-pub use progress::{AnyRing, Progress};
+pub use progress::Progress;
 pub use ring_block::RingBlock;
 pub use splitting::{Splits, Splitting};

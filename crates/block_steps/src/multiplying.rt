@@ -1,11 +1,11 @@
-// A product, block by block.
+// A product, block by block. No function is inlined: each has room for states and messages, which is made anew with each call.
 ghost use Rattle.std.specs.Prelude.{◌≡◌, ◌≤◌, ◌*◌, length, OnOk, IfOk};
 ghost use Rattle.multiply.specs.MulStrand.{mul_strand, mul_masked, mul_crossed};
 ghost use Rattle.block_steps.specs.Outcomes.{outcome_of, Holds, IsBeside};
 ghost use Rattle.block_steps.specs.Pendings.{ring_left, progress_left, StandsThen, Shorter};
 
 use crate::links::Links;
-use crate::progress::{Progress, untold};
+use crate::progress::Progress;
 use crate::ring_block::RingBlock;
 use multiply::{Crossed, Masked, Mul};
 use proto_core::{Block, Party};
@@ -13,6 +13,7 @@ use share_ring::ShareRing;
 use std::alloc::AllocError;
 
 /// Sends the masks.
+#[inline(never)]
 pub fn begin<R: ShareRing, P: Party>(
     u: &[u64],
     v: &[u64],
@@ -28,16 +29,17 @@ pub fn begin<R: ShareRing, P: Party>(
 {
     let (state, next) = Mul::start(&Block::from_words(u), &Block::from_words(v), words);
     links.to_next.push(&next)?;
-    Ok(RingBlock::MulMasked(state))
+    Ok(RingBlock::MulMasked(links.boxed(state)?))
 }
 
 /// Takes the previous miner's masks.
+#[inline(never)]
 pub fn masked<R: ShareRing, P: Party>(
-    state: Mul<R, P, Masked>,
+    state: Box<Mul<R, P, Masked>>,
     links: &mut Links,
-) -> Result<Progress<RingBlock<R, P>, P>, AllocError>
+) -> Result<Progress<RingBlock<R, P>>, AllocError>
     ensures same { IfOk result (λ to. outcome_of P.me links.new (progress_left (ring_left R.ring P.me) to)
-        ≡ outcome_of P.me links.old (mul_masked R.ring (length state.mask) P.me state)) }
+        ≡ outcome_of P.me links.old (mul_masked R.ring (length state.value.mask) P.me state.value)) }
     ensures stands { IfOk result (λ to. StandsThen (ring_left R.ring P.me) P.me links.new to) }
     ensures falls { IfOk result (λ to. Shorter links.old links.new to) }
     ensures kept { OnOk result (Holds links.old links.new) }
@@ -45,26 +47,27 @@ pub fn masked<R: ShareRing, P: Party>(
     let Some(msg) = links.from_previous.front() else {
         return Ok(Progress::Stands(RingBlock::MulMasked(state), None));
     };
-    match state.got(&msg) {
+    match Box::into_inner(state).got(&msg) {
         Ok((state, next)) => {
             links.from_previous.take();
             links.to_next.push(&next)?;
-            Ok(Progress::Goes(RingBlock::MulCrossed(state)))
+            Ok(Progress::Goes(RingBlock::MulCrossed(links.boxed(state)?)))
         }
         Err(refused) => Ok(Progress::Stands(
-            RingBlock::MulMasked(refused.state),
+            RingBlock::MulMasked(links.boxed(refused.state)?),
             Some(refused.cause),
         )),
     }
 }
 
 /// Takes the previous miner's factors.
+#[inline(never)]
 pub fn crossed<R: ShareRing, P: Party>(
-    state: Mul<R, P, Crossed>,
+    state: Box<Mul<R, P, Crossed>>,
     links: &mut Links,
-) -> Result<Progress<RingBlock<R, P>, P>, AllocError>
+) -> Result<Progress<RingBlock<R, P>>, AllocError>
     ensures same { IfOk result (λ to. outcome_of P.me links.new (progress_left (ring_left R.ring P.me) to)
-        ≡ outcome_of P.me links.old (mul_crossed R.ring (length state.mask) P.me state)) }
+        ≡ outcome_of P.me links.old (mul_crossed R.ring (length state.value.mask) P.me state.value)) }
     ensures stands { IfOk result (λ to. StandsThen (ring_left R.ring P.me) P.me links.new to) }
     ensures falls { IfOk result (λ to. Shorter links.old links.new to) }
     ensures kept { OnOk result (Holds links.old links.new) }
@@ -72,16 +75,16 @@ pub fn crossed<R: ShareRing, P: Party>(
     let Some(msg) = links.from_previous.front() else {
         return Ok(Progress::Stands(RingBlock::MulCrossed(state), None));
     };
-    match state.got(&msg) {
+    match Box::into_inner(state).got(&msg) {
         Ok(share) => {
             links.from_previous.take();
             Ok(Progress::Made {
-                first: untold(&share),
+                first: Vec::from_slice(links.alloc(), share.words())?,
                 second: None,
             })
         }
         Err(refused) => Ok(Progress::Stands(
-            RingBlock::MulCrossed(refused.state),
+            RingBlock::MulCrossed(links.boxed(refused.state)?),
             Some(refused.cause),
         )),
     }

@@ -1,4 +1,4 @@
-// A value that is opened, block by block.
+// A value that is opened, block by block. No function is inlined: each has room for states and messages, which is made anew with each call.
 ghost use Rattle.std.specs.Prelude.{◌≡◌, ◌≤◌, length, OnOk, IfOk};
 ghost use Rattle.open_result.specs.Opening.{open_strand};
 ghost use Rattle.open_result.specs.Steps.{left_masked, left_from_previous, left_from_next};
@@ -14,6 +14,7 @@ use share_ring::ShareRing;
 use std::alloc::AllocError;
 
 /// Sends the mask.
+#[inline(never)]
 pub fn begin<R: ShareRing, P: Party>(
     u: &[u64],
     words: &[u64],
@@ -27,16 +28,17 @@ pub fn begin<R: ShareRing, P: Party>(
 {
     let (state, next) = Open::start(&Block::from_words(u), words);
     links.to_next.push(&next)?;
-    Ok(RingBlock::OpenMasked(state))
+    Ok(RingBlock::OpenMasked(links.boxed(state)?))
 }
 
 /// Takes the previous miner's mask, and sends the new share to both others.
+#[inline(never)]
 pub fn masked<R: ShareRing, P: Party>(
-    state: Open<R, P, Masked>,
+    state: Box<Open<R, P, Masked>>,
     links: &mut Links,
-) -> Result<Progress<RingBlock<R, P>, P>, AllocError>
+) -> Result<Progress<RingBlock<R, P>>, AllocError>
     ensures same { IfOk result (λ to. outcome_of P.me links.new (progress_left (ring_left R.ring P.me) to)
-        ≡ outcome_of P.me links.old (left_masked R.ring P.me state)) }
+        ≡ outcome_of P.me links.old (left_masked R.ring P.me state.value)) }
     ensures stands { IfOk result (λ to. StandsThen (ring_left R.ring P.me) P.me links.new to) }
     ensures falls { IfOk result (λ to. Shorter links.old links.new to) }
     ensures kept { OnOk result (Holds links.old links.new) }
@@ -44,27 +46,28 @@ pub fn masked<R: ShareRing, P: Party>(
     let Some(msg) = links.from_previous.front() else {
         return Ok(Progress::Stands(RingBlock::OpenMasked(state), None));
     };
-    match state.got(&msg) {
+    match Box::into_inner(state).got(&msg) {
         Ok((state, next, previous)) => {
             links.from_previous.take();
             links.to_next.push(&next)?;
             links.to_previous.push(&previous)?;
-            Ok(Progress::Goes(RingBlock::OpenFromPrevious(state)))
+            Ok(Progress::Goes(RingBlock::OpenFromPrevious(links.boxed(state)?)))
         }
         Err(refused) => Ok(Progress::Stands(
-            RingBlock::OpenMasked(refused.state),
+            RingBlock::OpenMasked(links.boxed(refused.state)?),
             Some(refused.cause),
         )),
     }
 }
 
 /// Takes the previous miner's new share.
+#[inline(never)]
 pub fn from_previous<R: ShareRing, P: Party>(
-    state: Open<R, P, FromPrev>,
+    state: Box<Open<R, P, FromPrev>>,
     links: &mut Links,
-) -> Result<Progress<RingBlock<R, P>, P>, AllocError>
+) -> Result<Progress<RingBlock<R, P>>, AllocError>
     ensures same { IfOk result (λ to. outcome_of P.me links.new (progress_left (ring_left R.ring P.me) to)
-        ≡ outcome_of P.me links.old (left_from_previous R.ring P.me state)) }
+        ≡ outcome_of P.me links.old (left_from_previous R.ring P.me state.value)) }
     ensures stands { IfOk result (λ to. StandsThen (ring_left R.ring P.me) P.me links.new to) }
     ensures falls { IfOk result (λ to. Shorter links.old links.new to) }
     ensures kept { OnOk result (Holds links.old links.new) }
@@ -72,25 +75,26 @@ pub fn from_previous<R: ShareRing, P: Party>(
     let Some(msg) = links.from_previous.front() else {
         return Ok(Progress::Stands(RingBlock::OpenFromPrevious(state), None));
     };
-    match state.got(&msg) {
+    match Box::into_inner(state).got(&msg) {
         Ok(state) => {
             links.from_previous.take();
-            Ok(Progress::Goes(RingBlock::OpenFromNext(state)))
+            Ok(Progress::Goes(RingBlock::OpenFromNext(links.boxed(state)?)))
         }
         Err(refused) => Ok(Progress::Stands(
-            RingBlock::OpenFromPrevious(refused.state),
+            RingBlock::OpenFromPrevious(links.boxed(refused.state)?),
             Some(refused.cause),
         )),
     }
 }
 
 /// Takes the next miner's new share, and keeps the words that are opened.
+#[inline(never)]
 pub fn from_next<R: ShareRing, P: Party>(
-    state: Open<R, P, FromNext>,
+    state: Box<Open<R, P, FromNext>>,
     links: &mut Links,
-) -> Result<Progress<RingBlock<R, P>, P>, AllocError>
+) -> Result<Progress<RingBlock<R, P>>, AllocError>
     ensures same { IfOk result (λ to. outcome_of P.me links.new (progress_left (ring_left R.ring P.me) to)
-        ≡ outcome_of P.me links.old (left_from_next R.ring P.me state)) }
+        ≡ outcome_of P.me links.old (left_from_next R.ring P.me state.value)) }
     ensures stands { IfOk result (λ to. StandsThen (ring_left R.ring P.me) P.me links.new to) }
     ensures falls { IfOk result (λ to. Shorter links.old links.new to) }
     ensures kept { OnOk result (Holds links.old links.new) }
@@ -98,17 +102,17 @@ pub fn from_next<R: ShareRing, P: Party>(
     let Some(msg) = links.from_next.front() else {
         return Ok(Progress::Stands(RingBlock::OpenFromNext(state), None));
     };
-    match state.got(&msg) {
+    match Box::into_inner(state).got(&msg) {
         Ok(opened) => {
             links.from_next.take();
             links.opened.extend_from_slice(opened.words())?;
             Ok(Progress::Made {
-                first: Block::from_words(opened.words()),
+                first: Vec::from_slice(links.alloc(), opened.words())?,
                 second: None,
             })
         }
         Err(refused) => Ok(Progress::Stands(
-            RingBlock::OpenFromNext(refused.state),
+            RingBlock::OpenFromNext(links.boxed(refused.state)?),
             Some(refused.cause),
         )),
     }

@@ -6,7 +6,7 @@ ghost use Rattle.block_steps.specs.Pendings.{ring_left, pending_left, progress_l
 
 use crate::converting::Conversion;
 use crate::links::Links;
-use crate::progress::{Progress, through};
+use crate::progress::Progress;
 use crate::ring_block::RingBlock;
 use crate::splitting::Splits;
 use proto_core::{Link, Party};
@@ -28,7 +28,7 @@ impl<P: Party> Pending<P> {
     /// As far as the oldest message of the link leads on which one is awaited. A message that doesn't fit stays.
     ///
     /// Fails where memory is wanting: the block is lost then, and so may be a part of what it sent.
-    pub fn step(self, links: &mut Links) -> Result<Progress<Pending<P>, P>, AllocError>
+    pub fn step(self, links: &mut Links) -> Result<Progress<Pending<P>>, AllocError>
         ensures same { IfOk result (λ to. outcome_of P.me links.new (progress_left (pending_left P.me) to)
             ≡ outcome_of P.me links.old (pending_left P.me self)) }
         ensures stands { IfOk result (λ to. StandsThen (pending_left P.me) P.me links.new to) }
@@ -59,7 +59,7 @@ impl<P: Party> Pending<P> {
 fn step_numbers<P: Party>(
     block: RingBlock<AddRing, P>,
     links: &mut Links,
-) -> Result<Progress<Pending<P>, P>, AllocError>
+) -> Result<Progress<Pending<P>>, AllocError>
     ensures same { IfOk result (λ to. outcome_of P.me links.new (progress_left (pending_left P.me) to)
         ≡ outcome_of P.me links.old (ring_left add_ring P.me block)) }
     ensures stands { IfOk result (λ to. StandsThen (pending_left P.me) P.me links.new to) }
@@ -69,14 +69,14 @@ fn step_numbers<P: Party>(
     Ok(match block.step(links)? {
         Progress::Stands(block, cause) => Progress::Stands(Pending::Numbers(block), cause),
         Progress::Goes(block) => Progress::Goes(Pending::Numbers(block)),
-        Progress::Made { first, second } => through(first, second),
+        Progress::Made { first, second } => Progress::Made { first, second },
     })
 }
 
 fn step_bits<P: Party>(
     block: RingBlock<XorRing, P>,
     links: &mut Links,
-) -> Result<Progress<Pending<P>, P>, AllocError>
+) -> Result<Progress<Pending<P>>, AllocError>
     ensures same { IfOk result (λ to. outcome_of P.me links.new (progress_left (pending_left P.me) to)
         ≡ outcome_of P.me links.old (ring_left xor_ring P.me block)) }
     ensures stands { IfOk result (λ to. StandsThen (pending_left P.me) P.me links.new to) }
@@ -86,14 +86,14 @@ fn step_bits<P: Party>(
     Ok(match block.step(links)? {
         Progress::Stands(block, cause) => Progress::Stands(Pending::Bits(block), cause),
         Progress::Goes(block) => Progress::Goes(Pending::Bits(block)),
-        Progress::Made { first, second } => through(first, second),
+        Progress::Made { first, second } => Progress::Made { first, second },
     })
 }
 
 fn step_conversion<P: Party>(
     state: Conversion<P>,
     links: &mut Links,
-) -> Result<Progress<Pending<P>, P>, AllocError>
+) -> Result<Progress<Pending<P>>, AllocError>
     ensures same { IfOk result (λ to. outcome_of P.me links.new (progress_left (pending_left P.me) to)
         ≡ outcome_of P.me links.old (converting_left state)) }
     ensures stands { IfOk result (λ to. StandsThen (pending_left P.me) P.me links.new to) }
@@ -103,14 +103,14 @@ fn step_conversion<P: Party>(
     Ok(match state.step(links)? {
         Progress::Stands(state, cause) => Progress::Stands(Pending::Conversion(state), cause),
         Progress::Goes(state) => Progress::Goes(Pending::Conversion(state)),
-        Progress::Made { first, second } => through(first, second),
+        Progress::Made { first, second } => Progress::Made { first, second },
     })
 }
 
 fn step_splitting<P: Party>(
     state: Splits<P>,
     links: &mut Links,
-) -> Result<Progress<Pending<P>, P>, AllocError>
+) -> Result<Progress<Pending<P>>, AllocError>
     ensures same { IfOk result (λ to. outcome_of P.me links.new (progress_left (pending_left P.me) to)
         ≡ outcome_of P.me links.old (splitting_left state)) }
     ensures stands { IfOk result (λ to. StandsThen (pending_left P.me) P.me links.new to) }
@@ -120,6 +120,6 @@ fn step_splitting<P: Party>(
     Ok(match state.step(links)? {
         Progress::Stands(state, cause) => Progress::Stands(Pending::Splitting(state), cause),
         Progress::Goes(state) => Progress::Goes(Pending::Splitting(state)),
-        Progress::Made { first, second } => through(first, second),
+        Progress::Made { first, second } => Progress::Made { first, second },
     })
 }

@@ -1,4 +1,4 @@
-// A value that is shared anew, block by block.
+// A value that is shared anew, block by block. No function is inlined: each has room for states and messages, which is made anew with each call.
 ghost use Rattle.std.specs.Prelude.{◌≡◌, ◌≤◌, length, OnOk, IfOk};
 ghost use Rattle.reshare.specs.Resharing.{reshare_strand};
 ghost use Rattle.reshare.specs.Steps.{left_sent};
@@ -6,7 +6,7 @@ ghost use Rattle.block_steps.specs.Outcomes.{outcome_of, Holds, IsBeside};
 ghost use Rattle.block_steps.specs.Pendings.{ring_left, progress_left, StandsThen, Shorter};
 
 use crate::links::Links;
-use crate::progress::{Progress, untold};
+use crate::progress::Progress;
 use crate::ring_block::RingBlock;
 use proto_core::{Block, Party};
 use reshare::{Reshare, Sent};
@@ -14,6 +14,7 @@ use share_ring::ShareRing;
 use std::alloc::AllocError;
 
 /// Sends the mask.
+#[inline(never)]
 pub fn begin<R: ShareRing, P: Party>(
     u: &[u64],
     words: &[u64],
@@ -27,16 +28,17 @@ pub fn begin<R: ShareRing, P: Party>(
 {
     let (state, next) = Reshare::start(&Block::from_words(u), words);
     links.to_next.push(&next)?;
-    Ok(RingBlock::Resharing(state))
+    Ok(RingBlock::Resharing(links.boxed(state)?))
 }
 
 /// Takes the previous miner's mask.
+#[inline(never)]
 pub fn sent<R: ShareRing, P: Party>(
-    state: Reshare<R, P, Sent>,
+    state: Box<Reshare<R, P, Sent>>,
     links: &mut Links,
-) -> Result<Progress<RingBlock<R, P>, P>, AllocError>
+) -> Result<Progress<RingBlock<R, P>>, AllocError>
     ensures same { IfOk result (λ to. outcome_of P.me links.new (progress_left (ring_left R.ring P.me) to)
-        ≡ outcome_of P.me links.old (left_sent R.ring P.me state)) }
+        ≡ outcome_of P.me links.old (left_sent R.ring P.me state.value)) }
     ensures stands { IfOk result (λ to. StandsThen (ring_left R.ring P.me) P.me links.new to) }
     ensures falls { IfOk result (λ to. Shorter links.old links.new to) }
     ensures kept { OnOk result (Holds links.old links.new) }
@@ -44,16 +46,16 @@ pub fn sent<R: ShareRing, P: Party>(
     let Some(msg) = links.from_previous.front() else {
         return Ok(Progress::Stands(RingBlock::Resharing(state), None));
     };
-    match state.got(&msg) {
+    match Box::into_inner(state).got(&msg) {
         Ok(share) => {
             links.from_previous.take();
             Ok(Progress::Made {
-                first: untold(&share),
+                first: Vec::from_slice(links.alloc(), share.words())?,
                 second: None,
             })
         }
         Err(refused) => Ok(Progress::Stands(
-            RingBlock::Resharing(refused.state),
+            RingBlock::Resharing(links.boxed(refused.state)?),
             Some(refused.cause),
         )),
     }

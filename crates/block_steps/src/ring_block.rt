@@ -13,25 +13,27 @@ use share_ring::ShareRing;
 use std::alloc::AllocError;
 
 /// A miner's part in a block of a protocol that is for any ring, by the message that is awaited.
+///
+/// A state has room for the longest block, so it is boxed: what hands it on moves a pointer.
 #[derive(Drop)]
 pub enum RingBlock<R, P> {
     /// Of a product: the previous miner's masks.
-    MulMasked(Mul<R, P, multiply::Masked>),
+    MulMasked(Box<Mul<R, P, multiply::Masked>>),
     /// Of a product: the previous miner's factors.
-    MulCrossed(Mul<R, P, Crossed>),
+    MulCrossed(Box<Mul<R, P, Crossed>>),
     /// Of an opening: the previous miner's mask.
-    OpenMasked(Open<R, P, open_result::Masked>),
+    OpenMasked(Box<Open<R, P, open_result::Masked>>),
     /// Of an opening: the previous miner's new share.
-    OpenFromPrevious(Open<R, P, FromPrev>),
+    OpenFromPrevious(Box<Open<R, P, FromPrev>>),
     /// Of an opening: the next miner's new share.
-    OpenFromNext(Open<R, P, FromNext>),
+    OpenFromNext(Box<Open<R, P, FromNext>>),
     /// The previous miner's mask, of a value that is shared anew.
-    Resharing(Reshare<R, P, Sent>),
+    Resharing(Box<Reshare<R, P, Sent>>),
 }
 
 impl<R: ShareRing, P: Party> RingBlock<R, P> {
     /// As far as the oldest message leads. Fails where memory is wanting.
-    pub fn step(self, links: &mut Links) -> Result<Progress<RingBlock<R, P>, P>, AllocError>
+    pub fn step(self, links: &mut Links) -> Result<Progress<RingBlock<R, P>>, AllocError>
         ensures same { IfOk result (λ to. outcome_of P.me links.new (progress_left (ring_left R.ring P.me) to)
             ≡ outcome_of P.me links.old (ring_left R.ring P.me self)) }
         ensures stands { IfOk result (λ to. StandsThen (ring_left R.ring P.me) P.me links.new to) }

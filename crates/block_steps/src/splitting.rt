@@ -1,4 +1,4 @@
-// Numbers split into two words each, block by block.
+// Numbers split into two words each, block by block. No function is inlined: each has room for states and messages, which is made anew with each call.
 ghost use Rattle.std.specs.Prelude.{◌≡◌, ◌≤◌, false, length, OnOk, IfOk};
 ghost use Rattle.proto_core.specs.declared.party.Number.TheVariants as number;
 ghost use Rattle.split_share.specs.Splitting.{split_draws};
@@ -8,19 +8,19 @@ ghost use Rattle.block_steps.specs.Outcomes.{outcome_of, AwaitsOn, Holds, IsBesi
 ghost use Rattle.block_steps.specs.Pendings.{progress_left, StandsThen, Shorter, HasBegun};
 
 use crate::links::Links;
-use crate::progress::{Progress, untold};
+use crate::progress::Progress;
 use proto_core::{Block, Link, Number, P1, P2, P3, Party};
 use split_share::{Sent, Split, Waiting};
 use std::alloc::AllocError;
 use std::marker::{Model, PhantomData};
 
-/// A miner's part in a block that is split, by miner. The first one deals, and awaits no message.
+/// A miner's part in a block that is split, by miner. The first one deals, and awaits no message. Each is boxed, as a `RingBlock` is.
 #[derive(Drop)]
 pub enum Splitting {
     /// The second miner awaits what the first one deals.
-    Two(Split<P2, Waiting>),
+    Two(Box<Split<P2, Waiting>>),
     /// The third miner awaits what the first one deals.
-    Three(Split<P3, Waiting>),
+    Three(Box<Split<P3, Waiting>>),
 }
 
 /// The part of the miner `P` in a block that is split.
@@ -44,7 +44,7 @@ impl<P: Party> Model for Splits<P> {
 
 impl<P: Party> Splits<P> {
     /// As far as the oldest message leads. Fails where memory is wanting.
-    pub fn step(self, links: &mut Links) -> Result<Progress<Splits<P>, P>, AllocError>
+    pub fn step(self, links: &mut Links) -> Result<Progress<Splits<P>>, AllocError>
         ensures same { IfOk result (λ to. outcome_of P.me links.new (progress_left splitting_left to)
             ≡ outcome_of P.me links.old (splitting_left self)) }
         ensures stands { IfOk result (λ to. StandsThen splitting_left P.me links.new to) }
@@ -52,8 +52,8 @@ impl<P: Party> Splits<P> {
         ensures kept { OnOk result (Holds links.old links.new) }
     {
         match self.state {
-            Splitting::Two(state) => Ok(got12(state, links)),
-            Splitting::Three(state) => Ok(got13(state, links)),
+            Splitting::Two(state) => got12(state, links),
+            Splitting::Three(state) => got13(state, links),
         }
     }
 
@@ -69,12 +69,13 @@ impl<P: Party> Splits<P> {
 }
 
 /// Begins a block: the first miner deals to both others, and is through.
+#[inline(never)]
 pub fn begin<P: Party>(
     negated: bool,
     u: &[u64],
     words: &[u64],
     links: &mut Links,
-) -> Result<Progress<Splits<P>, P>, AllocError>
+) -> Result<Progress<Splits<P>>, AllocError>
     requires short { length u.now ≤ 512 }
     requires drawn { length words.now ≡ split_draws (length u.now) P.me }
     ensures same { IfOk result (λ to. outcome_of P.me links.new (progress_left splitting_left to)
@@ -85,22 +86,29 @@ pub fn begin<P: Party>(
     match P::number() {
         Number::One => deal(u, words, links),
         Number::Two => Ok(Progress::Goes(Splits {
-            state: Splitting::Two(Split::<P2, Waiting>::start(&Block::from_words(u), negated)),
+            state: Splitting::Two(links.boxed(Split::<P2, Waiting>::start(
+                &Block::from_words(u),
+                negated,
+            ))?),
             of: PhantomData,
         })),
         Number::Three => Ok(Progress::Goes(Splits {
-            state: Splitting::Three(Split::<P3, Waiting>::start(&Block::from_words(u), negated)),
+            state: Splitting::Three(links.boxed(Split::<P3, Waiting>::start(
+                &Block::from_words(u),
+                negated,
+            ))?),
             of: PhantomData,
         })),
     }
 }
 
 /// The first miner's part, which is the same where the splitting is negated.
+#[inline(never)]
 fn deal<P: Party>(
     u: &[u64],
     words: &[u64],
     links: &mut Links,
-) -> Result<Progress<Splits<P>, P>, AllocError>
+) -> Result<Progress<Splits<P>>, AllocError>
     requires first { P.me ≡ number.One }
     requires short { length u.now ≤ 512 }
     requires drawn { length words.now ≡ length u.now }
@@ -113,79 +121,87 @@ fn deal<P: Party>(
     links.to_next.push(&to_two)?;
     links.to_previous.push(&to_three)?;
     Ok(Progress::Made {
-        first: untold(&x),
-        second: Some(untold(&y)),
+        first: Vec::from_slice(links.alloc(), x.words())?,
+        second: Some(Vec::from_slice(links.alloc(), y.words())?),
     })
 }
 
 /// The second miner takes its words.
-fn got12<P: Party>(state: Split<P2, Waiting>, links: &mut Links) -> Progress<Splits<P>, P>
+#[inline(never)]
+fn got12<P: Party>(
+    state: Box<Split<P2, Waiting>>,
+    links: &mut Links,
+) -> Result<Progress<Splits<P>>, AllocError>
     requires second { P.me ≡ number.Two }
-    ensures same { outcome_of P.me links.new (progress_left splitting_left result)
-        ≡ outcome_of P.me links.old (awaits12 (length state.share) state) }
-    ensures stands { StandsThen splitting_left P.me links.new result }
-    ensures falls { Shorter links.old links.new result }
-    ensures kept { Holds links.old links.new }
+    ensures same { IfOk result (λ to. outcome_of P.me links.new (progress_left splitting_left to)
+        ≡ outcome_of P.me links.old (awaits12 (length state.value.share) state.value)) }
+    ensures stands { IfOk result (λ to. StandsThen splitting_left P.me links.new to) }
+    ensures falls { IfOk result (λ to. Shorter links.old links.new to) }
+    ensures kept { OnOk result (Holds links.old links.new) }
 {
     let Some(msg) = links.from_previous.front() else {
-        return Progress::Stands(
+        return Ok(Progress::Stands(
             Splits {
                 state: Splitting::Two(state),
                 of: PhantomData,
             },
             None,
-        );
+        ));
     };
-    match state.got12(&msg) {
+    match Box::into_inner(state).got12(&msg) {
         Ok((x, y)) => {
             links.from_previous.take();
-            Progress::Made {
-                first: untold(&x),
-                second: Some(untold(&y)),
-            }
+            Ok(Progress::Made {
+                first: Vec::from_slice(links.alloc(), x.words())?,
+                second: Some(Vec::from_slice(links.alloc(), y.words())?),
+            })
         }
-        Err(refused) => Progress::Stands(
+        Err(refused) => Ok(Progress::Stands(
             Splits {
-                state: Splitting::Two(refused.state),
+                state: Splitting::Two(links.boxed(refused.state)?),
                 of: PhantomData,
             },
             Some(refused.cause),
-        ),
+        )),
     }
 }
 
 /// The third miner takes its words.
-fn got13<P: Party>(state: Split<P3, Waiting>, links: &mut Links) -> Progress<Splits<P>, P>
+#[inline(never)]
+fn got13<P: Party>(
+    state: Box<Split<P3, Waiting>>,
+    links: &mut Links,
+) -> Result<Progress<Splits<P>>, AllocError>
     requires third { P.me ≡ number.Three }
-    ensures same { outcome_of P.me links.new (progress_left splitting_left result)
-        ≡ outcome_of P.me links.old (awaits13 (length state.share) state) }
-    ensures stands { StandsThen splitting_left P.me links.new result }
-    ensures falls { Shorter links.old links.new result }
-    ensures kept { Holds links.old links.new }
+    ensures same { IfOk result (λ to. outcome_of P.me links.new (progress_left splitting_left to)
+        ≡ outcome_of P.me links.old (awaits13 (length state.value.share) state.value)) }
+    ensures stands { IfOk result (λ to. StandsThen splitting_left P.me links.new to) }
+    ensures falls { IfOk result (λ to. Shorter links.old links.new to) }
+    ensures kept { OnOk result (Holds links.old links.new) }
 {
     let Some(msg) = links.from_next.front() else {
-        return Progress::Stands(
+        return Ok(Progress::Stands(
             Splits {
                 state: Splitting::Three(state),
                 of: PhantomData,
             },
             None,
-        );
+        ));
     };
-    match state.got13(&msg) {
+    match Box::into_inner(state).got13(&msg) {
         Ok((x, y)) => {
             links.from_next.take();
-            Progress::Made {
-                first: untold(&x),
-                second: Some(untold(&y)),
-            }
+            Ok(Progress::Made {
+                first: Vec::from_slice(links.alloc(), x.words())?,
+                second: Some(Vec::from_slice(links.alloc(), y.words())?),
+            })
         }
-        Err(refused) => Progress::Stands(
+        Err(refused) => Ok(Progress::Stands(
             Splits {
-                state: Splitting::Three(refused.state),
+                state: Splitting::Three(links.boxed(refused.state)?),
                 of: PhantomData,
             },
             Some(refused.cause),
-        ),
+        )),
     }
 }

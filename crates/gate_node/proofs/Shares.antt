@@ -1,5 +1,5 @@
 -- Shares that are joined block by block.
-use Rattle.std.proofs.Common.{◌≡◌, ℕ, Bool, true, false, ◌&&◌, List, [], ◌∷◌, ◌++◌, refl, ◌∙◌, ap, Some, None}
+use Rattle.std.proofs.Common.{◌≡◌, ℕ, Bool, true, false, ◌&&◌, List, [], ◌∷◌, ◌++◌, refl, ◌∙◌, ap, Some, None, Vec, Global}
 use Rattle.proto_core.proofs.Beginnings.{append-none}
 use Rattle.blocked_protocol.specs.Blocked.{joined, no_elements}
 use Rattle.joint_run.specs.declared.exchange.Exchange.{Exchange}
@@ -17,11 +17,13 @@ none-is (Resharing ring) = refl
 pub ruleset none_is = (none-is)
 
 -- a block of two values, or of one
-pub joined-both : (two : Bool) (x y a b : List ℕ) → joined (shares_if two x y) (shares_of a (Some b)) ≡ shares_if two (x ++ a) (y ++ b)
+pub joined-both :
+    (two : Bool) (x y : List ℕ) (a b : Vec ℕ Global) →
+    joined (shares_if two x y) (shares_of a (Some b)) ≡ shares_if two (x ++ a.items) (y ++ b.items)
 joined-both true x y a b = refl
 joined-both false x y a b = refl
 
-pub joined-first : (two : Bool) (x y a : List ℕ) → joined (shares_if two x y) (shares_of a None) ≡ shares_if false (x ++ a) y
+pub joined-first : (two : Bool) (x y : List ℕ) (a : Vec ℕ Global) → joined (shares_if two x y) (shares_of a None) ≡ shares_if false (x ++ a.items) y
 joined-first true x y a = refl
 joined-first false x y a = refl
 

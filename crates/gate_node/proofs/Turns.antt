@@ -1,6 +1,6 @@
 -- One step of a block changes nothing of what a miner has done and will do.
 use Rattle.std.proofs.Common.{◌≡◌, ℕ, ◌+◌, ◌-◌, ◌<◌, ◌≤◌, min, List, ◌++◌, length, take, drop, refl, sym, ◌∙◌, ap, subst, arith, length-drop, Option}
-use Rattle.std.proofs.Common.{Some, None, ◌⊎◌, inl, inr}
+use Rattle.std.proofs.Common.{Some, None, Vec, Global, ◌⊎◌, inl, inr}
 use Rattle.std.proofs.lemmas.List.{length-take-le, drop-append-le}
 use Rattle.proto_core.specs.declared.party.Number.{Number}
 use Rattle.proto_core.specs.declared.refused.BadMessage.{BadMessage}
@@ -101,13 +101,13 @@ module _ (i : Number) (x : Exchange) (from size : ℕ) (u v tape : List ℕ) (ma
 -- ---- a block that is through
 
 pub of-made :
-    {S P : Type 0} (left : S → Strand (List (List ℕ))) (to : Progress S P) (first : List ℕ) (second : Option (List ℕ)) → to ≡ Made first second →
+    {S : Type 0} (left : S → Strand (List (List ℕ))) (to : Progress S) (first : Vec ℕ Global) (second : Option (Vec ℕ Global)) → to ≡ Made first second →
     progress_left left to ≡ Ends (shares_of first second)
 of-made left to first None is = ap (progress_left left) is
 of-made left to first (Some second) is = ap (progress_left left) is
 
 pub begun-left :
-    {S P : Type 0} (left : S → Strand (List (List ℕ))) (to : Progress S P) (state : S) →
+    {S : Type 0} (left : S → Strand (List (List ℕ))) (to : Progress S) (state : S) →
     ((cause : Option BadMessage) × (to ≡ Stands state cause)) ⊎ (to ≡ Goes state) →
     progress_left left to ≡ left state
 begun-left left to state (inl is) = ap (progress_left left) is.1

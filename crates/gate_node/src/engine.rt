@@ -172,7 +172,7 @@ impl<P: Party> Engine<P> {
         self.store_last(array, count)
     }
 
-    /// Whether no gate is at work. It is looked at first, since what a gate has at work is large, and moved as often as it is gone on with.
+    /// Whether no gate is at work. It is looked at first, since what a gate has at work is moved as often as it is gone on with.
     fn is_idle(&self) -> bool
         ensures idle { result ≡ true → self.now.work ≡ Work.Idle }
         ensures at_work { result ≡ false → self.now.work ≢ Work.Idle }
@@ -254,8 +254,8 @@ impl<P: Party> Engine<P> {
         }
     }
 
-    /// The gate at work, as far as the messages lead: to its end, to a wait, or not at all where it couldn't begin. It stands apart, since its
-    /// blocks are large, and a function's places are made anew with each call.
+    /// The gate at work, as far as the messages lead: to its end, to a wait, or not at all where it couldn't begin. It stands apart, since a
+    /// function's places are made anew with each call.
     #[inline(never)]
     fn finish(&mut self) -> Result<Stand, AllocError>
         requires sound { IsSound P.me self.old }

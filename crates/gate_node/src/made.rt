@@ -6,7 +6,6 @@ ghost use Rattle.gate_node.specs.Shares.{shares_of};
 
 use gates::{Values, Words};
 use joint_run::Exchange;
-use proto_core::Block;
 use std::alloc::{AllocError, Global};
 use std::marker::Model;
 
@@ -43,16 +42,12 @@ impl Made {
 
     /// The shares of a further block.
     #[tactic(auto, using(crate::proofs::Shares::share_steps))]
-    pub fn append<R, P>(
-        &mut self,
-        first: &Block<R, P>,
-        second: &Option<Block<R, P>>,
-    ) -> Result<(), AllocError>
+    pub fn append(&mut self, first: &Vec<u64>, second: &Option<Vec<u64>>) -> Result<(), AllocError>
         ensures { OnOk result (self.new ≡ joined self.old (shares_of first.now second.now)) }
     {
-        self.first.extend_from_slice(first.words())?;
+        self.first.extend_from_slice(first)?;
         match second {
-            Some(second) => self.second.extend_from_slice(second.words())?,
+            Some(second) => self.second.extend_from_slice(second)?,
             None => self.two = false,
         }
         Ok(())

@@ -5,7 +5,6 @@ ghost use Rattle.gate_node.specs.Shares.{shares_of};
 
 use crate::made::Made;
 use joint_run::Exchanged;
-use proto_core::Block;
 use std::alloc::AllocError;
 
 /// A gate at work: how many of its elements have begun, and the shares that its blocks have made.
@@ -18,11 +17,7 @@ pub(crate) struct Running {
 
 impl Running {
     /// A block is through, and has made these shares.
-    pub fn through<R, P>(
-        self,
-        first: &Block<R, P>,
-        second: &Option<Block<R, P>>,
-    ) -> Result<Self, AllocError>
+    pub fn through(self, first: &Vec<u64>, second: &Option<Vec<u64>>) -> Result<Self, AllocError>
         ensures { IfOk result (λ r. r ≡ record { gate = self.gate; begun = self.begun; made = joined self.made (shares_of first.now second.now) }) }
     {
         let Running { gate, begun, made } = self;

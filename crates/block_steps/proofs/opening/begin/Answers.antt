@@ -18,6 +18,6 @@ returns-clause-same g c =
     let x = mail_of i l.from_previous.1 l.from_next.1 in
     let n = c.push.new.self in
     ap (λ (s : List ℕ × List ℕ). outcome i n l.to_previous l.opened.items (run (left_masked r i s) x))
-    (c.start-state.ensures.state ∙ ap (λ (b : List ℕ). (b, w)) c.from_words.ensures)
+    (c.in_ok-boxed.ensures ∙ c.start-state.ensures.state ∙ ap (λ (b : List ℕ). (b, w)) c.from_words.ensures)
     ∙ outcome-sent_next i l.to_next n l.to_previous l.opened.items w (to_next i) (open_masked r (length u) i u w) x refl
     (c.in_ok-push.ensures.ok ∙ ap (λ (m : List ℕ). l.to_next ++ m ∷ []) c.start-state.ensures.mask)

@@ -1,4 +1,4 @@
-use Rattle.std.proofs.Common.{◌≡◌, ◌+◌, ◌-◌, length, sym, ◌∙◌, ap, arith, length-drop}
+use Rattle.std.proofs.Common.{◌≡◌, ◌+◌, ◌-◌, length, sym, ◌∙◌, ap, subst, arith, length-drop}
 use Rattle.proto_core.specs.Strand.{Ends}
 use Rattle.gates.specs.Clear.{value}
 use Rattle.joint_run.specs.Exchanges.{protocol_of}
@@ -6,7 +6,8 @@ use Rattle.joint_run.specs.Steps.{second_value}
 use Rattle.block_steps.specs.Outcomes.{outcome_of}
 use Rattle.block_steps.specs.Pendings.{pending_left}
 use Rattle.gate_node.specs.Shares.{shares_of}
-use Rattle.gate_node.specs.Nodes.{blocks_then, protocol_at, gates_then}
+use Rattle.gate_node.specs.Nodes.{blocks_then, protocol_at, gates_then, IsSoundRun}
+use Rattle.gate_node.specs.declared.engine.Work.TheVariants.{Between}
 use Rattle.gate_node.proofs.Blocks.{draws-apart}
 use Rattle.gate_node.proofs.Turns.{next-turn, begun-left, of-made}
 use Rattle.gate_node.proofs.engine.Engine.next_block.Goals as goal
@@ -51,6 +52,35 @@ returns-in-Stands-clause-sound g c =
             second = c.requires.sound.second;
             reach = omega (arith, draws, count, left, c.requires.sound.reach);
           };
+    }
+
+pub returns-in_ok-through-in-Made-clause-sound : goal.returns-in_ok-through-in-Made-clause-sound
+returns-in_ok-through-in-Made-clause-sound g c =
+    let i = g.P.Party.me in
+    let e = c.args.self.now in
+    let r = c.args.running in
+    let x = r.gate.exchange in
+    let u = value e.values r.gate.u in
+    let size = c.min-size.result in
+    let w : length c.value-u.result.now ≡ length u = ap length c.value-u.ensures in
+    let k = length u - r.begun in
+    let rest = length u - (r.begun + size) in
+    let is = c.min-size.ensures in
+    let some = c.if-begun-u.false in
+    let apart : size + rest ≡ k = omega (arith, w, is, some) in
+    let draws = draws-apart x i size rest k apart in
+    let count : c.draws-count.result ≡ (protocol_of x).draws size i = c.draws-count.ensures ∙ ap (λ k. (protocol_of x).draws size k) c.number.ensures in
+    let left : length c.draw.new.self.1 ≡ length e.tape.1 - c.draws-count.result = ap length c.draw.ensures.left ∙ length-drop c.draws-count.result e.tape.1 in
+    record {
+      gates = c.requires.gates;
+      work =
+          subst (λ q. IsSoundRun i (record e { tape = c.draw.new.self; links = c.begin.new.links; work = Between c.in_ok-through-in-Made.field-0 }) q)
+          (sym c.in_ok-through-in-Made.ensures)
+          (record {
+            within = omega (arith, w, is, some);
+            second = c.requires.sound.second;
+            reach = omega (arith, draws, count, left, c.requires.sound.reach);
+          });
     }
 
 pub returns-in_ok-through-in-Made-clause-same : goal.returns-in_ok-through-in-Made-clause-same
