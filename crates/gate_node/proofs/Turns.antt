@@ -25,7 +25,7 @@ use Rattle.gate_node.specs.declared.engine.Work.TheVariants as work
 use Rattle.gate_node.specs.declared.engine.Engine.{Engine}
 use Rattle.gate_node.specs.OwnGates.{Halted, own_gates, then_gates}
 use Rattle.gate_node.specs.Shares.{shares_of}
-use Rattle.gate_node.specs.Nodes.{blocks_then, protocol_at, size_at, gates_left, running_left, work_left, engine_left}
+use Rattle.gate_node.specs.Nodes.{blocks_then, protocol_at, size_at, gates_left, running_left, work_left, engine_left, engine_outcome, IsSoundWork}
 use Rattle.gate_node.proofs.Always.{then-all, then-assoc}
 use Rattle.gate_node.proofs.OwnGates.{run-behind}
 use Rattle.gate_node.proofs.Blocks.{blocks-begin}
@@ -112,6 +112,15 @@ pub begun-left :
     progress_left left to ≡ left state
 begun-left left to state (inl is) = ap (progress_left left) is.1
 begun-left left to state (inr is) = ap (progress_left left) is
+
+-- ---- what is put to work
+
+module _ {P : Type 0} (i : Number) (e : Engine P) (w : Work P) (is : e.work ≡ w) where
+  pub put-to-work : engine_outcome i e ≡ outcome_of i e.links (work_left i e w)
+  put-to-work = ap (λ v. outcome_of i e.links (work_left i e v)) is
+
+  pub sound-work : IsSoundWork i e w → IsSoundWork i e e.work
+  sound-work = subst (IsSoundWork i e) (sym is)
 
 -- ---- gates are added
 

@@ -211,11 +211,14 @@ impl<P: Party> Engine<P> {
         let running = Running { gate, begun, made };
         match progress {
             Progress::Stands(block, _) | Progress::Goes(block) => {
-                self.work = Work::Within(running, block);
+                put(&mut self.work, Work::Within(running, block));
                 Ok(())
             }
             Progress::Made { first, second } => {
-                self.work = Work::Between(running.through(&first, &second)?);
+                put(
+                    &mut self.work,
+                    Work::Between(running.through(&first, &second)?),
+                );
                 Ok(())
             }
         }
@@ -240,15 +243,18 @@ impl<P: Party> Engine<P> {
         match block.step(&mut self.links)? {
             Progress::Stands(block, cause) => {
                 let link = block.awaits();
-                self.work = Work::Within(running, block);
+                put(&mut self.work, Work::Within(running, block));
                 Ok(Some((link, cause)))
             }
             Progress::Goes(block) => {
-                self.work = Work::Within(running, block);
+                put(&mut self.work, Work::Within(running, block));
                 Ok(None)
             }
             Progress::Made { first, second } => {
-                self.work = Work::Between(running.through(&first, &second)?);
+                put(
+                    &mut self.work,
+                    Work::Between(running.through(&first, &second)?),
+                );
                 Ok(None)
             }
         }
@@ -274,7 +280,7 @@ impl<P: Party> Engine<P> {
                     }
                 }
                 Work::Halt => {
-                    self.work = Work::Halt;
+                    put(&mut self.work, Work::Halt);
                     return Ok(Stand::Stuck);
                 }
             }
@@ -301,18 +307,19 @@ impl<P: Party> Engine<P> {
             self.tape.left(),
             gate,
         ) {
-            Beginning::Unfit => self.work = Work::Halt,
+            Beginning::Unfit => put(&mut self.work, Work::Halt),
             Beginning::Alone => {
                 let share = local_share(self.alloc, P::number(), &self.dealt, &self.values, gate)?;
                 self.values.push(share)?;
             }
             Beginning::Together(gate) => {
                 let made = Made::new(self.alloc, gate.exchange);
-                self.work = Work::Between(Running {
+                let running = Running {
                     gate,
                     begun: 0,
                     made,
-                });
+                };
+                put(&mut self.work, Work::Between(running));
             }
         }
         Ok(())
@@ -356,4 +363,11 @@ impl<P: Party> Engine<P> {
             }
         }
     }
+}
+
+/// Puts a value in the place of another, which is dropped: at each place that calls this by one call, and not case by case.
+fn put<T: Drop>(place: &mut T, value: T)
+    ensures { place.new ≡ value }
+{
+    *place = value;
 }

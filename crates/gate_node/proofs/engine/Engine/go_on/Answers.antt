@@ -1,11 +1,12 @@
-use Rattle.std.proofs.Common.{◌≡◌, ap, subst, ◌∙◌}
+use Rattle.std.proofs.Common.{◌≡◌, ap, subst, sym, ◌∙◌}
 use Rattle.proto_core.specs.Strand.{Ends}
 use Rattle.blocked_protocol.specs.Blocked.{joined}
-use Rattle.block_steps.specs.Outcomes.{outcome_of}
+use Rattle.block_steps.specs.Outcomes.{outcome_of, StandsAt, AwaitsOn}
 use Rattle.block_steps.specs.Pendings.{pending_left, progress_left, StandsThen}
 use Rattle.gate_node.specs.Shares.{shares_of}
-use Rattle.gate_node.specs.Nodes.{running_left}
-use Rattle.gate_node.proofs.Turns.{outcome-behind, stands-behind, awaits-behind, of-made}
+use Rattle.gate_node.specs.declared.engine.Work.TheVariants.{Between, Within}
+use Rattle.gate_node.specs.Nodes.{running_left, work_left}
+use Rattle.gate_node.proofs.Turns.{outcome-behind, stands-behind, awaits-behind, of-made, put-to-work}
 use Rattle.gate_node.proofs.engine.Engine.go_on.Goals as goal
 
 pub returns-in-Stands-clause-same : goal.returns-in-Stands-clause-same
@@ -14,7 +15,8 @@ returns-in-Stands-clause-same g c =
     let e = c.args.self.now in
     let r = c.args.running in
     let b = c.step.new.links in
-    outcome-behind i (λ here. running_left i e r (joined r.made here)) b e.links (pending_left i c.in-Stands.block) (pending_left i c.args.block)
+    put-to-work i (record e { links = b; work = c.put.new.place }) (Within r c.in-Stands.block) c.put.ensures
+    ∙ outcome-behind i (λ here. running_left i e r (joined r.made here)) b e.links (pending_left i c.in-Stands.block) (pending_left i c.args.block)
     (subst (λ v. outcome_of i b (progress_left (pending_left i) v) ≡ outcome_of i e.links (pending_left i c.args.block)) c.in-Stands.is
     c.in_ok-block.ensures.same)
 
@@ -24,7 +26,8 @@ returns-in-Goes-clause-same g c =
     let e = c.args.self.now in
     let r = c.args.running in
     let b = c.step.new.links in
-    outcome-behind i (λ here. running_left i e r (joined r.made here)) b e.links (pending_left i c.in-Goes.block) (pending_left i c.args.block)
+    put-to-work i (record e { links = b; work = c.put-in-Goes.new.place }) (Within r c.in-Goes.block) c.put-in-Goes.ensures
+    ∙ outcome-behind i (λ here. running_left i e r (joined r.made here)) b e.links (pending_left i c.in-Goes.block) (pending_left i c.args.block)
     (subst (λ v. outcome_of i b (progress_left (pending_left i) v) ≡ outcome_of i e.links (pending_left i c.args.block)) c.in-Goes.is
     c.in_ok-block.ensures.same)
 
@@ -34,7 +37,9 @@ returns-in-Stands-clause-stands g c =
     let e = c.args.self.now in
     let r = c.args.running in
     let b = c.step.new.links in
-    let s = pending_left i c.in-Stands.block in (
+    let f = record e { links = b; work = c.put.new.place } in
+    let s = pending_left i c.in-Stands.block in
+    subst (λ w. StandsAt i b c.in-Stands.cause (work_left i f w) × AwaitsOn c.awaits-link.result (work_left i f w)) (sym c.put.ensures) (
       stands-behind i b c.in-Stands.cause s (λ here. running_left i e r (joined r.made here))
           (subst (StandsThen (pending_left i) i b) c.in-Stands.is c.in_ok-block.ensures.stands),
       awaits-behind c.awaits-link.result s (λ here. running_left i e r (joined r.made here)) c.awaits-link.ensures,
@@ -47,7 +52,8 @@ returns-in_ok-through-in-Made-clause-same g c =
     let r = c.args.running in
     let b = c.step.new.links in
     let shares = shares_of c.in-Made.first c.in-Made.second in
-    ap (λ q. outcome_of i b (running_left i e q q.made)) c.in_ok-through-in-Made.ensures
+    put-to-work i (record e { links = b; work = c.put-in-Made.new.place }) (Between c.in_ok-through-in-Made.field-0) c.put-in-Made.ensures
+    ∙ ap (λ q. outcome_of i b (running_left i e q q.made)) c.in_ok-through-in-Made.ensures
     ∙ outcome-behind i (λ here. running_left i e r (joined r.made here)) b e.links (Ends shares) (pending_left i c.args.block)
     (subst (λ w. outcome_of i b w ≡ outcome_of i e.links (pending_left i c.args.block))
     (of-made (pending_left i) c.in_ok-block.field-0 c.in-Made.first c.in-Made.second c.in-Made.is) c.in_ok-block.ensures.same)

@@ -1,15 +1,16 @@
-use Rattle.std.proofs.Common.{◌≡◌, ◌+◌, ◌-◌, length, sym, ◌∙◌, ap, subst, arith, length-drop}
+use Rattle.std.proofs.Common.{◌≡◌, ◌+◌, ◌-◌, length, sym, ◌∙◌, ap, arith, length-drop}
 use Rattle.proto_core.specs.Strand.{Ends}
 use Rattle.gates.specs.Clear.{value}
+use Rattle.blocked_protocol.specs.Blocked.{joined}
 use Rattle.joint_run.specs.Exchanges.{protocol_of}
 use Rattle.joint_run.specs.Steps.{second_value}
 use Rattle.block_steps.specs.Outcomes.{outcome_of}
 use Rattle.block_steps.specs.Pendings.{pending_left}
 use Rattle.gate_node.specs.Shares.{shares_of}
-use Rattle.gate_node.specs.Nodes.{blocks_then, protocol_at, gates_then, IsSoundRun}
-use Rattle.gate_node.specs.declared.engine.Work.TheVariants.{Between}
+use Rattle.gate_node.specs.Nodes.{blocks_then, protocol_at, gates_then}
+use Rattle.gate_node.specs.declared.engine.Work.TheVariants.{Between, Within}
 use Rattle.gate_node.proofs.Blocks.{draws-apart}
-use Rattle.gate_node.proofs.Turns.{next-turn, begun-left, of-made}
+use Rattle.gate_node.proofs.Turns.{next-turn, begun-left, of-made, put-to-work, sound-work}
 use Rattle.gate_node.proofs.engine.Engine.next_block.Goals as goal
 
 pub returns-in-Stands-clause-same : goal.returns-in-Stands-clause-same
@@ -19,7 +20,9 @@ returns-in-Stands-clause-same g c =
     let r = c.args.running in
     let x = r.gate.exchange in
     let b = c.begin.new.links in
-    next-turn i x r.begun c.min-size.result (value e.values r.gate.u) (second_value e.values r.gate.v) e.tape.1 r.made (gates_then i e)
+    put-to-work i (record e { tape = c.draw.new.self; links = c.begin.new.links; work = c.put-in-Stands.new.place })
+    (Within (record { gate = r.gate; begun = r.begun + c.min-size.result; made = r.made }) c.in-Stands.block) c.put-in-Stands.ensures
+    ∙ next-turn i x r.begun c.min-size.result (value e.values r.gate.u) (second_value e.values r.gate.v) e.tape.1 r.made (gates_then i e)
     e.links b (pending_left i c.in-Stands.block) c.draw.new.self.1 c.value-u.result.now c.second_value.result.now c.left.result.now
     c.second-from.result c.second.result c.draws-count.result
     c.value-u.ensures c.second_value.ensures c.left.ensures c.second-from.ensures c.second.ensures
@@ -47,11 +50,12 @@ returns-in-Stands-clause-sound g c =
     record {
       gates = c.requires.gates;
       work =
-          record {
+          sound-work i (record e { tape = c.draw.new.self; links = c.begin.new.links; work = c.put-in-Stands.new.place })
+          (Within (record { gate = r.gate; begun = r.begun + c.min-size.result; made = r.made }) c.in-Stands.block) c.put-in-Stands.ensures (record {
             within = omega (arith, w, is, some);
             second = c.requires.sound.second;
             reach = omega (arith, draws, count, left, c.requires.sound.reach);
-          };
+          });
     }
 
 pub returns-in_ok-through-in-Made-clause-sound : goal.returns-in_ok-through-in-Made-clause-sound
@@ -74,9 +78,8 @@ returns-in_ok-through-in-Made-clause-sound g c =
     record {
       gates = c.requires.gates;
       work =
-          subst (λ q. IsSoundRun i (record e { tape = c.draw.new.self; links = c.begin.new.links; work = Between c.in_ok-through-in-Made.field-0 }) q)
-          (sym c.in_ok-through-in-Made.ensures)
-          (record {
+          sound-work i (record e { tape = c.draw.new.self; links = c.begin.new.links; work = c.put.new.place })
+          (Between (record { gate = r.gate; begun = r.begun + c.min-size.result; made = joined r.made (shares_of c.in-Made.first c.in-Made.second) })) (c.put.ensures ∙ ap Between c.in_ok-through-in-Made.ensures) (record {
             within = omega (arith, w, is, some);
             second = c.requires.sound.second;
             reach = omega (arith, draws, count, left, c.requires.sound.reach);
@@ -90,7 +93,8 @@ returns-in_ok-through-in-Made-clause-same g c =
     let r = c.args.running in
     let x = r.gate.exchange in
     let b = c.begin.new.links in
-    ap (λ q. outcome_of i b (blocks_then (protocol_at q) i q.begun (value e.values q.gate.u) (second_value e.values q.gate.v) c.draw.new.self.1 q.made
+    put-to-work i (record e { tape = c.draw.new.self; links = c.begin.new.links; work = c.put.new.place }) (Between c.in_ok-through-in-Made.field-0) c.put.ensures
+    ∙ ap (λ q. outcome_of i b (blocks_then (protocol_at q) i q.begun (value e.values q.gate.u) (second_value e.values q.gate.v) c.draw.new.self.1 q.made
     (gates_then i e)))
     c.in_ok-through-in-Made.ensures
     ∙ next-turn i x r.begun c.min-size.result (value e.values r.gate.u) (second_value e.values r.gate.v) e.tape.1 r.made (gates_then i e)
