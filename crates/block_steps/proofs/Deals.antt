@@ -125,7 +125,8 @@ module _ (i : Number) where
       (held before : split.Held) (m x y made made2 : List ℕ) (front front2 q n p : List (List ℕ)) (o : List ℕ) →
       i ≡ Two → before ≡ held → made ≡ x → made2 ≡ y →
       FrontIs (Some m) front → front2 ≡ rest_of front → splits.Got12 before m x y →
-      outcome i n p o (run (Ends (made ∷ made2 ∷ [])) (mail_of i front2 q)) ≡ outcome i n p o (run (split.awaits12 (length held.share) held) (mail_of i front q))
+      outcome i n p o (run (Ends (made ∷ made2 ∷ [])) (mail_of i front2 q)) ≡ outcome i n p o (run (split.awaits12 (length held.share) held)
+      (mail_of i front q))
   split12 held before m x y made made2 front front2 q n p o me was same same2 h e k =
       let size = length before.share in
       took-previous i Link12 (split.words_shape size) (split.two_ends size before) m (Ends (made ∷ made2 ∷ [])) front front2 q n p o
@@ -137,7 +138,8 @@ module _ (i : Number) where
       (held before : split.Held) (m x y made made2 : List ℕ) (front front2 q n p : List (List ℕ)) (o : List ℕ) →
       i ≡ Three → before ≡ held → made ≡ x → made2 ≡ y →
       FrontIs (Some m) front → front2 ≡ rest_of front → splits.Got13 before m x y →
-      outcome i n p o (run (Ends (made ∷ made2 ∷ [])) (mail_of i q front2)) ≡ outcome i n p o (run (split.awaits13 (length held.share) held) (mail_of i q front))
+      outcome i n p o (run (Ends (made ∷ made2 ∷ [])) (mail_of i q front2)) ≡ outcome i n p o (run (split.awaits13 (length held.share) held)
+      (mail_of i q front))
   split13 held before m x y made made2 front front2 q n p o me was same same2 h e k =
       let size = length before.share in
       took-next i Link13 (split.words_shape size) (split.three_ends size before) m (Ends (made ∷ made2 ∷ [])) front front2 q n p o

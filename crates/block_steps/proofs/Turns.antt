@@ -143,15 +143,16 @@ one-times n = omega arith
 
 -- the state that is refused goes into a box anew
 module _ {S : Type 0} (size : S → ℕ) (fields : List Field) (before : S) (want : ℕ) (m : List ℕ) (refused : Refused S) (boxed : S) (i : Number)
-    (front q : List (List ℕ)) (is : want ≡ length fields * size before) (wrong : WrongLength before want (length m) refused) (kept : boxed ≡ refused.state) where
-  abbrev wanted : Shape
-  wanted = shaped (size boxed) fields
+    (front q : List (List ℕ)) (is : want ≡ length fields * size before) (wrong : WrongLength before want (length m) refused) (kept : boxed ≡ refused.state)
+  where
+    abbrev wanted : Shape
+    wanted = shaped (size boxed) fields
 
-  told : fault_of wanted m ≡ Some refused.cause
-  told = wrong_length_is_told before wanted want m refused (is ∙ ap (λ s. length fields * size s) (sym (kept ∙ wrong.state))) wrong
+    told : fault_of wanted m ≡ Some refused.cause
+    told = wrong_length_is_told before wanted want m refused (is ∙ ap (λ s. length fields * size s) (sym (kept ∙ wrong.state))) wrong
 
-  pub wrong-previous : (link : Link) → link ≡ from_previous i → FrontIs (Some m) front → HasNoneOf wanted (Some refused.cause) (mail_of i front q link)
-  wrong-previous link on h = refused-previous i link wanted front q m refused.cause on h told
+    pub wrong-previous : (link : Link) → link ≡ from_previous i → FrontIs (Some m) front → HasNoneOf wanted (Some refused.cause) (mail_of i front q link)
+    wrong-previous link on h = refused-previous i link wanted front q m refused.cause on h told
 
-  pub wrong-next : (link : Link) → link ≡ from_next i → FrontIs (Some m) front → HasNoneOf wanted (Some refused.cause) (mail_of i q front link)
-  wrong-next link on h = refused-next i link wanted front q m refused.cause on h told
+    pub wrong-next : (link : Link) → link ≡ from_next i → FrontIs (Some m) front → HasNoneOf wanted (Some refused.cause) (mail_of i q front link)
+    wrong-next link on h = refused-next i link wanted front q m refused.cause on h told

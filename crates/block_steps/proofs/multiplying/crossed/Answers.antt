@@ -17,4 +17,5 @@ pub returns-in_ok-boxed-in-Err-clause-stands : goal.returns-in_ok-boxed-in-Err-c
 returns-in_ok-boxed-in-Err-clause-stands g c =
     let l = c.args.links.now in
     wrong-previous (λ (s : Held). length s.mask) (Words ∷ Words ∷ []) c.into_inner.result (2 * length c.into_inner.result.mask) c.in-Some.msg c.in-Err.refused
-    c.in_ok-boxed-in-Err.field-0.value g.P.Party.me l.from_previous.1 l.from_next.1 refl c.in-Err.ensures.err c.in_ok-boxed-in-Err.ensures (from_previous g.P.Party.me) refl c.in-Some.ensures
+    c.in_ok-boxed-in-Err.field-0.value g.P.Party.me l.from_previous.1 l.from_next.1 refl c.in-Err.ensures.err c.in_ok-boxed-in-Err.ensures
+    (from_previous g.P.Party.me) refl c.in-Some.ensures

@@ -79,7 +79,8 @@ returns-in_ok-through-in-Made-clause-sound g c =
       gates = c.requires.gates;
       work =
           sound-work i (record e { tape = c.draw.new.self; links = c.begin.new.links; work = c.put.new.place })
-          (Between (record { gate = r.gate; begun = r.begun + c.min-size.result; made = joined r.made (shares_of c.in-Made.first c.in-Made.second) })) (c.put.ensures ∙ ap Between c.in_ok-through-in-Made.ensures) (record {
+          (Between (record { gate = r.gate; begun = r.begun + c.min-size.result; made = joined r.made (shares_of c.in-Made.first c.in-Made.second) }))
+          (c.put.ensures ∙ ap Between c.in_ok-through-in-Made.ensures) (record {
             within = omega (arith, w, is, some);
             second = c.requires.sound.second;
             reach = omega (arith, draws, count, left, c.requires.sound.reach);
@@ -93,7 +94,8 @@ returns-in_ok-through-in-Made-clause-same g c =
     let r = c.args.running in
     let x = r.gate.exchange in
     let b = c.begin.new.links in
-    put-to-work i (record e { tape = c.draw.new.self; links = c.begin.new.links; work = c.put.new.place }) (Between c.in_ok-through-in-Made.field-0) c.put.ensures
+    put-to-work i (record e { tape = c.draw.new.self; links = c.begin.new.links; work = c.put.new.place }) (Between c.in_ok-through-in-Made.field-0)
+    c.put.ensures
     ∙ ap (λ q. outcome_of i b (blocks_then (protocol_at q) i q.begun (value e.values q.gate.u) (second_value e.values q.gate.v) c.draw.new.self.1 q.made
     (gates_then i e)))
     c.in_ok-through-in-Made.ensures
