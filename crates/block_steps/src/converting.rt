@@ -1,4 +1,4 @@
-// Truth values turned into numbers, block by block. What has room for states and messages is not inlined, since it is made anew with each call.
+// Truth values turned into numbers, block by block. No function is inlined: each has room for states and messages, which is made anew with each call.
 ghost use Rattle.std.specs.Prelude.{◌≡◌, ◌≤◌, ◌*◌, length, OnOk, IfOk};
 ghost use Rattle.proto_core.specs.declared.party.Number.TheVariants as number;
 ghost use Rattle.share_convert.specs.Converting.{conv_draws};
@@ -14,7 +14,7 @@ use share_convert::{Conv, First, Second, Sent};
 use std::alloc::AllocError;
 use std::marker::{Model, PhantomData};
 
-/// A miner's part in a block that is converted, by miner and by the message that is awaited. Each is boxed, as those of a `RingBlock` are.
+/// A miner's part in a block that is converted, by miner and by the message that is awaited. Each is boxed, as a `RingBlock` is.
 #[derive(Drop)]
 pub enum Converting {
     /// The first miner has dealt, and awaits the third one's mask.

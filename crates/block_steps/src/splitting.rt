@@ -1,4 +1,4 @@
-// Numbers split into two words each, block by block. What has room for states and messages is not inlined, since it is made anew with each call.
+// Numbers split into two words each, block by block. No function is inlined: each has room for states and messages, which is made anew with each call.
 ghost use Rattle.std.specs.Prelude.{◌≡◌, ◌≤◌, false, length, OnOk, IfOk};
 ghost use Rattle.proto_core.specs.declared.party.Number.TheVariants as number;
 ghost use Rattle.split_share.specs.Splitting.{split_draws};
@@ -14,7 +14,7 @@ use split_share::{Sent, Split, Waiting};
 use std::alloc::AllocError;
 use std::marker::{Model, PhantomData};
 
-/// A miner's part in a block that is split, by miner. The first one deals, and awaits no message. Each is boxed, as those of a `RingBlock` are.
+/// A miner's part in a block that is split, by miner. The first one deals, and awaits no message. Each is boxed, as a `RingBlock` is.
 #[derive(Drop)]
 pub enum Splitting {
     /// The second miner awaits what the first one deals.
