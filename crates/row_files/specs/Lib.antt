@@ -1,4 +1,5 @@
 pub mod Texts
 pub mod Calls
 pub mod Agreeing
+pub mod Failures
 pub mod Vectors

@@ -1,5 +1,6 @@
 // One call of the program, and what must come of it.
-ghost use Rattle.std.specs.Prelude.{◌≡◌, ◌≤◌, option_map};
+ghost use Rattle.std.specs.Prelude.{◌≡◌, ◌≤◌, option_map, IfOk};
+ghost use Rattle.row_files.specs.Failures.{calls_failing};
 ghost use Rattle.row_files.specs.Texts.{bytes_said, last_text, peer_named};
 
 use crate::wrong::Fault;
@@ -264,7 +265,9 @@ impl Row {
     }
 
     /// The calls of an object that are to fail.
-    pub fn fails(&self, alloc: Global, object: Object) -> Result<Vec<u64>, AllocError> {
+    pub fn fails(&self, alloc: Global, object: Object) -> Result<Vec<u64>, AllocError>
+        ensures { IfOk result (λ calls. calls.items ≡ calls_failing object self.now.failing.items) }
+    {
         let mut calls = Vec::new(alloc);
         for failing in self.failing.iter() {
             if failing.object == object {
