@@ -4,7 +4,8 @@
 # A build stands in .build/SUM, SUM being a checksum of all that the program is made of. It is made under another name and
 # renamed when it is whole, so nobody ever meets half of one; a lock lets one build at a time work in a checkout.
 
-# What a build from nothing took: processor minutes in all, and minutes on four processors, which its longest chain of crates sets (docs/performance.md).
+# What a build from nothing took on the fastest machine that was met: processor minutes in all, and minutes on four processors, which its longest chain of
+# crates sets (docs/performance.md). The slowest took two and a half times as long.
 build_work=73
 build_chain=22
 
@@ -73,7 +74,7 @@ make_build() {
   local sum=$1 minutes status
   minutes=$((build_work / $(nproc)))
   [ "$minutes" -ge "$build_chain" ] || minutes=$build_chain
-  echo "secrec: proving and building the program (its first use here, or a source has changed); about $minutes minutes on $(nproc) processors" >&2
+  echo "secrec: proving and building the program (its first use here, or a source has changed); $minutes to $((5 * minutes / 2)) minutes on $(nproc) processors" >&2
   scratch=$(mktemp -d 2>/dev/null) || give_up "no folder for temporary files can be made in ${TMPDIR:-/tmp}"
   teller=
   trap '[ -z "$teller" ] || kill "$teller" 2>/dev/null; rm -rf "$scratch" "$build/new.$$"' EXIT

@@ -1,0 +1,277 @@
+"""What each command must answer: the status, both streams and the files that it writes."""
+from __future__ import annotations
+
+from dataclasses import dataclass, field
+from functools import lru_cache
+
+from chacha import tape_words
+from clear import UNBOUNDED, Input, OpenedShort, Report, Runnable, ValueType, dealer_need, evaluate, evaluate_blind, runnable_of
+from files import (
+    CallRefused, read_inputs, read_opened, read_public, read_schedule, read_tapes, write_opened, write_own_tape, write_public,
+    write_schedule, write_share, write_tapes, write_view,
+)
+from joint import Direction, JointRun, SimulatedMiner, map_tapes
+from network import Outcome, default_delivery, listed_delivery, shuffled_delivery
+from tree import Data
+from verdict import Verdict, judge
+
+DEFAULT_BUDGET = 1_000_000
+DEFAULT_WORDS = 65_536
+LOAD_WORDS = 131_072
+LOAD_PROGRAM = (
+    b"import stdlib; import shared3p; domain p shared3p;\n"
+    b'void main() { p uint64[[1]] a = argument("a"); p uint64[[1]] b = argument("b");\n'
+    b'publish("dot", declassify(sum(a * b))); publish("less", declassify(sum((uint64)(a < b)))); }\n'
+)
+
+
+@dataclass
+class Answer:
+    """What a command does; of a file that is written without bytes here any bytes may be written."""
+
+    status: int = 0
+    out: bytes = b""
+    err: bytes = b""
+    written: dict[str, bytes | None] = field(default_factory=dict)
+
+
+def refusal(refused: CallRefused) -> Answer:
+    return Answer(refused.status, b"", f"error: {refused.line}\n".encode())
+
+
+NOWHERE = "nowhere/"
+
+
+def written_in_order(answer: Answer) -> Answer:
+    """Writes stop at the first path that cannot be written: one in a folder that is not there."""
+    paths = list(answer.written)
+    for place, path in enumerate(paths):
+        if path.startswith(NOWHERE):
+            kept = {one: answer.written[one] for one in paths[:place]}
+            return Answer(9, b"", f"error: file {path}\n".encode(), kept)
+    return answer
+
+
+class Words:
+    """The words of a call: places, and options with values."""
+
+    def __init__(self, words: list[str]):
+        self.places, self.options = [], {}
+        rest = iter(words)
+        for word in rest:
+            if word.startswith("--"):
+                name, has_value, value = word[2:].partition("=")
+                self.options[name] = value if has_value else next(rest)
+            else:
+                self.places.append(word)
+
+    def number(self, name: str, default: int) -> int:
+        return int(self.options.get(name, default))
+
+    def budget(self) -> int:
+        return self.number("budget", DEFAULT_BUDGET)
+
+
+class Caller:
+    """Answers calls over a set of files."""
+
+    def __init__(self, found: dict[str, bytes]):
+        self.found = found
+        self.reports: list[Report] = []
+        self.last_joint: tuple[Report, list[list[int]], JointRun] | None = None
+
+    def call(self, words: list[str]) -> Answer:
+        """The answer to a call; `reports` are then those of its evaluations."""
+        self.reports = []
+        commands = {
+            "check": self.check, "compile": self.compile, "eval": self.eval, "need": self.need, "run": self.run, "map": self.map,
+            "simulate": self.simulate, "twin": self.twin, "deal": self.deal, "load": self.load,
+        }
+        try:
+            return written_in_order(commands[words[0]](Words(words[1:])))
+        except CallRefused as refused:
+            return refusal(refused)
+
+    def read(self, path: str) -> bytes:
+        if path not in self.found:
+            raise CallRefused(f"file {path}", 9)
+        return self.found[path]
+
+    def verdict(self, path: str) -> Verdict:
+        """The verdict on a program that is accepted."""
+        found = judge(self.read(path))
+        if found.refusal is not None:
+            raise CallRefused(found.refusal, 3)
+        return found
+
+    def program(self, path: str) -> Runnable:
+        self.verdict(path)
+        return runnable(self.read(path))
+
+    def delivery(self, words: Words):
+        """Reads the schedule; what is given back walks a list of gates."""
+        if "schedule" in words.options:
+            schedule = read_schedule(self.read(words.options["schedule"]))
+            return lambda gates: listed_delivery(gates, schedule)
+        if "shuffle" in words.options:
+            seed = bytes.fromhex(words.options["shuffle"])
+            return lambda gates: shuffled_delivery(gates, seed)
+        return default_delivery
+
+    def evaluated(self, program: Runnable, inputs: list[Input], budget: int, lengths: list[int]) -> Report:
+        report = evaluate(program, inputs, budget, lengths)
+        self.reports.append(report)
+        return report
+
+    def check(self, words: Words) -> Answer:
+        self.verdict(words.places[0])
+        return Answer(out=b"ok\n")
+
+    def compile(self, words: Words) -> Answer:
+        functions = self.verdict(words.places[0]).functions
+        return Answer(out=f"functions {functions}\n".encode(), written={words.options["code"]: None})
+
+    def run(self, words: Words) -> Answer:
+        """The text of a run, the views, and the delivered links."""
+        program = self.program(words.places[0])
+        inputs = read_inputs(self.read(words.options["input"]))
+        seed = words.options.get("seed")
+        tapes = None if seed is not None else read_tapes(self.read(words.options["tape"]))
+        lengths = [words.number("words", DEFAULT_WORDS)] * 4 if seed is not None else [len(tape) for tape in tapes]
+        delivery = self.delivery(words)
+        report = self.evaluated(program, inputs, words.budget(), lengths)
+        if seed is not None:
+            wanted = [dealer_need(inputs) if report.inputs_dealt else 0, *report.needs[1:]]
+            tapes = [tape_words(bytes.fromhex(seed), party, count) for party, count in enumerate(wanted)]
+        outcome = accepted(delivery(report.gates))
+        written = {}
+        if "views" in words.options:
+            joint = self.joint_run(report, inputs, tapes)
+            for miner in (1, 2, 3):
+                shares = [share[miner] for share in joint.dealt]
+                view = write_view(miner, inputs, shares, joint.drawn(miner), outcome.delivered, joint.messages, report)
+                written[f"{words.options['views']}.{miner}"] = view
+        if "record" in words.options:
+            written[words.options["record"]] = write_schedule(outcome.delivered)
+        return Answer(report.end.status, report.text().encode(), b"", written)
+
+    def joint_run(self, report: Report, inputs: list[Input], tapes: list[list[int]]) -> JointRun:
+        """The joint run of a report; the last one is kept, since one run is seen in several orders."""
+        if self.last_joint is None or self.last_joint[0] is not report or self.last_joint[1] != tapes:
+            self.last_joint = report, tapes, JointRun(report.gates, inputs if report.inputs_dealt else [], tapes)
+        return self.last_joint[2]
+
+    def eval(self, words: Words) -> Answer:
+        program = self.program(words.places[0])
+        inputs = read_inputs(self.read(words.options["input"]))
+        report = self.evaluated(program, inputs, words.budget(), UNBOUNDED)
+        return Answer(report.end.status, report.text().encode())
+
+    def need(self, words: Words) -> Answer:
+        program = self.program(words.places[0])
+        inputs = read_inputs(self.read(words.options["input"]))
+        report = self.evaluated(program, inputs, words.budget(), UNBOUNDED)
+        return Answer(report.end.status, ("need " + " ".join(map(str, report.needs)) + "\n").encode())
+
+    def map(self, words: Words) -> Answer:
+        """What the simulator of a view is given."""
+        miner, program = int(words.places[0]), self.program(words.places[1])
+        inputs = read_inputs(self.read(words.options["input"]))
+        tapes = read_tapes(self.read(words.options["tape"]))
+        report = self.evaluated(program, inputs, words.budget(), [len(tape) for tape in tapes])
+        mapped = map_tapes(miner, Direction.TO_SIMULATOR, report.gates, inputs, tapes, report.inputs_dealt)
+        written = {words.options["sim"]: write_tapes(mapped)}
+        written[words.options["public"]] = write_public(inputs)
+        written[words.options["opened"]] = write_opened(report)
+        return Answer(written=written)
+
+    def simulate(self, words: Words) -> Answer:
+        """The view that the simulator makes."""
+        miner, program = int(words.places[0]), self.program(words.places[1])
+        inputs = read_public(self.read(words.options["public"]))
+        opened = read_opened(self.read(words.options["opened"]))
+        tapes = read_tapes(self.read(words.options["sim"]))
+        delivery = self.delivery(words)
+        try:
+            report = evaluate_blind(program, inputs, opened, words.budget(), [len(tape) for tape in tapes])
+        except OpenedShort:
+            raise CallRefused(f"V2 have {len(opened)}", 15) from None
+        self.reports.append(report)
+        outcome = accepted(delivery(report.gates))
+        seen = SimulatedMiner(miner, report.gates, inputs if report.inputs_dealt else [], report.opened, tapes)
+        view = write_view(miner, inputs, seen.dealt, seen.drawn(), outcome.delivered, seen.received, report)
+        return Answer(written={words.options["view"]: view})
+
+    def twin(self, words: Words) -> Answer:
+        """The first run's tapes, for the second inputs."""
+        miner, program = int(words.places[0]), self.program(words.places[1])
+        first = read_inputs(self.read(words.options["input"]))
+        second = read_inputs(self.read(words.options["second"]))
+        tapes = read_tapes(self.read(words.options["tape"]))
+        lengths = [len(tape) for tape in tapes]
+        alike_public(first, second)
+        reports = [self.evaluated(program, inputs, words.budget(), lengths) for inputs in (first, second)]
+        alike_opened(*reports)
+        mapped = map_tapes(miner, Direction.TO_SIMULATOR, reports[0].gates, first, tapes, reports[0].inputs_dealt)
+        twin = map_tapes(miner, Direction.FROM_SIMULATOR, reports[1].gates, second, mapped, reports[1].inputs_dealt)
+        return Answer(written={words.options["to"]: write_tapes(twin)})
+
+    def deal(self, words: Words) -> Answer:
+        """The miners' shares and tapes."""
+        inputs = read_inputs(self.read(words.options["input"]))
+        tapes = read_tapes(self.read(words.options["tape"]))
+        need = dealer_need(inputs)
+        if need > len(tapes[0]):
+            raise CallRefused(f"Q2 need {need} have {len(tapes[0])}", 8)
+        dealt = JointRun([], inputs, tapes).dealt
+        prefix, lengths = words.options["to"], [len(tape) for tape in tapes]
+        written = {f"{prefix}.{miner}": write_share(inputs, dealt, lengths, miner) for miner in (1, 2, 3)}
+        written.update({f"{prefix}.t{miner}": write_own_tape(tapes[miner]) for miner in (1, 2, 3)})
+        return Answer(written=written)
+
+    def load(self, words: Words) -> Answer:
+        inputs = load_inputs(int(words.options["number"]))
+        report = self.evaluated(runnable(LOAD_PROGRAM), inputs, DEFAULT_BUDGET, [LOAD_WORDS] * 4)
+        messages = len(default_delivery(report.gates).delivered)
+        return Answer(report.end.status, f"{report.text()}messages {messages}\n".encode())
+
+
+@lru_cache(maxsize=4)
+def runnable(text: bytes) -> Runnable:
+    """What evaluation needs of a text that is accepted."""
+    return runnable_of(judge(text).program, text)
+
+
+def load_inputs(number: int) -> list[Input]:
+    """The two arrays of a workload."""
+    size, modulus = 1 + number % 600, 1 << 64
+    kind = ValueType(True, Data.NUMBER, True)
+    first = tuple(place * (number + 1) % modulus for place in range(size))
+    return [Input("a", kind, first), Input("b", kind, tuple((place + number) % modulus for place in range(size)))]
+
+
+def accepted(outcome: Outcome) -> Outcome:
+    if outcome.refusal:
+        raise CallRefused(outcome.refusal, 6)
+    return outcome
+
+
+def public_part(entry: Input):
+    """What is public of an entry."""
+    return entry.name, entry.type, len(entry.words) if entry.type.private else entry.words
+
+
+def alike_public(first: list[Input], second: list[Input]):
+    for place in range(max(len(first), len(second))):
+        one = first[place] if place < len(first) else None
+        other = second[place] if place < len(second) else None
+        if one is None or other is None or public_part(one) != public_part(other):
+            raise CallRefused(f"Z1 public {(one or other).name}", 14)
+
+
+def alike_opened(first: Report, second: Report):
+    for place, (one, other) in enumerate(zip(first.opened, second.opened)):
+        if one != other:
+            raise CallRefused(f"Z1 opened {place} {one} {other}", 14)
+    if len(first.opened) != len(second.opened):
+        raise AssertionError("opened lists of alike inputs that differ in length alone")

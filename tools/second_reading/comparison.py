@@ -1,0 +1,197 @@
+"""What both comparisons share: their options, a folder in which both sides are called, and the tally of what occurred."""
+from __future__ import annotations
+
+import argparse
+import random
+import subprocess
+import sys
+import threading
+import time
+from collections import Counter
+from collections.abc import Callable, Iterable, Iterator
+from dataclasses import dataclass, field
+from itertools import islice
+from pathlib import Path
+from tempfile import TemporaryDirectory
+
+from commands import Answer, Caller
+
+SHOWN = 2000
+PATIENCE = 600
+
+
+@dataclass
+class Tally:
+    """What occurred."""
+
+    cases: int = 0
+    calls: int = 0
+    differences: int = 0
+    commands: Counter[str] = field(default_factory=Counter)
+    signs: Counter[str] = field(default_factory=Counter)
+    ends: Counter[str] = field(default_factory=Counter)
+
+    def take(self, words: list[str], answer: Answer, caller: Caller):
+        """Counts a call."""
+        self.calls += 1
+        self.commands[words[0]] += 1
+        if answer.err:
+            self.signs[answer.err.decode().split()[1]] += 1
+        for report in caller.reports:
+            parts = report.end.what.split()
+            self.ends[" ".join(parts[:2]) if parts[0] in ("trap", "tape") else parts[0]] += 1
+
+    def show(self):
+        print(f"{self.cases} cases, {self.calls} calls compared, {self.differences} differences")
+        for name, counts in (("calls", self.commands), ("signs of refusals", self.signs), ("ends of runs", self.ends)):
+            print(f"{name}: " + (", ".join(f"{key} {count}" for key, count in sorted(counts.items())) or "none"))
+
+
+def shown(data: bytes, start: int = 0) -> str:
+    """Bytes as they are printed, at most so many."""
+    place = f"from byte {start} " if start else ""
+    return place + repr(data[start : start + SHOWN]) + (f" .. of {len(data)} bytes" if len(data) > start + SHOWN else "")
+
+
+def sides(want: bytes | None, have: bytes | None) -> str:
+    """What the two sides have, from shortly before the first difference on; None for no file."""
+    alike = 0
+    if want is not None and have is not None:
+        alike = next((place for place, (u, v) in enumerate(zip(want, have)) if u != v), min(len(want), len(have)))
+    start = max(alike - SHOWN // 4, 0) if alike > SHOWN // 2 else 0
+    model, program = ("no file" if data is None else shown(data, start) for data in (want, have))
+    return f"\n    model   {model}\n    program {program}"
+
+
+class Folder:
+    """A folder in which the program is called, and what must stand there by the model."""
+
+    def __init__(self, program: Path, place: Path, tally: Tally, case: str):
+        self.program, self.place, self.tally, self.case = program, place, tally, case
+        self.files: dict[str, bytes] = {}
+        self.caller = Caller(self.files)
+
+    def put(self, path: str, data: bytes):
+        self.files[path] = data
+        (self.place / path).write_bytes(data)
+
+    def remove(self, path: str):
+        del self.files[path]
+        (self.place / path).unlink()
+
+    def call(self, *words: str) -> Answer:
+        """Calls both sides, and compares."""
+        answer = self.caller.call(list(words))
+        self.tally.take(list(words), answer, self.caller)
+        before = dict(self.files)
+        faults = self.faults(list(words), answer)
+        if faults:
+            self.tell(list(words), before, faults)
+        return answer
+
+    def faults(self, words: list[str], answer: Answer) -> list[str]:
+        """What the program does otherwise; the folder is left as the model says."""
+        found = []
+        try:
+            done = subprocess.run([str(self.program), *words], cwd=self.place, capture_output=True, timeout=PATIENCE)
+        except subprocess.TimeoutExpired:
+            found.append(f"no answer in {PATIENCE} seconds")
+        else:
+            if answer.status != done.returncode:
+                found.append(f"status: model {answer.status}, program {done.returncode}")
+            for name, want, have in (("output", answer.out, done.stdout), ("error", answer.err, done.stderr)):
+                if want != have:
+                    found.append(f"{name}:{sides(want, have)}")
+        there = {one.name: one.read_bytes() for one in self.place.iterdir()}
+        self.files.update({path: there.get(path, b"") if data is None else data for path, data in answer.written.items()})
+        for path in sorted(set(there) | set(self.files)):
+            want, have = self.files.get(path), there.get(path)
+            if want != have:
+                found.append(f"file {path}:{sides(want, have)}")
+        self.restore(there)
+        return found
+
+    def restore(self, there: dict[str, bytes]):
+        """Makes the folder, which has these files now, have what it must have."""
+        for path in set(there) - set(self.files):
+            (self.place / path).unlink()
+        for path, data in self.files.items():
+            if there.get(path) != data:
+                (self.place / path).write_bytes(data)
+
+    def tell(self, words: list[str], before: dict[str, bytes], faults: list[str]):
+        """Prints a difference: the words, the files that they name, and what was found."""
+        self.tally.differences += 1
+        print(f"DIFFERENCE in {self.case}: {' '.join(words)}")
+        for path, data in before.items():
+            if path in words:
+                print(f"  given {path}: {shown(data)}")
+        for fault in faults:
+            print(f"  {fault}")
+        sys.stdout.flush()
+
+
+Play = Callable[[Folder], None]
+
+
+def sampled(make: Callable[[], Iterator], count: int, seed: str) -> Iterator:
+    """What is made, or so many of it in its order where there is more."""
+    whole = sum(1 for _ in make())
+    if whole <= count:
+        yield from make()
+        return
+    made, before = make(), 0
+    for place in sorted(random.Random(seed).sample(range(whole), count)):
+        yield next(islice(made, place - before, None))
+        before = place + 1
+
+
+class Comparison:
+    """One run of a comparing program: its options, its clock and its tally."""
+
+    def __init__(self, what: str, parts: list[str]):
+        reader = argparse.ArgumentParser(description=what)
+        reader.add_argument("--program", type=Path, required=True, help="the built program")
+        reader.add_argument("--seed", type=int, default=1)
+        reader.add_argument("--cases", type=int, default=100, help="at most so many cases of each part")
+        reader.add_argument("--seconds", type=float, default=float("inf"), help="no new case is begun behind these")
+        reader.add_argument("--part", nargs="+", choices=parts, default=parts, metavar="NAME", help=", ".join(parts))
+        self.options = reader.parse_args()
+        self.program = self.options.program.resolve()
+        if not self.program.is_file():
+            reader.error(f"no program {self.program}")
+        self.end = time.monotonic() + self.options.seconds
+        self.tally = Tally()
+
+    def play(self, part: str, cases: Iterable[Play]):
+        """Plays the cases of a part while there is time."""
+        for number, case in enumerate(cases):
+            if time.monotonic() >= self.end:
+                print(f"the time is over before case {number} of {part}")
+                return
+            with TemporaryDirectory() as place:
+                case(Folder(self.program, Path(place), self.tally, f"case {number} of {part}"))
+            self.tally.cases += 1
+
+    def finish(self) -> int:
+        """Prints the tally; the status of the whole."""
+        self.tally.show()
+        return 1 if self.tally.differences or not self.tally.calls else 0
+
+
+def with_deep_stack(work: Callable[[], int]) -> int:
+    """Runs `work` where calls may nest deeply; its result is a status."""
+    result = [1]
+
+    def run():
+        try:
+            result[0] = work()
+        except SystemExit as leaving:
+            result[0] = leaving.code or 0
+
+    sys.setrecursionlimit(200_000)
+    threading.stack_size(512 * 1024 * 1024)
+    thread = threading.Thread(target=run)
+    thread.start()
+    thread.join()
+    return result[0]

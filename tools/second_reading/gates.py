@@ -1,0 +1,198 @@
+"""Gates over numbered values, the plans made of them, and the words that they draw."""
+from __future__ import annotations
+
+from dataclasses import dataclass
+from enum import Enum, auto
+
+MODULUS = 1 << 64
+MASK = MODULUS - 1
+BLOCK = 512
+
+
+class Ring(Enum):
+    """The two rings: numbers modulo 2^64, and words under exclusive or."""
+
+    ADDITIVE = auto()
+    BITWISE = auto()
+
+    def add(self, left: int, right: int) -> int:
+        return (left + right) & MASK if self is Ring.ADDITIVE else left ^ right
+
+    def subtract(self, left: int, right: int) -> int:
+        return (left - right) & MASK if self is Ring.ADDITIVE else left ^ right
+
+    def multiply(self, left: int, right: int) -> int:
+        return (left * right) & MASK if self is Ring.ADDITIVE else left & right
+
+
+class Kind(Enum):
+    """What a gate does."""
+
+    INPUT = auto()
+    CONSTANT = auto()
+    ADD = auto()
+    SUBTRACT = auto()
+    MULTIPLY_PUBLIC = auto()
+    MULTIPLY = auto()
+    XOR = auto()
+    NOT = auto()
+    SHIFT_LEFT = auto()
+    SHIFT_RIGHT = auto()
+    LOW = auto()
+    CAT = auto()
+    PART = auto()
+    PUT = auto()
+    REPEAT = auto()
+    SPREAD = auto()
+    SUM = auto()
+    SPLIT = auto()
+    CONVERT = auto()
+    OPEN = auto()
+    RESULT = auto()
+
+
+INTERACTIVE = {Kind.MULTIPLY, Kind.SPLIT, Kind.CONVERT, Kind.OPEN, Kind.RESULT}
+DRAWN = {
+    Kind.MULTIPLY: (3, 3, 3),
+    Kind.SPLIT: (1, 0, 0),
+    Kind.CONVERT: (4, 1, 1),
+    Kind.OPEN: (1, 1, 1),
+    Kind.RESULT: (1, 1, 1),
+}
+
+
+@dataclass(frozen=True)
+class Gate:
+    """One gate: its operands' numbers, the number of its first result, its elements, and what else it has."""
+
+    kind: Kind
+    operands: tuple[int, ...]
+    result: int
+    size: int
+    ring: Ring | None = None
+    extra: tuple[int, ...] = ()
+
+    def drawn(self) -> tuple[int, int, int]:
+        """The words that each miner draws for it."""
+        per_element = DRAWN.get(self.kind, (0, 0, 0))
+        return tuple(self.size * count for count in per_element)
+
+
+class GateList:
+    """Gates in order of making, with the element count of each value."""
+
+    def __init__(self):
+        self.gates: list[Gate] = []
+        self.sizes: list[int] = []
+
+    def make(self, kind: Kind, operands: tuple[int, ...], size: int, ring: Ring | None = None, extra=()) -> int:
+        result = len(self.sizes)
+        self.gates.append(Gate(kind, operands, result, size, ring, tuple(extra)))
+        self.sizes.append(size)
+        return result
+
+    def split(self, operand: int, negated: bool) -> tuple[int, int]:
+        size = self.sizes[operand]
+        first = self.make(Kind.SPLIT, (operand,), size, None, (int(negated),))
+        self.sizes.append(size)
+        return first, first + 1
+
+    def one(self, kind: Kind, operand: int, extra=()) -> int:
+        return self.make(kind, (operand,), self.sizes[operand], None, extra)
+
+    def two(self, kind: Kind, left: int, right: int, ring: Ring | None = None) -> int:
+        return self.make(kind, (left, right), self.sizes[left], ring)
+
+    def conjunction(self, left: int, right: int) -> int:
+        return self.two(Kind.MULTIPLY, left, right, Ring.BITWISE)
+
+    def cat(self, left: int, right: int) -> int:
+        return self.make(Kind.CAT, (left, right), self.sizes[left] + self.sizes[right])
+
+    def part(self, operand: int, start: int, count: int) -> int:
+        return self.make(Kind.PART, (operand,), count, None, (start,))
+
+    def flip(self, operand: int) -> int:
+        """Turns truth values round."""
+        ones = self.make(Kind.CONSTANT, (), self.sizes[operand], None, [1] * self.sizes[operand])
+        return self.two(Kind.XOR, operand, ones)
+
+    def equal_to_zero(self, operand: int) -> int:
+        """1 exactly where the number is 0."""
+        left, right = self.split(operand, True)
+        passing = self.one(Kind.NOT, self.two(Kind.XOR, left, right))
+        for shift in (32, 16, 8, 4, 2, 1):
+            passing = self.conjunction(passing, self.one(Kind.SHIFT_RIGHT, passing, (shift,)))
+        return self.one(Kind.LOW, passing)
+
+    def bits(self, operand: int) -> int:
+        """The number as a word of the bitwise ring."""
+        size = self.sizes[operand]
+        left, right = self.split(operand, False)
+        made = self.conjunction(left, right)
+        half = self.two(Kind.XOR, left, right)
+        passing = half
+        for shift in (1, 2, 4, 8, 16, 32):
+            first = self.cat(passing, passing)
+            second = self.cat(self.one(Kind.SHIFT_LEFT, made, (shift,)), self.one(Kind.SHIFT_LEFT, passing, (shift,)))
+            both = self.conjunction(first, second)
+            made = self.two(Kind.XOR, made, self.part(both, 0, size))
+            passing = self.part(both, size, size)
+        return self.two(Kind.XOR, half, self.one(Kind.SHIFT_LEFT, made, (1,)))
+
+    def less(self, left: int, right: int) -> int:
+        """1 exactly where left is below right."""
+        size = self.sizes[left]
+        words = self.bits(self.cat(left, right))
+        first, second = self.part(words, 0, size), self.part(words, size, size)
+        below = self.conjunction(second, self.one(Kind.NOT, first))
+        same = self.one(Kind.NOT, self.two(Kind.XOR, first, second))
+        for shift in (1, 2, 4, 8, 16, 32):
+            same_shifted = self.one(Kind.SHIFT_RIGHT, same, (shift,))
+            below_shifted = self.one(Kind.SHIFT_RIGHT, below, (shift,))
+            both = self.conjunction(self.cat(same_shifted, same_shifted), self.cat(below, same))
+            below = self.two(Kind.XOR, below_shifted, self.part(both, 0, size))
+            same = self.part(both, size, size)
+        return self.one(Kind.LOW, below)
+
+
+def local_share(gate: Gate, operands: list[list[int]], miner: int) -> list[int]:
+    """What a gate that sends nothing makes of one miner's shares."""
+    kind, extra = gate.kind, gate.extra
+    first = operands[0] if operands else []
+    if kind is Kind.CONSTANT:
+        return list(extra) if miner == 1 else [0] * gate.size
+    if kind is Kind.ADD:
+        return [(u + v) & MASK for u, v in zip(first, operands[1])]
+    if kind is Kind.SUBTRACT:
+        return [(u - v) & MASK for u, v in zip(first, operands[1])]
+    if kind is Kind.MULTIPLY_PUBLIC:
+        return [gate.ring.multiply(u, v) for u, v in zip(first, extra)]
+    if kind is Kind.XOR:
+        return [u ^ v for u, v in zip(first, operands[1])]
+    if kind is Kind.NOT:
+        return [u ^ MASK for u in first] if miner == 1 else list(first)
+    if kind is Kind.SHIFT_LEFT:
+        return [(u << extra[0]) & MASK for u in first]
+    if kind is Kind.SHIFT_RIGHT:
+        return [u >> extra[0] for u in first]
+    if kind is Kind.LOW:
+        return [u & 1 for u in first]
+    if kind is Kind.CAT:
+        return first + operands[1]
+    if kind is Kind.PART:
+        return first[extra[0] : extra[0] + gate.size]
+    if kind is Kind.PUT:
+        return first[: extra[0]] + operands[1] + first[extra[0] + 1 :]
+    if kind is Kind.REPEAT:
+        return first * gate.size
+    if kind is Kind.SPREAD:
+        return [(u >> place) & 1 for u in first for place in range(64)]
+    if kind is Kind.SUM:
+        return [sum(first) & MASK]
+    raise ValueError(kind)
+
+
+def blocks_of(size: int) -> list[tuple[int, int]]:
+    """The consecutive blocks of a gate: begin and end."""
+    return [(begin, min(begin + BLOCK, size)) for begin in range(0, size, BLOCK)]
