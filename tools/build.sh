@@ -5,7 +5,7 @@
 # renamed when it is whole, so nobody ever meets half of one; a lock lets one build at a time work in a checkout.
 
 # What a build from nothing took on the fastest machine that was met: processor minutes in all, and minutes on four processors, which its longest chain of
-# crates sets (docs/performance.md). The slowest took two and a half times as long.
+# crates sets (docs/performance.md). On the slowest the proofs took two and a half times as long; a build by itself was not measured there.
 build_work=73
 build_chain=22
 
