@@ -45,6 +45,8 @@ files_of_program() {
 
 # One checksum of all that the program is made of.
 sum_of_program() {
+  local crates
+  crates=$(crates_of_program)
   (cd "$top" || exit 1
     { cat HANDLES
       lines_of_program
@@ -67,6 +69,25 @@ tell_progress() {
     done < <(sed -nE 's/^rt: ([a-z0-9_]+) (proved$|is kept: .*)/\1/p' "$log")
     echo "secrec: $((100 * done_ / all)) % proved, $(((SECONDS - started) / 60)) min so far" >&2
   done
+}
+
+# place_build FILE SUM: this program becomes the build of the sources of this sum, and those of other sources are let go. The lock is held.
+place_build() {
+  local new=$build/new.$$ old=$build/old.$$
+  rm -rf "$new" "$old"
+  mkdir "$new" && cp "$1" "$new/secrec" && rt version >"$new/kit" && { [ ! -d "$build/$2" ] || mv "$build/$2" "$old"; } && mv "$new" "$build/$2" ||
+    give_up "the program could not be written to $build"
+  find "$build" -mindepth 1 -maxdepth 1 -type d ! -name "$2" -exec rm -rf {} +
+}
+
+# keep_proved SUM: the program that `rt ci` has just proved and built in this checkout becomes its build, as a first use would have made it, where the
+# sources are those of this sum still. So the gate proves nothing twice.
+keep_proved() {
+  build=$top/.build
+  [ "$(sum_of_program)" = "$1" ] || give_up "a source has changed since the proof began"
+  mkdir -p "$build" && exec 9>>"$build/lock" && flock 9 || give_up "$build cannot be written"
+  place_build "$top/crates/secrec_cli/out/secrec_cli" "$1"
+  exec 9>&-
 }
 
 # Proves and builds in a copy that has the program's crates alone, and moves what came out to .build/SUM.
@@ -95,10 +116,7 @@ make_build() {
     tail -n 20 "$build/log" >&2
     give_up "the program could not be proved and built; these are the last lines of $build/log"
   fi
-  mkdir "$build/new.$$" && cp "$scratch/crates/secrec_cli/out/secrec_cli" "$build/new.$$/secrec" && rt version >"$build/new.$$/kit" &&
-    { [ ! -d "$build/$sum" ] || mv "$build/$sum" "$scratch/old"; } && mv "$build/new.$$" "$build/$sum" || give_up "the program could not be written to $build"
-  # (builds of other sources are let go)
-  find "$build" -mindepth 1 -maxdepth 1 -type d ! -name "$sum" -exec rm -rf {} +
+  place_build "$scratch/crates/secrec_cli/out/secrec_cli" "$sum"
   rm -rf "$scratch"
   trap - EXIT INT TERM HUP
   echo "secrec: proved and built" >&2
