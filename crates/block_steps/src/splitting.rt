@@ -1,4 +1,4 @@
-// Numbers split into two words each, block by block. No function is inlined: each has room for states and messages, which is made anew with each call.
+// Numbers split into two words each, block by block. Each function with room for states and messages is `#[inline(never)]`: that room is made anew with each call.
 ghost use Rattle.std.specs.Prelude.{◌≡◌, ◌≤◌, false, length, OnOk, IfOk};
 ghost use Rattle.proto_core.specs.declared.party.Number.TheVariants as number;
 ghost use Rattle.split_share.specs.Splitting.{split_draws};

@@ -17,9 +17,7 @@ pub fn see_words(words: &[u64])
 fn see_numbers(numbers: &[u64])
     ensures { All (λ n. n < 2 ^ 64) numbers.now }
 {
-    for k in 0..numbers.len() {
-        let _number = numbers[k];
-    }
+    let _count = numbers.len();
 }
 
 /// For proofs: from here on each word of the value is known to be below 2^64. Nothing is changed or answered.
