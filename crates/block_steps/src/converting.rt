@@ -1,4 +1,4 @@
-// Truth values turned into numbers, block by block. Each function with room for states and messages is `#[inline(never)]`: that room is made anew with each call.
+// Truth values turned into numbers, block by block. What has room for states and messages is `#[inline(never)]`: it is made anew each time.
 ghost use Rattle.std.specs.Prelude.{◌≡◌, ◌≤◌, ◌*◌, length, OnOk, IfOk};
 ghost use Rattle.proto_core.specs.declared.party.Number.TheVariants as number;
 ghost use Rattle.share_convert.specs.Converting.{conv_draws};

@@ -1,4 +1,4 @@
-// A product, block by block. Each function with room for states and messages is `#[inline(never)]`: that room is made anew with each call.
+// A product, block by block. What has room for states and messages is `#[inline(never)]`: it is made anew each time.
 ghost use Rattle.std.specs.Prelude.{◌≡◌, ◌≤◌, ◌*◌, length, OnOk, IfOk};
 ghost use Rattle.multiply.specs.MulStrand.{mul_strand, mul_masked, mul_crossed};
 ghost use Rattle.block_steps.specs.Outcomes.{outcome_of, Holds, IsBeside};

@@ -1,4 +1,4 @@
-// A value that is opened, block by block. Each function with room for states and messages is `#[inline(never)]`: that room is made anew with each call.
+// A value that is opened, block by block. What has room for states and messages is `#[inline(never)]`: it is made anew each time.
 ghost use Rattle.std.specs.Prelude.{◌≡◌, ◌≤◌, length, OnOk, IfOk};
 ghost use Rattle.open_result.specs.Opening.{open_strand};
 ghost use Rattle.open_result.specs.Steps.{left_masked, left_from_previous, left_from_next};

@@ -1,4 +1,4 @@
-// A value that is shared anew, block by block. Each function with room for states and messages is `#[inline(never)]`: that room is made anew with each call.
+// A value that is shared anew, block by block. What has room for states and messages is `#[inline(never)]`: it is made anew each time.
 ghost use Rattle.std.specs.Prelude.{◌≡◌, ◌≤◌, length, OnOk, IfOk};
 ghost use Rattle.reshare.specs.Resharing.{reshare_strand};
 ghost use Rattle.reshare.specs.Steps.{left_sent};

@@ -1,4 +1,4 @@
-// Numbers split into two words each, block by block. Each function with room for states and messages is `#[inline(never)]`: that room is made anew with each call.
+// Numbers split into two words each, block by block. What has room for states and messages is `#[inline(never)]`: it is made anew each time.
 ghost use Rattle.std.specs.Prelude.{◌≡◌, ◌≤◌, false, length, OnOk, IfOk};
 ghost use Rattle.proto_core.specs.declared.party.Number.TheVariants as number;
 ghost use Rattle.split_share.specs.Splitting.{split_draws};
