@@ -1,5 +1,5 @@
 /// Why no tree begins with the tokens up to one.
-#[derive(Clone, Copy, PartialEq, Eq)]
+#[derive(Clone, Copy)]
 pub enum ParseProblem {
     /// No tree of any height begins so.
     Unexpected,

@@ -8,7 +8,7 @@ use secrec_lexer::LexErr;
 use secrec_parser::ParseErr;
 
 /// Why there is no program.
-#[derive(Clone, Copy, PartialEq, Eq)]
+#[derive(Clone, Copy)]
 pub enum ProgramErr {
     /// The text is refused for its first fault.
     Refused(ProgramFault),

@@ -7,7 +7,7 @@ use expression_parser::ParseProblem;
 use sc_text::{PlacedFault, Span};
 
 /// What is wrong with a program, and where.
-#[derive(Clone, Copy, PartialEq, Eq)]
+#[derive(Clone, Copy)]
 pub struct ProgramFault {
     pub fault: PlacedFault,
     pub place: Span,

@@ -1,5 +1,5 @@
 /// The ring in which a value is shared.
-#[derive(Clone, Copy, PartialEq, Eq, Debug)]
+#[derive(Clone, Copy, Debug)]
 pub enum RingKind {
     /// The integers modulo 2^64, for numbers.
     Arithmetic,

@@ -7,11 +7,11 @@ use std::error::Error;
 use std::fmt::{self, Display, Formatter, Write};
 
 /// The call failed, and its object counted a fault.
-#[derive(Clone, Copy, Debug, PartialEq, Eq)]
+#[derive(Clone, Copy, Debug)]
 pub struct Failed;
 
 /// Why a call of a store of files, a sink or a link gave nothing.
-#[derive(Clone, Copy, Debug, PartialEq, Eq)]
+#[derive(Clone, Copy, Debug)]
 pub enum FileErr {
     /// There was no memory for it.
     Memory,
@@ -20,7 +20,7 @@ pub enum FileErr {
 }
 
 /// Why a call of a spawner gave nothing.
-#[derive(Clone, Copy, Debug, PartialEq, Eq)]
+#[derive(Clone, Copy, Debug)]
 pub enum SpawnErr {
     /// There was no memory for it.
     Memory,

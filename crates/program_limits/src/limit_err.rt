@@ -6,7 +6,7 @@ use sc_text::{CountedFault, Fault};
 use std::alloc::AllocError;
 
 /// Why a program can't be run: what it has too much of, and how much.
-#[derive(Clone, Copy, PartialEq, Eq)]
+#[derive(Clone, Copy)]
 pub enum LimitErr {
     /// It reaches more than 1,024 instances of templates.
     TooManyInstances { count: u64 },

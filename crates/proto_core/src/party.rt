@@ -7,7 +7,7 @@ use crate::link::Link;
 use std::fmt;
 
 /// A miner's number. Each miner has a next one and a previous one, in a ring of three.
-#[derive(Clone, Copy, Debug, PartialEq, Eq)]
+#[derive(Clone, Copy, Debug)]
 pub enum Number {
     One,
     Two,

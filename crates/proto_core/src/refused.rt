@@ -2,7 +2,7 @@ ghost use Rattle.std.specs.Prelude.{◌≡◌, ◌≢◌};
 ghost use Rattle.proto_core.specs.Refusals.{WrongLength};
 
 /// Why a protocol refuses a message.
-#[derive(Clone, Copy, Debug, PartialEq, Eq)]
+#[derive(Clone, Copy, Debug)]
 pub enum BadMessage {
     /// The message has `have` words where `want` are awaited.
     BadLength { want: u64, have: u64 },

@@ -4,7 +4,7 @@ ghost use Rattle.sc_text.specs.Fault.{placed_code, counted_code};
 use std::fmt;
 
 /// What is wrong at a place of a program.
-#[derive(Clone, Copy, PartialEq, Eq)]
+#[derive(Clone, Copy)]
 pub enum PlacedFault {
     /// L1: a byte that no token has.
     BadByte,
@@ -98,7 +98,7 @@ impl fmt::Display for PlacedFault {
 }
 
 /// What a program has too many of.
-#[derive(Clone, Copy, PartialEq, Eq)]
+#[derive(Clone, Copy)]
 pub enum CountedFault {
     /// X1: instances of templates.
     TooManyInstances,

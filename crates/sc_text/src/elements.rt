@@ -7,7 +7,7 @@ use std::fmt;
 use std::marker::Model;
 
 /// An element of a printed value.
-#[derive(Clone, Copy, PartialEq, Eq)]
+#[derive(Clone, Copy)]
 pub enum Element {
     Word(u64),
     Truth(bool),

@@ -4,7 +4,7 @@ ghost use Rattle.sc_text.specs.End.{trap_word, owner_digit, ending_text, end_lin
 use std::fmt;
 
 /// What a run trapped on.
-#[derive(Clone, Copy, PartialEq, Eq)]
+#[derive(Clone, Copy)]
 pub enum TrapKind {
     /// Two arrays of different sizes.
     Length,
@@ -50,7 +50,7 @@ impl fmt::Display for TrapKind {
 }
 
 /// Whose tape of random words it is.
-#[derive(Clone, Copy, PartialEq, Eq)]
+#[derive(Clone, Copy)]
 pub enum TapeOwner {
     Dealer,
     Miner1,
@@ -83,7 +83,7 @@ impl fmt::Display for TapeOwner {
 }
 
 /// How a run ended, without its cost.
-#[derive(Clone, Copy, PartialEq, Eq)]
+#[derive(Clone, Copy)]
 pub enum Ending {
     Done,
     /// A trap, and the line where its construct begins, from 1.
@@ -119,7 +119,7 @@ impl fmt::Display for Ending {
 }
 
 /// How a run ended, and what it cost until then.
-#[derive(Clone, Copy, PartialEq, Eq)]
+#[derive(Clone, Copy)]
 pub struct End {
     pub how: Ending,
     pub cost: u64,

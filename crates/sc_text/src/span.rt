@@ -4,7 +4,7 @@ ghost use Rattle.sc_text.specs.Fault.{span_text};
 use std::fmt;
 
 /// A place in a program's text: the line and the byte in it, both counted from 1.
-#[derive(Clone, Copy, PartialEq, Eq)]
+#[derive(Clone, Copy)]
 pub struct Span {
     pub line: u32,
     pub column: u32,

@@ -15,7 +15,7 @@ pub enum DataType {
 }
 
 /// An operator between two operands.
-#[derive(Clone, Copy, PartialEq, Eq)]
+#[derive(Clone, Copy)]
 pub enum Operator {
     Add,
     Subtract,

@@ -6,7 +6,7 @@ use sc_text::{PlacedFault, Span};
 use std::alloc::{AllocError, AllocFailed};
 
 /// What is wrong with a text.
-#[derive(Clone, Copy, PartialEq, Eq)]
+#[derive(Clone, Copy)]
 pub enum LexFault {
     /// L1: a byte that no token has.
     BadByte,
@@ -23,7 +23,7 @@ pub enum LexFault {
 }
 
 /// Why there are no tokens.
-#[derive(Clone, Copy, PartialEq, Eq)]
+#[derive(Clone, Copy)]
 pub enum LexErr {
     /// Memory ran short.
     Memory,

@@ -1,5 +1,5 @@
 /// A sign or a keyword.
-#[derive(Clone, Copy, PartialEq, Eq)]
+#[derive(Clone, Copy)]
 pub enum Sign {
     /// `(`
     LeftParenthesis,

@@ -3,7 +3,7 @@ use crate::statement::TypedStatement;
 use sc_text::Name;
 
 /// What a function gives back.
-#[derive(Clone, Copy, PartialEq, Eq)]
+#[derive(Clone, Copy)]
 pub enum Returned {
     Nothing,
     Value(Slot),

@@ -23,7 +23,7 @@ impl Shape {
 }
 
 /// Who may see what stands in a slot.
-#[derive(Clone, Copy, PartialEq, Eq)]
+#[derive(Clone, Copy)]
 pub enum SlotDomain {
     /// Everybody.
     Public,
@@ -34,7 +34,7 @@ pub enum SlotDomain {
 }
 
 /// A variable or a parameter of a function, or what it gives back.
-#[derive(Clone, Copy, PartialEq, Eq)]
+#[derive(Clone, Copy)]
 pub struct Slot {
     pub domain: SlotDomain,
     pub shape: Shape,

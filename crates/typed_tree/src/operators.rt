@@ -6,7 +6,7 @@ use crate::kinds::Shape;
 use secrec_ast::DataType;
 
 /// An operator on uint64 words.
-#[derive(Clone, Copy, PartialEq, Eq)]
+#[derive(Clone, Copy)]
 pub enum WordOperator {
     Add,
     Subtract,
@@ -25,7 +25,7 @@ pub enum WordOperator {
 }
 
 /// An operator on truth values. It evaluates both operands.
-#[derive(Clone, Copy, PartialEq, Eq)]
+#[derive(Clone, Copy)]
 pub enum BoolOperator {
     Equal,
     NotEqual,
