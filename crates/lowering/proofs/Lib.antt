@@ -9,4 +9,5 @@ pub mod Noting
 pub mod Short
 pub mod Bodies
 pub mod Ends
+mod Pushed
 pub use Rattle.code_model.proofs.Settled
