@@ -285,12 +285,13 @@ fn read_simulate(alloc: Global, matches: &ArgMatches) -> Result<Command, WordsEr
     let (Some(miner), Some(budget)) = (miner_in(matches), budget_in(matches)) else {
         return Err(WordsErr::Usage);
     };
+    let order = order(alloc, value(matches, "schedule"), value(matches, "shuffle"))?;
     let program = required(alloc, matches, "program")?;
     let view = required(alloc, matches, "view")?;
     let read = simulator_paths_of(alloc, matches)?;
     Ok(Command::Simulate(SimulateWords {
         miner,
-        order: order(alloc, value(matches, "schedule"), value(matches, "shuffle"))?,
+        order,
         program,
         public: read.public,
         opened: read.opened,
