@@ -85,7 +85,6 @@ fn run_options() -> &'static [&'static str]
     RUN_OPTIONS.as_slice()
 }
 
-#[tactic(auto, unfolding(crate::specs::Shapes::run_app, crate::specs::Shapes::command_app))]
 fn run_command<'a>(alloc: Global) -> Result<Command<'a>, AllocError>
     ensures { IfOk result (λ c. Builds run_app c) }
 {
@@ -94,7 +93,6 @@ fn run_command<'a>(alloc: Global) -> Result<Command<'a>, AllocError>
     with_options(alloc, command, false, run_options())
 }
 
-#[tactic(auto, unfolding(crate::specs::Shapes::deal_app, crate::specs::Shapes::command_app, crate::specs::Shapes::with_options))]
 fn deal_command<'a>(alloc: Global) -> Result<Command<'a>, AllocError>
     ensures { IfOk result (λ c. Builds deal_app c) }
 {
@@ -106,14 +104,12 @@ fn deal_command<'a>(alloc: Global) -> Result<Command<'a>, AllocError>
     )
 }
 
-#[tactic(auto, unfolding(crate::specs::Shapes::check_app, crate::specs::Shapes::command_app, crate::specs::Shapes::with_options))]
 fn check_command<'a>(alloc: Global) -> Result<Command<'a>, AllocError>
     ensures { IfOk result (λ c. Builds check_app c) }
 {
     with_word(alloc, Ok(Command::new(alloc, "check")), "program")
 }
 
-#[tactic(auto, unfolding(crate::specs::Shapes::compile_app, crate::specs::Shapes::command_app, crate::specs::Shapes::with_options))]
 fn compile_command<'a>(alloc: Global) -> Result<Command<'a>, AllocError>
     ensures { IfOk result (λ c. Builds compile_app c) }
 {
@@ -130,7 +126,6 @@ fn eval_options() -> &'static [&'static str]
 }
 
 // The command of this name that evaluates a program.
-#[tactic(auto, unfolding(crate::specs::Shapes::evaluation_app, crate::specs::Shapes::command_app))]
 fn evaluation_command<'a>(alloc: Global, name: &'a str) -> Result<Command<'a>, AllocError>
     ensures { IfOk result (λ c. Builds (evaluation_app name.entry.now) c) }
 {
@@ -140,7 +135,6 @@ fn evaluation_command<'a>(alloc: Global, name: &'a str) -> Result<Command<'a>, A
 }
 
 // The command of this name about a miner's view of a program, with these options.
-#[tactic(auto, unfolding(crate::specs::Shapes::view_app, crate::specs::Shapes::command_app))]
 fn view_command<'a>(
     alloc: Global,
     name: &'a str,
@@ -197,7 +191,6 @@ fn twin_command<'a>(alloc: Global) -> Result<Command<'a>, AllocError>
     view_command(alloc, "twin", TWIN_REQUIRED.as_slice(), eval_options())
 }
 
-#[tactic(auto, unfolding(crate::specs::Shapes::load_app, crate::specs::Shapes::command_app, crate::specs::Shapes::with_options))]
 fn load_command<'a>(alloc: Global) -> Result<Command<'a>, AllocError>
     ensures { IfOk result (λ c. Builds load_app c) }
 {
