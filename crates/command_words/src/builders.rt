@@ -2,9 +2,9 @@
 ghost use Rattle.std.specs.Prelude.{◌≡◌, IfOk, map};
 ghost use Rattle.command_words.specs.Shapes.{word_rule, option_rule, run_options, run_app, deal_app, check_app, compile_app, eval_options};
 ghost use Rattle.command_words.specs.Shapes.{evaluation_app, view_app, map_required, map_app, simulate_options, simulate_app, twin_app, load_app};
-ghost use Rattle.command_words.specs.Shapes.{bare_app, input_app, clear_app, checking_app, program_app, viewing_app, secrec_app};
-ghost use Rattle.clap.specs.Words.{App, with_subcommand};
-ghost use Rattle.command_words.specs.Builds.{Builds, GetsOptions, IsLocal};
+ghost use Rattle.command_words.specs.Shapes.{with_options, bare_app, input_app, clear_app, checking_app, program_app, viewing_app, secrec_app};
+ghost use Rattle.clap.specs.Words.{App, with_rule, with_subcommand};
+ghost use Rattle.command_words.specs.Builds.{Builds, IsLocal};
 
 use clap::{Arg, Command};
 use std::alloc::{AllocError, Global};
@@ -17,6 +17,17 @@ fn word<'a>(alloc: Global, id: &'a str) -> Arg<'a>
     Arg::new(alloc, id).required(true)
 }
 
+// The command with a word more.
+fn with_word<'a>(
+    alloc: Global,
+    command: Result<Command<'a>, AllocError>,
+    id: &'a str,
+) -> Result<Command<'a>, AllocError>
+    ensures { (a : App) → IfOk command.entry (Builds a) → IfOk result (Builds (with_rule a (word_rule id.entry.now))) }
+{
+    command?.arg(word(alloc, id))
+}
+
 // `--id VALUE`.
 #[tactic(auto, unfolding(crate::specs::Shapes::option_rule))]
 fn option<'a>(alloc: Global, required: bool, id: &'a str) -> Arg<'a>
@@ -25,21 +36,21 @@ fn option<'a>(alloc: Global, required: bool, id: &'a str) -> Arg<'a>
     Arg::new(alloc, id).long(id).required(required)
 }
 
-// The command with these options.
+// The command with these options more.
 #[tactic(auto, unfolding(crate::specs::Shapes::with_options))]
 fn with_options<'a>(
     alloc: Global,
-    command: Command<'a>,
+    command: Result<Command<'a>, AllocError>,
     required: bool,
     ids: &'static [&'static str],
 ) -> Result<Command<'a>, AllocError>
-    ensures { IfOk result (λ c. GetsOptions command.entry required (map (λ s. s.now) ids.now) c) }
+    ensures { (a : App) → IfOk command.entry (Builds a) → IfOk result (Builds (with_options required a (map (λ s. s.now) ids.now))) }
 {
-    let mut command = command;
+    let mut built = command?;
     for id in ids {
-        command = command.arg(option(alloc, required, id))?;
+        built = built.arg(option(alloc, required, id))?;
     }
-    Ok(command)
+    Ok(built)
 }
 
 static RUN_REQUIRED: [&str; 1] = ["input"];
@@ -74,39 +85,35 @@ fn run_options() -> &'static [&'static str]
     RUN_OPTIONS.as_slice()
 }
 
-#[tactic(auto, unfolding(crate::specs::Shapes::run_app, crate::specs::Shapes::command_app))]
 fn run_command<'a>(alloc: Global) -> Result<Command<'a>, AllocError>
     ensures { IfOk result (λ c. Builds run_app c) }
 {
-    let command = Command::new(alloc, "run").arg(word(alloc, "program"))?;
-    let command = with_options(alloc, command, true, RUN_REQUIRED.as_slice())?;
+    let command = with_word(alloc, Ok(Command::new(alloc, "run")), "program");
+    let command = with_options(alloc, command, true, RUN_REQUIRED.as_slice());
     with_options(alloc, command, false, run_options())
 }
 
-#[tactic(auto, unfolding(crate::specs::Shapes::deal_app, crate::specs::Shapes::command_app, crate::specs::Shapes::with_options))]
 fn deal_command<'a>(alloc: Global) -> Result<Command<'a>, AllocError>
     ensures { IfOk result (λ c. Builds deal_app c) }
 {
     with_options(
         alloc,
-        Command::new(alloc, "deal"),
+        Ok(Command::new(alloc, "deal")),
         true,
         DEAL_REQUIRED.as_slice(),
     )
 }
 
-#[tactic(auto, unfolding(crate::specs::Shapes::check_app, crate::specs::Shapes::command_app, crate::specs::Shapes::with_options))]
 fn check_command<'a>(alloc: Global) -> Result<Command<'a>, AllocError>
     ensures { IfOk result (λ c. Builds check_app c) }
 {
-    Command::new(alloc, "check").arg(word(alloc, "program"))
+    with_word(alloc, Ok(Command::new(alloc, "check")), "program")
 }
 
-#[tactic(auto, unfolding(crate::specs::Shapes::compile_app, crate::specs::Shapes::command_app, crate::specs::Shapes::with_options))]
 fn compile_command<'a>(alloc: Global) -> Result<Command<'a>, AllocError>
     ensures { IfOk result (λ c. Builds compile_app c) }
 {
-    let command = Command::new(alloc, "compile").arg(word(alloc, "program"))?;
+    let command = with_word(alloc, Ok(Command::new(alloc, "compile")), "program");
     with_options(alloc, command, true, COMPILE_REQUIRED.as_slice())
 }
 
@@ -119,17 +126,15 @@ fn eval_options() -> &'static [&'static str]
 }
 
 // The command of this name that evaluates a program.
-#[tactic(auto, unfolding(crate::specs::Shapes::evaluation_app, crate::specs::Shapes::command_app))]
 fn evaluation_command<'a>(alloc: Global, name: &'a str) -> Result<Command<'a>, AllocError>
     ensures { IfOk result (λ c. Builds (evaluation_app name.entry.now) c) }
 {
-    let command = Command::new(alloc, name).arg(word(alloc, "program"))?;
-    let command = with_options(alloc, command, true, EVAL_REQUIRED.as_slice())?;
+    let command = with_word(alloc, Ok(Command::new(alloc, name)), "program");
+    let command = with_options(alloc, command, true, EVAL_REQUIRED.as_slice());
     with_options(alloc, command, false, eval_options())
 }
 
 // The command of this name about a miner's view of a program, with these options.
-#[tactic(auto, unfolding(crate::specs::Shapes::view_app, crate::specs::Shapes::command_app))]
 fn view_command<'a>(
     alloc: Global,
     name: &'a str,
@@ -138,9 +143,9 @@ fn view_command<'a>(
 ) -> Result<Command<'a>, AllocError>
     ensures { IfOk result (λ c. Builds (view_app name.entry.now (map (λ s. s.now) required.now) (map (λ s. s.now) optional.now)) c) }
 {
-    let command = Command::new(alloc, name).arg(word(alloc, "miner"))?;
-    let command = command.arg(word(alloc, "program"))?;
-    let command = with_options(alloc, command, true, required)?;
+    let command = with_word(alloc, Ok(Command::new(alloc, name)), "miner");
+    let command = with_word(alloc, command, "program");
+    let command = with_options(alloc, command, true, required);
     with_options(alloc, command, false, optional)
 }
 
@@ -186,13 +191,12 @@ fn twin_command<'a>(alloc: Global) -> Result<Command<'a>, AllocError>
     view_command(alloc, "twin", TWIN_REQUIRED.as_slice(), eval_options())
 }
 
-#[tactic(auto, unfolding(crate::specs::Shapes::load_app, crate::specs::Shapes::command_app, crate::specs::Shapes::with_options))]
 fn load_command<'a>(alloc: Global) -> Result<Command<'a>, AllocError>
     ensures { IfOk result (λ c. Builds load_app c) }
 {
     with_options(
         alloc,
-        Command::new(alloc, "load"),
+        Ok(Command::new(alloc, "load")),
         true,
         LOAD_REQUIRED.as_slice(),
     )

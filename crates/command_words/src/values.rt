@@ -3,9 +3,9 @@ ghost use Rattle.std.specs.Prelude.{◌≡◌, option_map, IfOk, string_bytes, c
 ghost use Rattle.clap.specs.Words.{found_of, first_of, rows_of};
 ghost use Rattle.command_words.specs.Ask.{required_of, default_budget, number_or, seeded_source, source_of, order_of, run_of, deal_of, check_of};
 ghost use Rattle.command_words.specs.Ask.{compile_of, eval_of, map_of, simulate_of, twin_of, load_of, named};
+ghost use Rattle.command_words.specs.Ask.{run, deal, check, compile, eval, need, map_tape, simulate, twin, load};
 ghost use Rattle.command_words.specs.Numbers.{miner_of};
-ghost use Rattle.command_words.specs.Views.{Reads, text_in, source_ask, order_ask, run_ask, deal_ask, check_ask, compile_ask, eval_ask, map_ask};
-ghost use Rattle.command_words.specs.Views.{simulate_ask, twin_ask, load_ask, ask_of};
+ghost use Rattle.command_words.specs.Views.{Reads, text_in, source_ask, order_ask, eval_ask, ask_of};
 
 use crate::command::{
     CheckWords, Command, CompileWords, DealWords, DeliveryOrder, EvalWords, LoadWords, MapWords,
@@ -142,10 +142,10 @@ fn paths_of(alloc: Global, matches: &ArgMatches) -> Result<Paths, AllocError>
     })
 }
 
-// The words of `run`.
+// `run`, with its words.
 #[tactic(auto, unfolding(crate::specs::Ask::run_of))]
-fn run_words(alloc: Global, matches: &ArgMatches) -> Result<RunWords, WordsErr>
-    ensures { Reads run_ask (run_of (rows_of (found_of matches.now))) result }
+fn read_run(alloc: Global, matches: &ArgMatches) -> Result<Command, WordsErr>
+    ensures { Reads ask_of (option_map run (run_of (rows_of (found_of matches.now)))) result }
 {
     let Some(budget) = budget_in(matches) else {
         return Err(WordsErr::Usage);
@@ -160,7 +160,7 @@ fn run_words(alloc: Global, matches: &ArgMatches) -> Result<RunWords, WordsErr>
     let recorded = own_text(alloc, value(matches, "record"))?;
     let views = own_text(alloc, value(matches, "views"))?;
     let paths = paths_of(alloc, matches)?;
-    Ok(RunWords {
+    Ok(Command::Run(RunWords {
         program: paths.program,
         input: paths.input,
         source,
@@ -168,40 +168,40 @@ fn run_words(alloc: Global, matches: &ArgMatches) -> Result<RunWords, WordsErr>
         order,
         recorded,
         views,
-    })
+    }))
 }
 
-// The words of `deal`.
+// `deal`, with its words.
 #[tactic(auto, unfolding(crate::specs::Ask::deal_of))]
-fn deal_words(alloc: Global, matches: &ArgMatches) -> Result<DealWords, WordsErr>
-    ensures { Reads deal_ask (deal_of (rows_of (found_of matches.now))) result }
+fn read_deal(alloc: Global, matches: &ArgMatches) -> Result<Command, WordsErr>
+    ensures { Reads ask_of (option_map deal (deal_of (rows_of (found_of matches.now)))) result }
 {
-    Ok(DealWords {
+    Ok(Command::Deal(DealWords {
         input: required(alloc, matches, "input")?,
         tape: required(alloc, matches, "tape")?,
         to: required(alloc, matches, "to")?,
-    })
+    }))
 }
 
-// The words of `check`.
+// `check`, with its word.
 #[tactic(auto, unfolding(crate::specs::Ask::check_of))]
-fn check_words(alloc: Global, matches: &ArgMatches) -> Result<CheckWords, WordsErr>
-    ensures { Reads check_ask (check_of (rows_of (found_of matches.now))) result }
+fn read_check(alloc: Global, matches: &ArgMatches) -> Result<Command, WordsErr>
+    ensures { Reads ask_of (option_map check (check_of (rows_of (found_of matches.now)))) result }
 {
-    Ok(CheckWords {
+    Ok(Command::Check(CheckWords {
         program: required(alloc, matches, "program")?,
-    })
+    }))
 }
 
-// The words of `compile`.
+// `compile`, with its words.
 #[tactic(auto, unfolding(crate::specs::Ask::compile_of))]
-fn compile_words(alloc: Global, matches: &ArgMatches) -> Result<CompileWords, WordsErr>
-    ensures { Reads compile_ask (compile_of (rows_of (found_of matches.now))) result }
+fn read_compile(alloc: Global, matches: &ArgMatches) -> Result<Command, WordsErr>
+    ensures { Reads ask_of (option_map compile (compile_of (rows_of (found_of matches.now)))) result }
 {
-    Ok(CompileWords {
+    Ok(Command::Compile(CompileWords {
         program: required(alloc, matches, "program")?,
         code: required(alloc, matches, "code")?,
-    })
+    }))
 }
 
 // The words of `eval` and of `need`.
@@ -218,6 +218,20 @@ fn eval_words(alloc: Global, matches: &ArgMatches) -> Result<EvalWords, WordsErr
         input: paths.input,
         budget,
     })
+}
+
+// `eval`, with its words.
+fn read_eval(alloc: Global, matches: &ArgMatches) -> Result<Command, WordsErr>
+    ensures { Reads ask_of (option_map eval (eval_of (rows_of (found_of matches.now)))) result }
+{
+    Ok(Command::Eval(eval_words(alloc, matches)?))
+}
+
+// `need`, with its words.
+fn read_need(alloc: Global, matches: &ArgMatches) -> Result<Command, WordsErr>
+    ensures { Reads ask_of (option_map need (eval_of (rows_of (found_of matches.now)))) result }
+{
+    Ok(Command::Need(eval_words(alloc, matches)?))
 }
 
 // The paths of what a simulator reads, which `map` writes.
@@ -240,10 +254,10 @@ fn simulator_paths_of(alloc: Global, matches: &ArgMatches) -> Result<SimulatorPa
     })
 }
 
-// The words of `map`.
+// `map`, with its words.
 #[tactic(auto, unfolding(crate::specs::Ask::map_of))]
-fn map_words(alloc: Global, matches: &ArgMatches) -> Result<MapWords, WordsErr>
-    ensures { Reads map_ask (map_of (rows_of (found_of matches.now))) result }
+fn read_map(alloc: Global, matches: &ArgMatches) -> Result<Command, WordsErr>
+    ensures { Reads ask_of (option_map map_tape (map_of (rows_of (found_of matches.now)))) result }
 {
     let (Some(miner), Some(budget)) = (miner_in(matches), budget_in(matches)) else {
         return Err(WordsErr::Usage);
@@ -251,7 +265,7 @@ fn map_words(alloc: Global, matches: &ArgMatches) -> Result<MapWords, WordsErr>
     let tape = required(alloc, matches, "tape")?;
     let paths = paths_of(alloc, matches)?;
     let written = simulator_paths_of(alloc, matches)?;
-    Ok(MapWords {
+    Ok(Command::Map(MapWords {
         miner,
         program: paths.program,
         input: paths.input,
@@ -260,36 +274,37 @@ fn map_words(alloc: Global, matches: &ArgMatches) -> Result<MapWords, WordsErr>
         public: written.public,
         opened: written.opened,
         budget,
-    })
+    }))
 }
 
-// The words of `simulate`.
+// `simulate`, with its words.
 #[tactic(auto, unfolding(crate::specs::Ask::simulate_of))]
-fn simulate_words(alloc: Global, matches: &ArgMatches) -> Result<SimulateWords, WordsErr>
-    ensures { Reads simulate_ask (simulate_of (rows_of (found_of matches.now))) result }
+fn read_simulate(alloc: Global, matches: &ArgMatches) -> Result<Command, WordsErr>
+    ensures { Reads ask_of (option_map simulate (simulate_of (rows_of (found_of matches.now)))) result }
 {
     let (Some(miner), Some(budget)) = (miner_in(matches), budget_in(matches)) else {
         return Err(WordsErr::Usage);
     };
+    let order = order(alloc, value(matches, "schedule"), value(matches, "shuffle"))?;
     let program = required(alloc, matches, "program")?;
     let view = required(alloc, matches, "view")?;
     let read = simulator_paths_of(alloc, matches)?;
-    Ok(SimulateWords {
+    Ok(Command::Simulate(SimulateWords {
         miner,
-        order: order(alloc, value(matches, "schedule"), value(matches, "shuffle"))?,
+        order,
         program,
         public: read.public,
         opened: read.opened,
         sim: read.sim,
         view,
         budget,
-    })
+    }))
 }
 
-// The words of `twin`.
+// `twin`, with its words.
 #[tactic(auto, unfolding(crate::specs::Ask::twin_of))]
-fn twin_words(alloc: Global, matches: &ArgMatches) -> Result<TwinWords, WordsErr>
-    ensures { Reads twin_ask (twin_of (rows_of (found_of matches.now))) result }
+fn read_twin(alloc: Global, matches: &ArgMatches) -> Result<Command, WordsErr>
+    ensures { Reads ask_of (option_map twin (twin_of (rows_of (found_of matches.now)))) result }
 {
     let (Some(miner), Some(budget)) = (miner_in(matches), budget_in(matches)) else {
         return Err(WordsErr::Usage);
@@ -298,7 +313,7 @@ fn twin_words(alloc: Global, matches: &ArgMatches) -> Result<TwinWords, WordsErr
     let tape = required(alloc, matches, "tape")?;
     let to = required(alloc, matches, "to")?;
     let paths = paths_of(alloc, matches)?;
-    Ok(TwinWords {
+    Ok(Command::Twin(TwinWords {
         miner,
         program: paths.program,
         input: paths.input,
@@ -306,16 +321,16 @@ fn twin_words(alloc: Global, matches: &ArgMatches) -> Result<TwinWords, WordsErr
         tape,
         to,
         budget,
-    })
+    }))
 }
 
-// The word of `load`.
+// `load`, with its word.
 #[tactic(auto, unfolding(crate::specs::Ask::load_of, crate::specs::Ask::required_of))]
-fn load_words(matches: &ArgMatches) -> Result<LoadWords, WordsErr>
-    ensures { Reads load_ask (load_of (rows_of (found_of matches.now))) result }
+fn read_load(matches: &ArgMatches) -> Result<Command, WordsErr>
+    ensures { Reads ask_of (option_map load (load_of (rows_of (found_of matches.now)))) result }
 {
     match number(value(matches, "number").unwrap_or("")) {
-        Some(number) => Ok(LoadWords { number }),
+        Some(number) => Ok(Command::Load(LoadWords { number })),
         None => Err(WordsErr::Usage),
     }
 }
@@ -326,34 +341,34 @@ pub(crate) fn named(alloc: Global, name: &str, matches: &ArgMatches) -> Result<C
     ensures { Reads ask_of (named name.now (rows_of (found_of matches.now))) result }
 {
     if name == "run" {
-        return Ok(Command::Run(run_words(alloc, matches)?));
+        return read_run(alloc, matches);
     }
     if name == "deal" {
-        return Ok(Command::Deal(deal_words(alloc, matches)?));
+        return read_deal(alloc, matches);
     }
     if name == "check" {
-        return Ok(Command::Check(check_words(alloc, matches)?));
+        return read_check(alloc, matches);
     }
     if name == "compile" {
-        return Ok(Command::Compile(compile_words(alloc, matches)?));
+        return read_compile(alloc, matches);
     }
     if name == "eval" {
-        return Ok(Command::Eval(eval_words(alloc, matches)?));
+        return read_eval(alloc, matches);
     }
     if name == "need" {
-        return Ok(Command::Need(eval_words(alloc, matches)?));
+        return read_need(alloc, matches);
     }
     if name == "map" {
-        return Ok(Command::Map(map_words(alloc, matches)?));
+        return read_map(alloc, matches);
     }
     if name == "simulate" {
-        return Ok(Command::Simulate(simulate_words(alloc, matches)?));
+        return read_simulate(alloc, matches);
     }
     if name == "twin" {
-        return Ok(Command::Twin(twin_words(alloc, matches)?));
+        return read_twin(alloc, matches);
     }
     if name == "load" {
-        return Ok(Command::Load(load_words(matches)?));
+        return read_load(matches);
     }
     Err(WordsErr::Usage)
 }

@@ -1,6 +1,8 @@
-use Rattle.std.proofs.Common.{map, take}
-use Rattle.command_words.specs.Builds.{GetsOptions}
+use Rattle.std.proofs.Common.{map, take, IfOk}
+use Rattle.clap.specs.Words.{App}
+use Rattle.command_words.specs.Builds.{Builds}
+use Rattle.command_words.specs.Shapes.{with_options}
 use Rattle.command_words.proofs.builders.with_options.Given as goal
 
 abbrev pub invariant-loop-id : goal.invariant-loop-id
-invariant-loop-id l = GetsOptions l.initial.command l.fn.required (map (λ s. s.now) (take l.id-index l.ids)) l.command
+invariant-loop-id l = (a : App) → IfOk l.fn.command (Builds a) → Builds (with_options l.fn.required a (map (λ s. s.now) (take l.id-index l.ids))) l.built
