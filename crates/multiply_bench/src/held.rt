@@ -1,5 +1,8 @@
-ghost use Rattle.std.specs.Prelude.{◌≡◌, ◌*◌, ◌<◌, ◌^◌, length, IfOk};
+ghost use Rattle.std.specs.Prelude.{◌≡◌, ◌+◌, ◌-◌, ◌*◌, ◌<◌, ◌≤◌, ◌^◌, length, IfOk};
 
+use multiply::{Masked, Mul};
+use proto_core::{Block, Msg, Party};
+use share_ring::AddRing;
 use std::alloc::{AllocError, Global};
 
 /// What one miner begins with: its shares of both factors, n words each, and a tape of 3n words.
@@ -7,7 +10,9 @@ use std::alloc::{AllocError, Global};
 pub struct Held {
     pub u: Vec<u64>,
     pub v: Vec<u64>,
-    pub tape: Vec<u64>,
+    tape: Vec<u64>,
+    pub ghost factors: { length v.items ≡ length u.items },
+    pub ghost masks: { length tape.items ≡ 3 * length u.items },
 }
 
 // The word of a number, well spread.
@@ -30,14 +35,25 @@ impl Held {
     /// The shares and the tape of a party, for n elements.
     pub fn new(alloc: Global, party: u64, n: usize) -> Result<Held, AllocError>
         requires { n < 2 ^ 40 }
-        ensures u { IfOk result (λ held. length held.u.items ≡ n) }
-        ensures v { IfOk result (λ held. length held.v.items ≡ n) }
-        ensures tape { IfOk result (λ held. length held.tape.items ≡ 3 * n) }
+        ensures { IfOk result (λ held. length held.u.items ≡ n) }
     {
         Ok(Held {
             u: words_of(alloc, n, 7, party)?,
             v: words_of(alloc, n, 11, party)?,
             tape: words_of(alloc, 3 * n, 3, party)?,
         })
+    }
+
+    /// Begins to multiply the elements from one to before another.
+    pub fn start<P: Party>(&self, from: usize, to: usize) -> (Mul<AddRing, P, Masked>, Msg)
+        requires ordered { from ≤ to }
+        requires short { to ≤ from + 512 }
+        requires within { to ≤ length self.now.u.items }
+        ensures size { length result.0.mask ≡ to - from }
+        ensures masks { length result.1 ≡ 3 * (to - from) }
+    {
+        let u = Block::from_words(&self.u[from..to]);
+        let v = Block::from_words(&self.v[from..to]);
+        Mul::start(&u, &v, &self.tape[3 * from..3 * to])
     }
 }
