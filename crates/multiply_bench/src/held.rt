@@ -1,8 +1,5 @@
-ghost use Rattle.std.specs.Prelude.{◌≡◌, ◌+◌, ◌-◌, ◌*◌, ◌<◌, ◌≤◌, ◌^◌, length, IfOk};
+ghost use Rattle.std.specs.Prelude.{◌≡◌, ◌-◌, ◌*◌, ◌<◌, ◌≤◌, ◌^◌, length, IfOk};
 
-use multiply::{Masked, Mul};
-use proto_core::{Block, Msg, Party};
-use share_ring::AddRing;
 use std::alloc::{AllocError, Global};
 
 /// What one miner begins with: its shares of both factors, n words each, and a tape of 3n words.
@@ -13,6 +10,14 @@ pub struct Held {
     tape: Vec<u64>,
     pub ghost factors: { length v.items ≡ length u.items },
     pub ghost masks: { length tape.items ≡ 3 * length u.items },
+}
+
+/// The shares of some elements, and their part of the tape.
+#[derive(Drop)]
+pub struct Part<'a> {
+    pub u: &'a [u64],
+    pub v: &'a [u64],
+    pub tape: &'a [u64],
 }
 
 // The word of a number, well spread.
@@ -44,16 +49,18 @@ impl Held {
         })
     }
 
-    /// Begins to multiply the elements from one to before another.
-    pub fn start<P: Party>(&self, from: usize, to: usize) -> (Mul<AddRing, P, Masked>, Msg)
+    /// What there is of the elements from one to before another.
+    pub fn part(&self, from: usize, to: usize) -> Part<'_>
         requires ordered { from ≤ to }
-        requires short { to ≤ from + 512 }
         requires within { to ≤ length self.now.u.items }
-        ensures size { length result.0.mask ≡ to - from }
-        ensures masks { length result.1 ≡ 3 * (to - from) }
+        ensures u { length result.u.now ≡ to - from }
+        ensures v { length result.v.now ≡ to - from }
+        ensures tape { length result.tape.now ≡ 3 * (to - from) }
     {
-        let u = Block::from_words(&self.u[from..to]);
-        let v = Block::from_words(&self.v[from..to]);
-        Mul::start(&u, &v, &self.tape[3 * from..3 * to])
+        Part {
+            u: &self.u[from..to],
+            v: &self.v[from..to],
+            tape: &self.tape[3 * from..3 * to],
+        }
     }
 }

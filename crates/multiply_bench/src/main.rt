@@ -8,7 +8,9 @@ ghost use Rattle.std.specs.Prelude.{◌≡◌, ◌+◌, ◌^◌, ◌<◌, ◌≤
 mod held;
 
 use crate::held::Held;
-use proto_core::{P1, P2, P3};
+use multiply::Mul;
+use proto_core::{Block, P1, P2, P3};
+use share_ring::AddRing;
 use std::alloc::{AllocError, Global};
 use std::time::{Duration, Instant};
 use std::{env, io};
@@ -63,9 +65,15 @@ fn multiply_block(
     requires short { to ≤ from + 512 }
     requires within { to ≤ miners.now.n }
 {
-    let (miner1, masks1) = miners.first.start::<P1>(from, to);
-    let (miner2, masks2) = miners.second.start::<P2>(from, to);
-    let (miner3, masks3) = miners.third.start::<P3>(from, to);
+    let first = miners.first.part(from, to);
+    let second = miners.second.part(from, to);
+    let third = miners.third.part(from, to);
+    let (u1, v1) = (Block::from_words(first.u), Block::from_words(first.v));
+    let (u2, v2) = (Block::from_words(second.u), Block::from_words(second.v));
+    let (u3, v3) = (Block::from_words(third.u), Block::from_words(third.v));
+    let (miner1, masks1) = Mul::<AddRing, P1, _>::start(&u1, &v1, first.tape);
+    let (miner2, masks2) = Mul::<AddRing, P2, _>::start(&u2, &v2, second.tape);
+    let (miner3, masks3) = Mul::<AddRing, P3, _>::start(&u3, &v3, third.tape);
     let (miner1, factors1) = miner1.got(&masks3).unwrap();
     let (miner2, factors2) = miner2.got(&masks1).unwrap();
     let (miner3, factors3) = miner3.got(&masks2).unwrap();
