@@ -1,4 +1,4 @@
-ghost use Rattle.std.specs.Prelude.{◌≡◌, ◌*◌, ◌<◌, ◌^◌, length, IfOk};
+ghost use Rattle.std.specs.Prelude.{◌≡◌, ◌-◌, ◌*◌, ◌<◌, ◌≤◌, ◌^◌, length, IfOk};
 
 use std::alloc::{AllocError, Global};
 
@@ -7,7 +7,17 @@ use std::alloc::{AllocError, Global};
 pub struct Held {
     pub u: Vec<u64>,
     pub v: Vec<u64>,
-    pub tape: Vec<u64>,
+    tape: Vec<u64>,
+    pub ghost factors: { length v.items ≡ length u.items },
+    pub ghost masks: { length tape.items ≡ 3 * length u.items },
+}
+
+/// The shares of some elements, and their part of the tape.
+#[derive(Drop)]
+pub struct Part<'a> {
+    pub u: &'a [u64],
+    pub v: &'a [u64],
+    pub tape: &'a [u64],
 }
 
 // The word of a number, well spread.
@@ -30,14 +40,27 @@ impl Held {
     /// The shares and the tape of a party, for n elements.
     pub fn new(alloc: Global, party: u64, n: usize) -> Result<Held, AllocError>
         requires { n < 2 ^ 40 }
-        ensures u { IfOk result (λ held. length held.u.items ≡ n) }
-        ensures v { IfOk result (λ held. length held.v.items ≡ n) }
-        ensures tape { IfOk result (λ held. length held.tape.items ≡ 3 * n) }
+        ensures { IfOk result (λ held. length held.u.items ≡ n) }
     {
         Ok(Held {
             u: words_of(alloc, n, 7, party)?,
             v: words_of(alloc, n, 11, party)?,
             tape: words_of(alloc, 3 * n, 3, party)?,
         })
+    }
+
+    /// What there is of the elements from one to before another.
+    pub fn part(&self, from: usize, to: usize) -> Part<'_>
+        requires ordered { from ≤ to }
+        requires within { to ≤ length self.now.u.items }
+        ensures u { length result.u.now ≡ to - from }
+        ensures v { length result.v.now ≡ to - from }
+        ensures tape { length result.tape.now ≡ 3 * (to - from) }
+    {
+        Part {
+            u: &self.u[from..to],
+            v: &self.v[from..to],
+            tape: &self.tape[3 * from..3 * to],
+        }
     }
 }

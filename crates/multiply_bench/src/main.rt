@@ -3,7 +3,7 @@
 //! Words: how many elements (1,048,576 where none is given), and then `quiet` where no time is to be printed.
 #![tactic(auto)]
 
-ghost use Rattle.std.specs.Prelude.{◌≡◌, ◌+◌, ◌*◌, ◌^◌, ◌<◌, ◌≤◌, length};
+ghost use Rattle.std.specs.Prelude.{◌≡◌, ◌+◌, ◌^◌, ◌<◌, ◌≤◌, length, IfOk};
 
 mod held;
 
@@ -12,7 +12,7 @@ use multiply::Mul;
 use proto_core::{Block, P1, P2, P3};
 use share_ring::AddRing;
 use std::alloc::{AllocError, Global};
-use std::time::Instant;
+use std::time::{Duration, Instant};
 use std::{env, io};
 
 const BLOCK: usize = 512;
@@ -21,12 +21,29 @@ const USUAL: usize = 1 << 20;
 
 const MOST: usize = 1 << 30;
 
-// What the three miners begin with.
+// What the three miners begin with, for n elements.
 #[derive(Drop)]
 struct Miners {
+    n: usize,
     first: Held,
     second: Held,
     third: Held,
+    ghost first_has: { length first.u.items ≡ n },
+    ghost second_has: { length second.u.items ≡ n },
+    ghost third_has: { length third.u.items ≡ n },
+}
+
+impl Miners {
+    fn new(alloc: Global, n: usize) -> Result<Miners, AllocError>
+        requires { n < 2 ^ 40 }
+    {
+        Ok(Miners {
+            n,
+            first: Held::new(alloc, 0, n)?,
+            second: Held::new(alloc, 1, n)?,
+            third: Held::new(alloc, 2, n)?,
+        })
+    }
 }
 
 // The three miners' shares of the products.
@@ -46,43 +63,17 @@ fn multiply_block(
 ) -> Result<(), AllocError>
     requires ordered { from ≤ to }
     requires short { to ≤ from + 512 }
-    requires u1 { to ≤ length miners.now.first.u.items }
-    requires v1 { to ≤ length miners.now.first.v.items }
-    requires tape1 { 3 * to ≤ length miners.now.first.tape.items }
-    requires u2 { to ≤ length miners.now.second.u.items }
-    requires v2 { to ≤ length miners.now.second.v.items }
-    requires tape2 { 3 * to ≤ length miners.now.second.tape.items }
-    requires u3 { to ≤ length miners.now.third.u.items }
-    requires v3 { to ≤ length miners.now.third.v.items }
-    requires tape3 { 3 * to ≤ length miners.now.third.tape.items }
+    requires within { to ≤ miners.now.n }
 {
-    let (u1, v1) = (
-        Block::from_words(&miners.first.u[from..to]),
-        Block::from_words(&miners.first.v[from..to]),
-    );
-    let (u2, v2) = (
-        Block::from_words(&miners.second.u[from..to]),
-        Block::from_words(&miners.second.v[from..to]),
-    );
-    let (u3, v3) = (
-        Block::from_words(&miners.third.u[from..to]),
-        Block::from_words(&miners.third.v[from..to]),
-    );
-    let (miner1, masks1) = Mul::<AddRing, P1, _>::start(
-        &u1,
-        &v1,
-        &miners.first.tape[3 * from..3 * to],
-    );
-    let (miner2, masks2) = Mul::<AddRing, P2, _>::start(
-        &u2,
-        &v2,
-        &miners.second.tape[3 * from..3 * to],
-    );
-    let (miner3, masks3) = Mul::<AddRing, P3, _>::start(
-        &u3,
-        &v3,
-        &miners.third.tape[3 * from..3 * to],
-    );
+    let first = miners.first.part(from, to);
+    let second = miners.second.part(from, to);
+    let third = miners.third.part(from, to);
+    let (u1, v1) = (Block::from_words(first.u), Block::from_words(first.v));
+    let (u2, v2) = (Block::from_words(second.u), Block::from_words(second.v));
+    let (u3, v3) = (Block::from_words(third.u), Block::from_words(third.v));
+    let (miner1, masks1) = Mul::<AddRing, P1, _>::start(&u1, &v1, first.tape);
+    let (miner2, masks2) = Mul::<AddRing, P2, _>::start(&u2, &v2, second.tape);
+    let (miner3, masks3) = Mul::<AddRing, P3, _>::start(&u3, &v3, third.tape);
     let (miner1, factors1) = miner1.got(&masks3).unwrap();
     let (miner2, factors2) = miner2.got(&masks1).unwrap();
     let (miner3, factors3) = miner3.got(&masks2).unwrap();
@@ -94,23 +85,12 @@ fn multiply_block(
         .extend_from_slice(miner2.got(&factors1).unwrap().words())?;
     products
         .third
-        .extend_from_slice(miner3.got(&factors2).unwrap().words())?;
-    Ok(())
+        .extend_from_slice(miner3.got(&factors2).unwrap().words())
 }
 
 // The products of all elements, in blocks of 512.
-fn multiply_all(alloc: Global, miners: &Miners, n: usize) -> Result<Products, AllocError>
-    requires small { n < 2 ^ 40 }
-    requires u1 { length miners.now.first.u.items ≡ n }
-    requires v1 { length miners.now.first.v.items ≡ n }
-    requires tape1 { length miners.now.first.tape.items ≡ 3 * n }
-    requires u2 { length miners.now.second.u.items ≡ n }
-    requires v2 { length miners.now.second.v.items ≡ n }
-    requires tape2 { length miners.now.second.tape.items ≡ 3 * n }
-    requires u3 { length miners.now.third.u.items ≡ n }
-    requires v3 { length miners.now.third.v.items ≡ n }
-    requires tape3 { length miners.now.third.tape.items ≡ 3 * n }
-{
+fn multiply_all(alloc: Global, miners: &Miners) -> Result<Products, AllocError> {
+    let n = miners.n;
     let mut products = Products {
         first: Vec::with_capacity(alloc, n)?,
         second: Vec::with_capacity(alloc, n)?,
@@ -125,50 +105,72 @@ fn multiply_all(alloc: Global, miners: &Miners, n: usize) -> Result<Products, Al
     Ok(products)
 }
 
-// How many of the elements have shares that do not add up to the product of the factors.
-fn wrong(miners: &Miners, products: &Products) -> usize {
-    let shares = products
-        .first
-        .iter()
-        .zip(&products.second)
-        .zip(&products.third);
-    let u = miners
-        .first
-        .u
-        .iter()
-        .zip(&miners.second.u)
-        .zip(&miners.third.u);
-    let v = miners
-        .first
-        .v
-        .iter()
-        .zip(&miners.second.v)
-        .zip(&miners.third.v);
-    let sum = |((x, y), z): ((&u64, &u64), &u64)| x.wrapping_add(*y).wrapping_add(*z);
-    shares
-        .map(sum)
-        .zip(u.map(sum).zip(v.map(sum)))
-        .filter(|(product, (x, y))| *product != x.wrapping_mul(*y))
-        .count()
+// The sum of three shares, where all are there.
+fn sum_at(first: &[u64], second: &[u64], third: &[u64], at: usize) -> Option<u64> {
+    let (x, y, z) = (first.get(at)?, second.get(at)?, third.get(at)?);
+    Some(x.wrapping_add(*y).wrapping_add(*z))
 }
 
-fn main(rt: HostRuntime) -> io::Result<()> {
-    let alloc = rt.alloc();
-    let mut words = env::args(&rt)?.skip(1);
-    let n = match words.next() {
+// Whether the shares of an element add up to the product of its factors.
+fn is_right(miners: &Miners, products: &Products, at: usize) -> bool {
+    let Miners {
+        first,
+        second,
+        third,
+        ..
+    } = miners;
+    let u = sum_at(&first.u, &second.u, &third.u, at);
+    let v = sum_at(&first.v, &second.v, &third.v, at);
+    let product = sum_at(&products.first, &products.second, &products.third, at);
+    match (product, u, v) {
+        (Some(product), Some(u), Some(v)) => product == u.wrapping_mul(v),
+        _ => false,
+    }
+}
+
+// How many of the elements are not right.
+fn wrong(miners: &Miners, products: &Products) -> usize {
+    let mut wrong = 0;
+    for at in 0..miners.n {
+        if !is_right(miners, products, at) {
+            wrong += 1;
+        }
+    }
+    wrong
+}
+
+// How many elements, and whether no time is to be printed.
+fn asked(rt: &HostRuntime) -> io::Result<(usize, bool)>
+    ensures { IfOk result (λ it. it.0 < 2 ^ 40) }
+{
+    let mut words = env::args(rt)?;
+    let n = match words.nth(1) {
         Some(word) => word.parse::<usize>().unwrap_or(USUAL).min(MOST),
         None => USUAL,
     };
-    let quiet = words.next().is_some();
-    let miners = Miners {
-        first: Held::new(alloc, 0, n)?,
-        second: Held::new(alloc, 1, n)?,
-        third: Held::new(alloc, 2, n)?,
-    };
-    let start = Instant::now(&rt)?;
-    let products = multiply_all(alloc, &miners, n)?;
-    let took = start.elapsed(&rt)?;
-    println!(&rt; "elements {n} wrong {}", wrong(&miners, &products))?;
+    Ok((n, words.next().is_some()))
+}
+
+// How many of the miners' products are wrong, and how long all took.
+fn timed(rt: &HostRuntime, miners: &Miners) -> io::Result<(usize, Duration)> {
+    let start = Instant::now(rt)?;
+    let products = multiply_all(rt.alloc(), miners)?;
+    let took = start.elapsed(rt)?;
+    Ok((wrong(miners, &products), took))
+}
+
+// The same, of miners for so many elements.
+fn measured(rt: &HostRuntime, n: usize) -> io::Result<(usize, Duration)>
+    requires { n < 2 ^ 40 }
+{
+    let miners = Miners::new(rt.alloc(), n)?;
+    timed(rt, &miners)
+}
+
+fn main(rt: HostRuntime) -> io::Result<()> {
+    let (n, quiet) = asked(&rt)?;
+    let (wrong, took) = measured(&rt, n)?;
+    println!(&rt; "elements {n} wrong {wrong}")?;
     if !quiet {
         println!(&rt; "nanoseconds {}", took.as_nanos())?;
     }

@@ -10,15 +10,22 @@ const TOP: u64 = 18_446_744_073_709_551_615;
 
 const WORD: u64 = 11_400_714_819_323_198_485;
 
-// The three miners' shares of two values of one word each.
-fn two_words(alloc: Global, a: [u64; 3], b: [u64; 3]) -> Result<SharedValues, AllocError> {
+fn words(alloc: Global, words: &[u64]) -> Result<Words, AllocError> {
+    Ok(Words::new(words.to_vec(alloc)?))
+}
+
+// One value more, of which each miner has a share.
+fn deal(alloc: Global, dealt: &mut SharedValues, shares: [&[u64]; 3]) -> Result<(), AllocError> {
+    let first = words(alloc, shares[0])?;
+    let second = words(alloc, shares[1])?;
+    let third = words(alloc, shares[2])?;
+    dealt.push(first, second, third)
+}
+
+fn dealt(alloc: Global, values: &[[&[u64]; 3]]) -> Result<SharedValues, AllocError> {
     let mut dealt = SharedValues::new(alloc);
-    for [first, second, third] in [a, b] {
-        dealt.push(
-            Words::new(vec![in alloc; first]?),
-            Words::new(vec![in alloc; second]?),
-            Words::new(vec![in alloc; third]?),
-        )?;
+    for shares in values {
+        deal(alloc, &mut dealt, *shares)?;
     }
     Ok(dealt)
 }
@@ -114,11 +121,11 @@ fn tell_gates(
     alloc: Global,
     lines: &mut Lines,
     gates: &[Gate],
-    dealt: Result<SharedValues, AllocError>,
+    values: &[[&[u64]; 3]],
     tapes: Tapes<'_>,
     asked: Asked<'_>,
 ) {
-    match dealt {
+    match dealt(alloc, values) {
         Ok(dealt) => tell_end(lines, joint_run(alloc, gates, &dealt, tapes), asked),
         Err(AllocError) => lines.run_short(),
     }
@@ -168,6 +175,9 @@ const ALL_VALUES: Asked<'static> = Asked {
     messages: &[],
 };
 
+// Each miner's shares of 6 and 7.
+const FACTORS: [[&[u64]; 3]; 2] = [[&[0], &[0], &[6]], [&[0], &[0], &[7]]];
+
 // Two inputs and their product, opened.
 fn product(alloc: Global, lines: &mut Lines, tapes: Tapes<'_>) {
     let gates = [
@@ -176,18 +186,23 @@ fn product(alloc: Global, lines: &mut Lines, tapes: Tapes<'_>) {
         Gate::Mul { left: 0, right: 1 },
         opened(2),
     ];
-    let dealt = two_words(alloc, [0, 0, 6], [0, 0, 7]);
     lines.add("product");
-    tell_gates(alloc, lines, &gates, dealt, tapes, PRODUCT);
+    tell_gates(alloc, lines, &gates, &FACTORS, tapes, PRODUCT);
 }
 
 // A bit that becomes a number.
 fn converted(alloc: Global, lines: &mut Lines, bit: u64) {
     let gates = [input(0), Gate::Conv { operand: 0 }, opened(1)];
-    let dealt = two_words(alloc, [0, 0, bit], [0, 0, 0]);
     write!(lines, "converted {bit}:");
     let tapes = same_tapes(&[3, 2, 10, 0, 0]);
-    tell_gates(alloc, lines, &gates, dealt, tapes, FIRST_MESSAGES);
+    tell_gates(
+        alloc,
+        lines,
+        &gates,
+        &[[&[0], &[0], &[bit]]],
+        tapes,
+        FIRST_MESSAGES,
+    );
 }
 
 // 5 is 1 + 1 + 3; with the word 7 the second miner has 1 + 7, the third 3 + 1 - 7, or its negative.
@@ -204,19 +219,20 @@ fn split(alloc: Global, lines: &mut Lines, negated: bool) {
         },
         Gate::Not { operand: 1 },
     ];
-    let dealt = two_words(alloc, [1, 1, 3], [0, 0, 0]);
     let tapes = Tapes {
         first: &[7, 1],
         second: &[4],
         third: &[2],
     };
     write!(lines, "split {negated}:");
-    tell_gates(alloc, lines, &gates, dealt, tapes, ALL_VALUES);
-}
-
-// Each number is the sum of three shares.
-fn shares_of(number: u64) -> [u64; 3] {
-    [WORD, 5, number.wrapping_sub(WORD).wrapping_sub(5)]
+    tell_gates(
+        alloc,
+        lines,
+        &gates,
+        &[[&[1], &[1], &[3]]],
+        tapes,
+        ALL_VALUES,
+    );
 }
 
 // The gates that make the operands of a plan, the plan, and the gate that opens a value.
@@ -241,6 +257,11 @@ fn equal_plan(alloc: Global) -> Result<Vec<Gate>, AllocError> {
     opened_plan(operands, plan, 19)
 }
 
+// Each number is the sum of the shares WORD and 5 and this one.
+fn third_share(number: u64) -> u64 {
+    number.wrapping_sub(WORD).wrapping_sub(5)
+}
+
 // The line of a plan for two numbers.
 fn tell_plan(
     alloc: Global,
@@ -249,15 +270,11 @@ fn tell_plan(
     numbers: [u64; 2],
     tape: &[u64],
 ) {
+    let first = [third_share(numbers[0])];
+    let second = [third_share(numbers[1])];
+    let values: [[&[u64]; 3]; 2] = [[&[WORD], &[5], &first], [&[WORD], &[5], &second]];
     match plan {
-        Ok(gates) => tell_gates(
-            alloc,
-            lines,
-            &gates,
-            two_words(alloc, shares_of(numbers[0]), shares_of(numbers[1])),
-            same_tapes(tape),
-            COUNTS,
-        ),
+        Ok(gates) => tell_gates(alloc, lines, &gates, &values, same_tapes(tape), COUNTS),
         Err(AllocError) => lines.run_short(),
     }
 }
@@ -280,26 +297,15 @@ fn unsuited(alloc: Global, lines: &mut Lines) {
         Gate::Mul { left: 0, right: 1 },
         Gate::Sub { left: 2, right: 4 },
     ];
-    let dealt = two_words(alloc, [0, 0, 6], [0, 0, 7]);
     lines.add("no such value");
-    tell_gates(alloc, lines, &gates, dealt, same_tapes(&[0; 3]), COUNTS);
-}
-
-fn uneven_shares(alloc: Global) -> Result<SharedValues, AllocError> {
-    let mut dealt = SharedValues::new(alloc);
-    dealt.push(
-        Words::new(vec![in alloc; 1, 2]?),
-        Words::new(vec![in alloc; 1]?),
-        Words::new(vec![in alloc; 1, 2]?),
-    )?;
-    Ok(dealt)
+    tell_gates(alloc, lines, &gates, &FACTORS, same_tapes(&[0; 3]), COUNTS);
 }
 
 // The second miner is dealt one word where the others are dealt two.
 fn uneven(alloc: Global, lines: &mut Lines) {
-    let dealt = uneven_shares(alloc);
+    let values: [[&[u64]; 3]; 1] = [[&[1, 2], &[1], &[1, 2]]];
     lines.add("uneven shares");
-    tell_gates(alloc, lines, &[input(0)], dealt, same_tapes(&[]), COUNTS);
+    tell_gates(alloc, lines, &[input(0)], &values, same_tapes(&[]), COUNTS);
 }
 
 // How many words are opened, how many of them are 9, and what is counted.
@@ -317,21 +323,11 @@ fn tell_square(lines: &mut Lines, run: Result<JointRun, JointErr>) {
     }
 }
 
-fn shares_of_threes(alloc: Global, n: usize) -> Result<SharedValues, AllocError> {
-    let mut dealt = SharedValues::new(alloc);
-    dealt.push(
-        Words::new(vec![in alloc; 1; n]?),
-        Words::new(vec![in alloc; TOP; n]?),
-        Words::new(vec![in alloc; 3; n]?),
-    )?;
-    Ok(dealt)
-}
-
 // A list of threes that is squared and opened.
-fn squared(alloc: Global, lines: &mut Lines, n: usize) {
+fn squared(alloc: Global, lines: &mut Lines, threes: [&[u64]; 3]) {
     let gates = [input(0), Gate::Mul { left: 0, right: 0 }, opened(1)];
     lines.add("squares");
-    match shares_of_threes(alloc, n) {
+    match dealt(alloc, &[threes]) {
         Ok(dealt) => {
             let run = joint_run(alloc, &gates, &dealt, same_tapes(&[WORD; 2053]));
             tell_square(lines, run);
@@ -366,9 +362,9 @@ fn tell_plan_runs(alloc: Global, lines: &mut Lines) {
     for (a, b) in [(0u64, TOP), (5, 5)] {
         equal(alloc, lines, a, b);
     }
-    for n in [512usize, 513, 0] {
-        squared(alloc, lines, n);
-    }
+    squared(alloc, lines, [&[1; 512], &[TOP; 512], &[3; 512]]);
+    squared(alloc, lines, [&[1; 513], &[TOP; 513], &[3; 513]]);
+    squared(alloc, lines, [&[], &[], &[]]);
 }
 
 /// The lines of joint runs.
