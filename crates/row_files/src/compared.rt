@@ -5,11 +5,12 @@ ghost use Rattle.std.specs.Str.{bytes_eq};
 ghost use Rattle.outside.specs.Files.{file_at};
 ghost use Rattle.outside.specs.MemFiles.{files_in};
 ghost use Rattle.outside.specs.SpawnCall.{call_of, calls_of};
-ghost use Rattle.row_files.specs.Agreeing.{agrees, are_called, is_sent};
+ghost use Rattle.row_files.specs.Agreeing.{agrees, is_sent};
 ghost use Rattle.row_files.specs.Calls.{call_told, calls_told, word_told};
 ghost use Rattle.row_files.specs.Texts.{speaks_of, last_end_text, end_text, fits, fits_at, files_fit, peer_named};
 ghost use Rattle.row_files.specs.Texts.{is_of_file as file_kind, is_of_end as end_kind};
 
+use crate::lines::Lines;
 use crate::row::{Kind, Row, Text, peer_of};
 use outside::{MemFiles, MemLinks, MemSink, MemSpawner, SpawnCall};
 use std::alloc::{AllocError, Global};
@@ -28,63 +29,18 @@ pub struct Outcome {
 // No more bytes of a text are shown.
 const SHOWN: usize = 2000;
 
-// A text that is added to, and whether memory ran short.
-struct Report {
-    text: String,
-    is_short: bool,
-}
-
-// Written out, so that an early exit calls this once.
-impl Drop for Report {
-    fn drop(self) {
-        let Report {
-            text: _,
-            is_short: _,
-        } = self;
-    }
-}
-
-impl Report {
-    fn new(alloc: Global) -> Self {
-        Report {
-            text: String::new(alloc),
-            is_short: false,
-        }
-    }
-
-    fn add(&mut self, piece: &str) {
-        if self.text.push_str(piece).is_err() {
-            self.is_short = true;
-        }
-    }
-
-    fn add_number(&mut self, number: u64) {
-        if write!(self.text, "{number}").is_err() {
-            self.is_short = true;
-        }
-    }
-
-    fn add_byte(&mut self, byte: u8) {
-        if write!(self.text, " {byte:02x}").is_err() {
-            self.is_short = true;
-        }
-    }
-}
-
-fn add_hex(report: &mut Report, bytes: &[u8]) {
+fn add_hex(report: &mut Lines, bytes: &[u8]) {
     report.add("    hex");
     for byte in bytes {
-        report.add_byte(*byte);
+        write!(report, " {byte:02x}");
     }
     report.add("\n");
 }
 
 // Each line of a text as a row file gives it.
-fn add_lines(report: &mut Report, text: &str) {
+fn add_lines(report: &mut Lines, text: &str) {
     for line in text.lines() {
-        report.add("    |");
-        report.add(line);
-        report.add("\n");
+        write!(report, "    |{line}\n");
     }
     if !text.is_empty() && !text.ends_with('\n') {
         report.add("    # with no line feed at the end\n");
@@ -92,7 +48,7 @@ fn add_lines(report: &mut Report, text: &str) {
 }
 
 // Bytes as a row file gives them.
-fn add_bytes(report: &mut Report, bytes: &[u8]) {
+fn add_bytes(report: &mut Lines, bytes: &[u8]) {
     let shown = &bytes[..bytes.len().min(SHOWN)];
     let is_plain = shown.iter().all(|b| *b >= b' ' || *b == b'\n');
     match str::from_utf8(shown) {
@@ -100,23 +56,18 @@ fn add_bytes(report: &mut Report, bytes: &[u8]) {
         _ => add_hex(report, shown),
     }
     if bytes.len() > SHOWN {
-        report.add("    # and so on, ");
-        report.add_number(bytes.len() as u64);
-        report.add(" bytes in all\n");
+        write!(report, "    # and so on, {} bytes in all\n", bytes.len());
     }
 }
 
 // Whether the two are the same. Where they are not, the report says so.
-fn same(report: &mut Report, name: &str, path: &str, wanted: &[u8], found: &[u8]) -> bool
+fn same(report: &mut Lines, name: &str, path: &str, wanted: &[u8], found: &[u8]) -> bool
     ensures { result ≡ bytes_eq wanted.now found.now }
 {
     if wanted == found {
         return true;
     }
-    report.add("  ");
-    report.add(name);
-    report.add(path);
-    report.add(": the row says\n");
+    write!(report, "  {name}{path}: the row says\n");
     add_bytes(report, wanted);
     report.add("  but there came\n");
     add_bytes(report, found);
@@ -160,32 +111,26 @@ fn is_told(row: &Row, count: usize, path: &str) -> bool
     texts.any(|text| is_of_file(text.kind) && text.name.as_str() == path)
 }
 
-fn say_of_file(report: &mut Report, path: &str, what: &str) {
-    report.add("  file ");
-    report.add(path);
-    report.add(what);
-}
-
-fn same_file(report: &mut Report, path: &str, wanted: &Text, outcome: &Outcome) -> bool
+fn same_file(report: &mut Lines, path: &str, wanted: &Text, outcome: &Outcome) -> bool
     ensures { result ≡ fits (file_at (files_in outcome.now.files) path.now) wanted.now }
 {
     let is_absent = wanted.kind == Kind::Absent;
     match outcome.files.get(path) {
         Some(_) if is_absent => {
-            say_of_file(report, path, ": is there\n");
+            write!(report, "  file {path}: is there\n");
             false
         }
         Some(found) => same(report, "file ", path, &wanted.bytes, found),
         None => {
             if !is_absent {
-                say_of_file(report, path, ": is not there\n");
+                write!(report, "  file {path}: is not there\n");
             }
             is_absent
         }
     }
 }
 
-fn same_at(report: &mut Report, row: &Row, path: &str, outcome: &Outcome) -> bool
+fn same_at(report: &mut Lines, row: &Row, path: &str, outcome: &Outcome) -> bool
     ensures { result ≡ fits_at row.now.texts.items (files_in outcome.now.files) path.now }
 {
     match wanted_file(row, path) {
@@ -195,7 +140,7 @@ fn same_at(report: &mut Report, row: &Row, path: &str, outcome: &Outcome) -> boo
 }
 
 // Whether the file of which a text speaks, if it speaks of one, is what the row says. An earlier text can have said of it.
-fn same_text(report: &mut Report, row: &Row, index: usize, text: &Text, outcome: &Outcome) -> bool
+fn same_text(report: &mut Lines, row: &Row, index: usize, text: &Text, outcome: &Outcome) -> bool
     ensures { let texts = row.now.texts.items in
         let path = string_bytes text.now.name in
         result ≡ (not (file_kind text.now.kind) || list_any (speaks_of path) (take index texts) || fits_at texts (files_in outcome.now.files) path) }
@@ -205,7 +150,7 @@ fn same_text(report: &mut Report, row: &Row, index: usize, text: &Text, outcome:
 }
 
 // Each file that the row names, once.
-fn same_files(report: &mut Report, row: &Row, outcome: &Outcome) -> bool
+fn same_files(report: &mut Lines, row: &Row, outcome: &Outcome) -> bool
     ensures { result ≡ files_fit row.now.texts.items (files_in outcome.now.files) }
 {
     let mut all = true;
@@ -215,7 +160,7 @@ fn same_files(report: &mut Report, row: &Row, outcome: &Outcome) -> bool
     all
 }
 
-fn same_sent(report: &mut Report, row: &Row, outcome: &Outcome, name: &str) -> bool
+fn same_sent(report: &mut Lines, row: &Row, outcome: &Outcome, name: &str) -> bool
     ensures { result ≡ is_sent row.now outcome.now (peer_named name.now) name.now }
 {
     same(
@@ -263,30 +208,17 @@ fn call_lines(alloc: Global, calls: &[SpawnCall]) -> Result<String, AllocError>
     Ok(lines)
 }
 
-fn same_calls(
-    alloc: Global,
-    report: &mut Report,
-    row: &Row,
-    outcome: &Outcome,
-) -> Result<bool, AllocError>
-    ensures { IfOk result (λ same. same ≡ are_called row.now outcome.now) }
-{
-    let calls = call_lines(alloc, outcome.children.calls())?;
-    let wanted = row.bytes(Kind::Calls, "");
-    Ok(same(report, "calls", "", wanted, calls.as_bytes()))
-}
-
-fn same_status(report: &mut Report, row: &Row, outcome: &Outcome) -> bool
+fn same_status(report: &mut Lines, row: &Row, outcome: &Outcome) -> bool
     ensures { result ≡ outcome.now.status == row.now.status }
 {
     if outcome.status == row.status {
         return true;
     }
-    report.add("  status: the row says ");
-    report.add_number(u64::from(row.status));
-    report.add(" but there came ");
-    report.add_number(u64::from(outcome.status));
-    report.add("\n");
+    let (wanted, found) = (row.status, outcome.status);
+    write!(
+        report,
+        "  status: the row says {wanted} but there came {found}\n"
+    );
     false
 }
 
@@ -299,7 +231,8 @@ pub fn judge(
 ) -> Result<bool, AllocError>
     ensures { IfOk result (λ yes. yes ≡ agrees row.now outcome.now) }
 {
-    let mut told = Report::new(alloc);
+    let children = call_lines(alloc, outcome.children.calls())?;
+    let mut told = Lines::new(alloc);
     let status = same_status(&mut told, row, outcome);
     let wanted = row.bytes(Kind::Out, "");
     let out = same(&mut told, "out", "", wanted, outcome.out.bytes());
@@ -309,9 +242,9 @@ pub fn judge(
     let first = same_sent(&mut told, row, outcome, "1");
     let second = same_sent(&mut told, row, outcome, "2");
     let third = same_sent(&mut told, row, outcome, "3");
-    let calls = same_calls(alloc, &mut told, row, outcome)?;
-    if told.is_short || report.push_str(told.text.as_str()).is_err() {
-        return Err(AllocError);
-    }
-    Ok(status && out && err && files && first && second && third && calls)
+    let wanted = row.bytes(Kind::Calls, "");
+    let calls = same(&mut told, "calls", "", wanted, children.as_bytes());
+    let text = told.whole()?;
+    report.push_str(text.as_str())?;
+    Ok(status & out & err & files & first & second & third & calls)
 }

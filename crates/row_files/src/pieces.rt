@@ -90,14 +90,20 @@ fn add_zeros(row: &mut Row, text: &str) {
 
 // Adds a text in which each `#` is this number.
 fn add_numbered(alloc: Global, row: &mut Row, text: &[u8], number: u64) {
-    match format!(in alloc; "{number}") {
-        Ok(digits) => row.put_numbered(text, digits.as_bytes()),
-        Err(_) => row.refuse(Fault::Memory),
+    let Ok(digits) = format!(in alloc; "{number}") else {
+        return row.refuse(Fault::Memory);
+    };
+    for byte in text {
+        if *byte == b'#' {
+            row.put(digits.as_bytes());
+        } else {
+            row.put(&[*byte]);
+        }
     }
 }
 
-// So many copies of a text, in which each `#` is the number of the copy, from 0.
-fn add_copies(alloc: Global, row: &mut Row, text: &[u8], count: u64) {
+// So many copies of a text with its end; in each the `#` of the text are the number of the copy, from 0.
+fn add_copies(alloc: Global, row: &mut Row, text: &[u8], end: &[u8], count: u64) {
     if count > MOST {
         row.refuse(Fault::Copies);
         return;
@@ -109,6 +115,7 @@ fn add_copies(alloc: Global, row: &mut Row, text: &[u8], count: u64) {
         } else {
             add_numbered(alloc, row, text, copy);
         }
+        row.put(end);
         if row.size() > MOST as usize {
             row.refuse(Fault::Size);
         }
@@ -118,66 +125,57 @@ fn add_copies(alloc: Global, row: &mut Row, text: &[u8], count: u64) {
     }
 }
 
-// `COUNT TEXT`: so many copies of the text.
-fn add_repeated(alloc: Global, row: &mut Row, text: &str) {
+// `COUNT TEXT`: so many copies of the text, each with this end.
+fn add_repeated(alloc: Global, row: &mut Row, text: &str, end: &[u8]) {
     let (count, text) = text.split_once(' ').unwrap_or((text, ""));
     let count = number(row, count);
-    add_copies(alloc, row, text.as_bytes(), count);
-}
-
-// `COUNT TEXT`: so many copies of the text, each a line.
-fn add_repeated_lines(alloc: Global, row: &mut Row, text: &str) {
-    let (count, text) = text.split_once(' ').unwrap_or((text, ""));
-    let count = number(row, count);
-    match format!(in alloc; "{text}\n") {
-        Ok(line) => add_copies(alloc, row, line.as_bytes(), count),
-        Err(_) => row.refuse(Fault::Memory),
-    }
+    add_copies(alloc, row, text.as_bytes(), end, count);
 }
 
 // Puts so many copies of all bytes so far in their place.
 fn copy_all(alloc: Global, row: &mut Row, count: &str) {
     let count = number(row, count);
     let text = row.take(alloc);
-    add_copies(alloc, row, &text, count);
+    add_copies(alloc, row, &text, b"", count);
 }
 
 fn put_text(row: &mut Row, text: &str) {
     row.put(text.as_bytes());
 }
 
-// Name, domain, type and value of an entry, which stand between blanks.
-fn entry_parts(entry: &str) -> Option<(&str, &str, &str, &str)> {
-    let (name, rest) = entry.split_once(' ')?;
-    let (domain, rest) = rest.split_once(' ')?;
-    let (type_name, value) = rest.split_once(' ')?;
-    Some((name, domain, type_name, value))
+// Adds what stands before a part of an entry and the part, which ends with a blank. Gives back the parts behind it.
+fn add_part<'a>(row: &mut Row, before: &str, parts: &'a str) -> &'a str {
+    put_text(row, before);
+    match parts.split_once(' ') {
+        Some((part, rest)) => {
+            put_text(row, part);
+            rest
+        }
+        None => {
+            row.refuse(Fault::Input);
+            ""
+        }
+    }
 }
 
 // An entry of an input file: `NAME DOMAIN TYPE VALUE`, the value as JSON.
 fn add_input(row: &mut Row, entry: &str) {
-    match entry_parts(entry) {
-        Some((name, domain, type_name, value)) => {
-            put_text(row, "{\"name\":\"");
-            put_text(row, name);
-            put_text(row, "\",\"domain\":\"");
-            put_text(row, domain);
-            put_text(row, "\",\"type\":\"");
-            put_text(row, type_name);
-            put_text(row, "\",\"value\":");
-            put_text(row, value);
-            put_text(row, "}");
-        }
-        None => row.refuse(Fault::Input),
-    }
+    let parts = add_part(row, "{\"name\":\"", entry);
+    let parts = add_part(row, "\",\"domain\":\"", parts);
+    let value = add_part(row, "\",\"type\":\"", parts);
+    put_text(row, "\",\"value\":");
+    put_text(row, value);
+    row.put(b"}");
 }
 
 fn add_entries(row: &mut Row, entries: &str) {
-    for (index, entry) in entries.split(';').enumerate() {
-        if index != 0 {
+    let mut is_first = true;
+    for entry in entries.split(';') {
+        if !is_first {
             row.put(b",");
         }
         add_input(row, entry.trim());
+        is_first = false;
     }
 }
 
@@ -197,8 +195,8 @@ fn add_words(alloc: Global, row: &mut Row, word: &str, rest: &str) -> bool {
         "u64" => add_numbers(row, rest),
         "tape" => add_tapes(row, rest),
         "zeros" => add_zeros(row, rest),
-        "repeat" => add_repeated(alloc, row, rest),
-        "lines" => add_repeated_lines(alloc, row, rest),
+        "repeat" => add_repeated(alloc, row, rest, b""),
+        "lines" => add_repeated(alloc, row, rest, b"\n"),
         "copies" => copy_all(alloc, row, rest),
         "inputs" => add_inputs(row, rest),
         _ => return false,

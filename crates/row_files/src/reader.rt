@@ -181,20 +181,15 @@ impl Reader {
 
     // A line that the program of the last row prints, or the row of `need`.
     fn printed(&mut self, alloc: Global, line: usize, text: &str) {
-        if self.rows.is_empty() {
+        let Some(row) = self.rows.last_mut() else {
             self.wrong = Some(Fault::Printed);
-        } else if text == "need" || text.starts_with("need ") {
-            self.need(alloc, line, text);
-        } else if let Some(row) = self.rows.last_mut() {
-            add_printed(alloc, row, text);
+            return;
+        };
+        if text != "need" && !text.starts_with("need ") {
+            return add_printed(alloc, row, text);
         }
-    }
-
-    fn need(&mut self, alloc: Global, line: usize, text: &str) {
         let mut need = Row::new(alloc, line);
-        if let Some(row) = self.rows.last() {
-            set_need(alloc, &mut need, row, text);
-        }
+        set_need(alloc, &mut need, row, text);
         self.push(need);
     }
 
@@ -228,12 +223,8 @@ impl Reader {
     }
 
     fn field(&mut self, alloc: Global, word: &str, rest: &str) {
-        let takes = match self.current() {
-            Some(row) => Some(set_field(alloc, row, word, rest)),
-            None => None,
-        };
-        match takes {
-            Some(takes) => self.takes = takes,
+        match self.current() {
+            Some(row) => self.takes = set_field(alloc, row, word, rest),
             None => self.wrong = Some(Fault::Beginning),
         }
     }
@@ -241,15 +232,13 @@ impl Reader {
     // A line that begins a row or a group, or is a row of its own; or else a field.
     fn word_line(&mut self, alloc: Global, line: usize, text: &str) {
         let (word, rest) = text.split_once(' ').unwrap_or((text, ""));
-        if word == "ok" || is_fault(word) {
-            self.check(alloc, line, text);
-            return;
-        }
         match word {
             "group" => self.begin_group(alloc, line),
             "row" => self.begin_row(alloc, line, rest),
+            "ok" => self.check(alloc, line, text),
             "do" => self.eval(alloc, line, rest),
             "=" => self.printed(alloc, line, rest),
+            _ if is_fault(word) => self.check(alloc, line, text),
             _ => self.field(alloc, word, rest),
         }
     }

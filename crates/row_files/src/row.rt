@@ -117,18 +117,6 @@ pub fn peer_of(name: &str) -> u8
     }
 }
 
-// Adds bytes in which each `#` is this number.
-fn add_numbered(bytes: &mut Vec<u8>, text: &[u8], number: &[u8]) -> Result<(), AllocError> {
-    for byte in text {
-        if *byte == b'#' {
-            bytes.extend_from_slice(number)?;
-        } else {
-            bytes.push(*byte)?;
-        }
-    }
-    Ok(())
-}
-
 impl Row {
     /// A call with no words over nothing, which must end well and print nothing.
     pub fn new(alloc: Global, line: usize) -> Self {
@@ -187,7 +175,7 @@ impl Row {
 
     /// Lets the call have these words, which stand between blanks; `""` is the empty word.
     pub(crate) fn call(&mut self, alloc: Global, words: &str) {
-        self.words = Vec::new(alloc);
+        self.words.clear();
         for word in words.split_whitespace() {
             let word = if word == "\"\"" { "" } else { word };
             self.add_word(alloc, word);
@@ -208,23 +196,10 @@ impl Row {
 
     /// Adds bytes to the last text.
     pub(crate) fn put(&mut self, bytes: &[u8]) {
-        let added = match self.texts.last_mut() {
-            Some(text) => text.bytes.extend_from_slice(bytes).is_ok(),
-            None => true,
-        };
-        if !added {
-            self.refuse(Fault::Memory);
-        }
-    }
-
-    /// Adds bytes in which each `#` is this number to the last text.
-    pub(crate) fn put_numbered(&mut self, bytes: &[u8], number: &[u8]) {
-        let added = match self.texts.last_mut() {
-            Some(text) => add_numbered(&mut text.bytes, bytes, number).is_ok(),
-            None => true,
-        };
-        if !added {
-            self.refuse(Fault::Memory);
+        if let Some(text) = self.texts.last_mut() {
+            if text.bytes.extend_from_slice(bytes).is_err() {
+                self.refuse(Fault::Memory);
+            }
         }
     }
 
