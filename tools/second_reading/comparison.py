@@ -3,6 +3,7 @@ from __future__ import annotations
 
 import argparse
 import random
+import shlex
 import subprocess
 import sys
 import threading
@@ -15,6 +16,7 @@ from pathlib import Path
 from tempfile import TemporaryDirectory
 
 from commands import Answer, Caller
+from words import FORMS
 
 SHOWN = 2000
 PATIENCE = 600
@@ -34,7 +36,7 @@ class Tally:
     def take(self, words: list[str], answer: Answer, caller: Caller):
         """Counts a call."""
         self.calls += 1
-        self.commands[words[0]] += 1
+        self.commands[words[0] if words and words[0] in FORMS else "no command"] += 1
         if answer.err:
             self.signs[answer.err.decode().split()[1]] += 1
         for report in caller.reports:
@@ -53,6 +55,11 @@ def shown(data: bytes, start: int = 0) -> str:
     return place + repr(data[start : start + SHOWN]) + (f" .. of {len(data)} bytes" if len(data) > start + SHOWN else "")
 
 
+def printable(text: str) -> str:
+    """A text that may have halves of characters, as it is printed."""
+    return text.encode("utf-8", "backslashreplace").decode()
+
+
 def sides(want: bytes | None, have: bytes | None) -> str:
     """What the two sides have, from shortly before the first difference on; None for no file."""
     alike = 0
@@ -69,15 +76,29 @@ class Folder:
     def __init__(self, program: Path, place: Path, tally: Tally, case: str):
         self.program, self.place, self.tally, self.case = program, place, tally, case
         self.files: dict[str, bytes] = {}
-        self.caller = Caller(self.files)
+        self.folders: set[str] = set()
+        self.caller = Caller(self.files, self.folders)
 
     def put(self, path: str, data: bytes):
         self.files[path] = data
         (self.place / path).write_bytes(data)
 
+    def make_folder(self, path: str):
+        """Makes a folder, which can be neither read nor written as a file."""
+        self.folders.add(path)
+        (self.place / path).mkdir()
+
     def remove(self, path: str):
         del self.files[path]
         (self.place / path).unlink()
+
+    def reset(self, files: dict[str, bytes]):
+        """Makes these all the files that there are."""
+        for path in set(self.files) - set(files):
+            self.remove(path)
+        for path, data in files.items():
+            if self.files.get(path) != data:
+                self.put(path, data)
 
     def call(self, *words: str) -> Answer:
         """Calls both sides, and compares."""
@@ -102,8 +123,8 @@ class Folder:
             for name, want, have in (("output", answer.out, done.stdout), ("error", answer.err, done.stderr)):
                 if want != have:
                     found.append(f"{name}:{sides(want, have)}")
-        there = {one.name: one.read_bytes() for one in self.place.iterdir()}
-        self.files.update({path: there.get(path, b"") if data is None else data for path, data in answer.written.items()})
+        there = {one.name: one.read_bytes() for one in self.place.iterdir() if one.is_file()}
+        self.files.update((path, there.get(path, b"") if data is None else data) for path, data in answer.written)
         for path in sorted(set(there) | set(self.files)):
             want, have = self.files.get(path), there.get(path)
             if want != have:
@@ -122,12 +143,12 @@ class Folder:
     def tell(self, words: list[str], before: dict[str, bytes], faults: list[str]):
         """Prints a difference: the words, the files that they name, and what was found."""
         self.tally.differences += 1
-        print(f"DIFFERENCE in {self.case}: {' '.join(words)}")
+        print(f"DIFFERENCE in {self.case}: {printable(shlex.join(words))}")
         for path, data in before.items():
             if path in words:
-                print(f"  given {path}: {shown(data)}")
+                print(f"  given {printable(path)}: {shown(data)}")
         for fault in faults:
-            print(f"  {fault}")
+            print(f"  {printable(fault)}")
         sys.stdout.flush()
 
 
