@@ -10,6 +10,7 @@ from collections.abc import Iterator
 from functools import partial
 
 import call_words
+import code_calls
 import faulty_files
 import file_calls
 from comparison import Comparison, Play, sampled, with_deep_stack
@@ -23,16 +24,19 @@ RANDOM = {
     "random-opened": (file_calls.changed(faulty_files.changed_lines, b"open 1 true\nopen\nopen 20\n"), file_calls.play_opened),
     "random-schedules": (file_calls.changed(faulty_files.changed_lines, GOOD_FILES["s"]), file_calls.play_schedule),
     "random-orders": (file_calls.random_orders, file_calls.play_order),
+    "random-codes": (code_calls.at_random, code_calls.play),
 }
 DIRECTED = {
-    "words": (call_words.by_hand, call_words.play),
-    "inputs": (partial(faulty_files.entry_files, False), file_calls.play_input),
-    "publics": (partial(faulty_files.entry_files, True), file_calls.play_public),
-    "tapes": (faulty_files.tape_files, file_calls.play_tapes),
-    "opened": (faulty_files.opened_files, file_calls.play_opened),
-    "schedules": (faulty_files.schedule_files, file_calls.play_schedule),
-    "orders": (file_calls.combined, file_calls.play_combined),
-    "writes": (file_calls.writing_cases, file_calls.play_writing),
+    "words": (lambda source: call_words.by_hand(), call_words.play),
+    "inputs": (lambda source: faulty_files.entry_files(False), file_calls.play_input),
+    "publics": (lambda source: faulty_files.entry_files(True), file_calls.play_public),
+    "tapes": (lambda source: faulty_files.tape_files(), file_calls.play_tapes),
+    "opened": (lambda source: faulty_files.opened_files(), file_calls.play_opened),
+    "schedules": (lambda source: faulty_files.schedule_files(), file_calls.play_schedule),
+    "orders": (lambda source: file_calls.combined(), file_calls.play_combined),
+    "writes": (lambda source: file_calls.writing_cases(), file_calls.play_writing),
+    "streams": (lambda source: file_calls.streams(), file_calls.play_streams),
+    "codes": (code_calls.by_hand, code_calls.play),
 }
 
 
@@ -44,7 +48,7 @@ def cases(part: str, seed: int, count: int) -> Iterator[Play]:
         made = make(random.Random(name), count)
     else:
         make, play = DIRECTED[part]
-        made = sampled(make, count, name)
+        made = sampled(lambda: make(random.Random(name)), count, name)
     for number, case in enumerate(made):
         yield partial(play, case, random.Random(f"{name} {number}"))
 

@@ -10,7 +10,7 @@ import threading
 import time
 from collections import Counter
 from collections.abc import Callable, Iterable, Iterator
-from dataclasses import dataclass, field
+from dataclasses import dataclass, field, replace
 from itertools import islice
 from pathlib import Path
 from tempfile import TemporaryDirectory
@@ -18,6 +18,7 @@ from tempfile import TemporaryDirectory
 from commands import Answer, Caller
 from words import FORMS
 
+FULL = "/dev/full"
 SHOWN = 2000
 PATIENCE = 600
 
@@ -28,6 +29,7 @@ class Tally:
 
     cases: int = 0
     calls: int = 0
+    codes: int = 0
     differences: int = 0
     commands: Counter[str] = field(default_factory=Counter)
     signs: Counter[str] = field(default_factory=Counter)
@@ -44,7 +46,8 @@ class Tally:
             self.ends[" ".join(parts[:2]) if parts[0] in ("trap", "tape") else parts[0]] += 1
 
     def show(self):
-        print(f"{self.cases} cases, {self.calls} calls compared, {self.differences} differences")
+        codes = f", {self.codes} code files" if self.codes else ""
+        print(f"{self.cases} cases, {self.calls} calls{codes} compared, {self.differences} differences")
         for name, counts in (("calls", self.commands), ("signs of refusals", self.signs), ("ends of runs", self.ends)):
             print(f"{name}: " + (", ".join(f"{key} {count}" for key, count in sorted(counts.items())) or "none"))
 
@@ -100,28 +103,34 @@ class Folder:
             if self.files.get(path) != data:
                 self.put(path, data)
 
-    def call(self, *words: str) -> Answer:
-        """Calls both sides, and compares."""
+    def call(self, *words: str, full: tuple[str, ...] = ()) -> Answer:
+        """Calls both sides, and compares; of the streams `full` names those that take nothing."""
         answer = self.caller.call(list(words))
+        if "stdout" in full:
+            answer = untold(answer)
+        if "stderr" in full:
+            answer = replace(answer, err=b"")
         self.tally.take(list(words), answer, self.caller)
         before = dict(self.files)
-        faults = self.faults(list(words), answer)
+        faults = self.faults(list(words), answer, full)
         if faults:
-            self.tell(list(words), before, faults)
+            self.tell([*words, *(f"{stream}=full" for stream in full)], before, faults)
         return answer
 
-    def faults(self, words: list[str], answer: Answer) -> list[str]:
+    def faults(self, words: list[str], answer: Answer, full: tuple[str, ...]) -> list[str]:
         """What the program does otherwise; the folder is left as the model says."""
         found = []
         try:
-            done = subprocess.run([str(self.program), *words], cwd=self.place, capture_output=True, timeout=PATIENCE)
+            with open(FULL, "wb") as device:
+                streams = {name: device if name in full else subprocess.PIPE for name in ("stdout", "stderr")}
+                done = subprocess.run([str(self.program), *words], cwd=self.place, timeout=PATIENCE, **streams)
         except subprocess.TimeoutExpired:
             found.append(f"no answer in {PATIENCE} seconds")
         else:
             if answer.status != done.returncode:
                 found.append(f"status: model {answer.status}, program {done.returncode}")
             for name, want, have in (("output", answer.out, done.stdout), ("error", answer.err, done.stderr)):
-                if want != have:
+                if want != (have or b""):
                     found.append(f"{name}:{sides(want, have)}")
         there = {one.name: one.read_bytes() for one in self.place.iterdir() if one.is_file()}
         self.files.update((path, there.get(path, b"") if data is None else data) for path, data in answer.written)
@@ -150,6 +159,11 @@ class Folder:
         for fault in faults:
             print(f"  {printable(fault)}")
         sys.stdout.flush()
+
+
+def untold(answer: Answer) -> Answer:
+    """The answer where the output takes nothing: a text that can't be printed is a fault, behind all writes."""
+    return Answer(16, b"", b"error: write\n", answer.written) if answer.out else answer
 
 
 Play = Callable[[Folder], None]

@@ -151,6 +151,25 @@ def play_writing(line: Line, source: random.Random, folder: Folder):
     folder.call(*line.words())
 
 
+def streams() -> Iterator[tuple[Line, tuple[str, ...]]]:
+    """Each call with streams that take nothing."""
+    for line in LINES:
+        yield from ((line, full) for full in (("stdout",), ("stderr",), ("stdout", "stderr")))
+
+
+def play_streams(case: tuple[Line, tuple[str, ...]], source: random.Random, folder: Folder):
+    """A good call, one with a wrong file, and one with a path that can't be written."""
+    line, full = case
+    folder.make_folder("folder")
+    prepared(folder, {"wrong": b"$"})
+    folder.call(*line.words(), full=full)
+    if roles(line):
+        folder.call(*with_path(line, source.choice(roles(line)), "wrong").words(), full=full)
+    for name in WRITTEN.get(line.command, ()):
+        folder.call(*line.having(name, "nowhere/x").words(), full=full)
+    folder.call(*spoiled(line.words(), source), full=full)
+
+
 def random_orders(source: random.Random, count: int) -> Iterator[tuple[Line, random.Random]]:
     for number in range(count):
         yield source.choice([line for line in LINES if line.options]), random.Random(source.getrandbits(64))
