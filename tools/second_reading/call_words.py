@@ -11,28 +11,34 @@ from words import FORMS, NUMBERS, SEEDS
 
 ALL_OPTIONS = tuple(dict.fromkeys(name for form in FORMS.values() for name in form.options))
 NO_COMMANDS = (
-    "", " ", "-", "--", "---", "-h", "--help", "-V", "--version", "help", "Check", "CHECK", "chec", "checks", "check ", " check", "check\n",
-    "--check", "-check", "check=", "miner", "trio", "audit", "upgrade", "client-map", "client-simulate", "client-twin", "p.sc", "--input",
-    "--input=i.json", "\u0441heck", "\udcff", "check\udcff",
+    "", " ", "-", "--", "---", "-h", "--help", "-V", "--version", "help", "Check", "CHECK", "chec", "checks", "check ", " check",
+    "check\n", "--check", "-check", "check=", "miner", "trio", "audit", "upgrade", "client-map", "client-simulate", "client-twin", "p.sc",
+    "--input", "--input=i.json", "\u0441heck", "\udcff", "check\udcff",
 )
 NUMBERS_SHOWN = (
-    "0", "1", "2", "3", "4", "00", "01", "003", "+1", "-1", "-0", "", " ", " 1", "1 ", "1\n", "\t1", "1.0", "1.", "1e1", "0x1", "1_0", "1,0", "one",
-    "\u0661", "\uff11", "\u00b2", "1\u00a0", "18446744073709551615", "18446744073709551616", "18446744073709551617",
+    "0", "1", "2", "3", "4", "00", "01", "003", "+1", "-1", "-0", "", " ", " 1", "1 ", "1\n", "\t1", "1.0", "1.", "1e1", "0x1", "1_0",
+    "1,0", "one", "\u0661", "\uff11", "\u00b2", "1\u00a0", "18446744073709551615", "18446744073709551616", "18446744073709551617",
     "36893488147419103233", "340282366920938463463374607431768211457", "000000000000000000000000000000018446744073709551615",
     "000000000000000000000000000000018446744073709551616", "0" * 5000 + "1", "9" * 5000, "1" + "0" * 30, "4294967296", "4294967297",
     "16777217", "016777217", "1\udcff", "--", "-", "1-", "=1", "256", "257", "65537",
 )
 SEEDS_SHOWN = (
-    "", "0", SEED[:-1], SEED + "0", SEED.upper(), SEED[:-1] + "F", SEED[:-1] + "g", SEED[:-1] + " ", " " + SEED[1:], "0x" + SEED[2:], "+" + SEED[1:],
-    "-" + SEED[1:], SEED[:-1] + "\n", SEED + "\n", SEED[:-1] + "\uff11", SEED[:-2] + "\u00e9", SEED[:-1] + "\udcff", "0" * 64, "f" * 64, SEED * 2,
-    "a" * 63, "a" * 32, SEED[:31] + "_" + SEED[32:],
+    "", "0", SEED[:-1], SEED + "0", SEED.upper(), SEED[:-1] + "F", SEED[:-1] + "g", SEED[:-1] + " ", " " + SEED[1:], "0x" + SEED[2:],
+    "+" + SEED[1:], "-" + SEED[1:], SEED[:-1] + "\n", SEED + "\n", SEED[:-1] + "\uff11", SEED[:-2] + "\u00e9", SEED[:-1] + "\udcff",
+    "0" * 64, "f" * 64, SEED * 2, "a" * 63, "a" * 32, SEED[:31] + "_" + SEED[32:],
 )
-PATHS_SHOWN = ("", " ", "-", "-x", "--", "--x", "---", "--input", "=", "=x", "-=", "gone", "gone file", "gone\nline", "gon\u00e9", "\u00e9" * 40,
-               "gone\udcff", "\udced\udca0\udc80", "folder", ".", "..", "nowhere/x", "p.sc/x", "help", "check", "'", "\\", "%s", "{}", "\x1b[0m")
-STRAY = ("--help", "-h", "--version", "-V", "-", "--", "---", "--=", "--=x", "-x", "-i", "-input", "extra", "", "help", "--no", "--no=x", "-1",
-         "--help=x", "\udcff", "--\udcff", "\u2014input", "\u2212x", "=", "-hx")
-ALTERED = (str.upper, str.title, lambda name: name[:-1], lambda name: name + "s", lambda name: name + " ", lambda name: "-" + name,
-           lambda name: "no-" + name, lambda name: name.replace("u", "\u00fc"), lambda name: name[:1])
+PATHS_SHOWN = (
+    "", " ", "-", "-x", "--", "--x", "---", "--input", "=", "=x", "-=", "gone", "gone file", "gone\nline", "gon\u00e9", "\u00e9" * 40,
+    "gone\udcff", "\udced\udca0\udc80", "folder", ".", "..", "nowhere/x", "p.sc/x", "help", "check", "'", "\\", "%s", "{}", "\x1b[0m",
+)
+STRAY = (
+    "--help", "-h", "--version", "-V", "-", "--", "---", "--=", "--=x", "-x", "-i", "-input", "extra", "", "help", "--no", "--no=x", "-1",
+    "--help=x", "\udcff", "--\udcff", "\u2014input", "\u2212x", "=", "-hx",
+)
+ALTERED = (
+    str.upper, str.title, lambda name: name[:-1], lambda name: name + "s", lambda name: name + " ", lambda name: "-" + name,
+    lambda name: "no-" + name, lambda name: name.replace("u", "\u00fc"), lambda name: name[:1],
+)
 
 
 def arranged(line: Line) -> Iterator[list[str]]:
@@ -164,7 +170,8 @@ def by_hand() -> Iterator[list[list[str]]]:
 def spoiled(words: list[str], source: random.Random) -> list[str]:
     """The same with one change."""
     words, place = list(words), source.randrange(max(len(words), 1))
-    pool = (*STRAY, *source.choice((PATHS_SHOWN, NUMBERS_SHOWN, SEEDS_SHOWN, tuple(GOOD_FILES), tuple(f"--{name}" for name in ALL_OPTIONS))))
+    options = tuple(f"--{name}" for name in ALL_OPTIONS)
+    pool = (*STRAY, *source.choice((PATHS_SHOWN, NUMBERS_SHOWN, SEEDS_SHOWN, tuple(GOOD_FILES), options)))
     choice = source.randrange(9)
     if choice == 0 or not words:
         words.insert(place, source.choice(pool))
@@ -190,12 +197,12 @@ def spoiled(words: list[str], source: random.Random) -> list[str]:
 
 
 def at_random(source: random.Random, count: int) -> Iterator[list[list[str]]]:
-    """Calls with none to three changes."""
+    """Calls in any form with none to three changes."""
     for _ in range(count):
         group = []
         for _ in range(GROUP):
             words = source.choice(list(arranged(source.choice(LINES))))
-            for _ in range(source.choice((0, 1, 1, 1, 2, 2, 3))):
+            for _ in range(source.choice((0, 0, 1, 1, 1, 2, 3))):
                 words = spoiled(words, source)
             group.append(words)
         yield group

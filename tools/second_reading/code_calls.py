@@ -16,12 +16,13 @@ from code_form import form_faults, forms_of
 from code_meaning import StrayRead, code_report
 from commands import DEFAULT_BUDGET, runnable
 from comparison import Folder
-from gates import MASK
+from random_texts import random_graph, random_text, random_typed
 from runs import Case
 from verdict import judge
 
 RUNS = 6
 LARGE_COST = 20_000
+TEXT_BUDGET = 1_000
 
 
 def report_faults(want: Report, have: Report) -> list[str]:
@@ -133,3 +134,10 @@ def by_hand(source: random.Random) -> Iterator[Case]:
 
 def at_random(source: random.Random, count: int) -> Iterator[Case]:
     return programs.cases(source, count)
+
+
+def of_texts(source: random.Random, count: int) -> Iterator[Case]:
+    """Texts that may be refused, without inputs: of the accepted ones the form of the code shows."""
+    for _ in range(count):
+        text = source.choice((random_text, random_graph, random_typed))(f"code {source.getrandbits(64)}")
+        yield Case((text.encode() if isinstance(text, str) else text).decode("latin-1"), [], TEXT_BUDGET)

@@ -44,12 +44,13 @@ class Tag(IntEnum):
     RETURN_NONE = 0x18
 
 
-# Each letter is an operand: r a register, n a name, f a function, t a target, o an operator, v the value of a branch, l a line, w a word; a call's
-# further registers stand where its `a` does.
+# Each letter is an operand: r a register, n a name, f a function, t a target, o an operator, v the value of a branch, l a line, w a word;
+# the arguments of a call stand where its `a` does.
 LAYOUTS = {
-    Tag.LITERAL: "rw", Tag.MOVE: "rr", Tag.STORE: "rr", Tag.BINARY: "orrrl", Tag.NOT: "rr", Tag.CAST: "rr", Tag.CLASSIFY: "rr", Tag.FILL: "rrrl",
-    Tag.AT: "rrrl", Tag.PUT: "rrrl", Tag.SIZE: "rr", Tag.CAT: "rrrl", Tag.SUM: "rr", Tag.BITS: "rrl", Tag.DECLASSIFY: "rr", Tag.ARGUMENT: "rnl",
-    Tag.PUBLISH: "nr", Tag.ASSERT: "rl", Tag.BRANCH: "rvt", Tag.JUMP: "t", Tag.CALL: "fral", Tag.RETURN: "r", Tag.RETURN_NONE: "",
+    Tag.LITERAL: "rw", Tag.MOVE: "rr", Tag.STORE: "rr", Tag.BINARY: "orrrl", Tag.NOT: "rr", Tag.CAST: "rr", Tag.CLASSIFY: "rr",
+    Tag.FILL: "rrrl", Tag.AT: "rrrl", Tag.PUT: "rrrl", Tag.SIZE: "rr", Tag.CAT: "rrrl", Tag.SUM: "rr", Tag.BITS: "rrl",
+    Tag.DECLASSIFY: "rr", Tag.ARGUMENT: "rnl", Tag.PUBLISH: "nr", Tag.ASSERT: "rl", Tag.BRANCH: "rvt", Tag.JUMP: "t", Tag.CALL: "fral",
+    Tag.RETURN: "r", Tag.RETURN_NONE: "",
 }
 WIDTHS = {"r": 2, "n": 2, "f": 2, "t": 2, "o": 1, "v": 1, "l": 4, "w": 8}
 BOUNDS = {"o": len(OPERATORS) - 1, "v": 1}

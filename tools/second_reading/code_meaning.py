@@ -91,13 +91,14 @@ class CodeRun(Evaluation):
     def rows(self) -> dict[Tag, Callable[..., None]]:
         return {
             Tag.LITERAL: self.literal, Tag.MOVE: lambda to, source: self.put(to, self.value(source)), Tag.STORE: self.do_store,
-            Tag.BINARY: self.do_binary, Tag.NOT: lambda to, source: self.put(to, self.flip(self.numbered(source))), Tag.CAST: self.do_cast,
-            Tag.CLASSIFY: lambda to, source: self.put(to, self.wanted(self.value(source), True)), Tag.FILL: self.do_fill, Tag.AT: self.do_at,
-            Tag.PUT: self.do_put, Tag.SIZE: self.do_size, Tag.CAT: self.do_cat, Tag.SUM: self.do_sum, Tag.BITS: self.do_bits,
-            Tag.DECLASSIFY: lambda to, source: self.put(to, self.declassify(self.numbered(source))), Tag.ARGUMENT: self.do_argument,
-            Tag.PUBLISH: lambda name, source: self.publish(self.code.names[name], self.numbered(source)), Tag.ASSERT: self.do_assert,
-            Tag.BRANCH: self.do_branch, Tag.JUMP: self.do_jump, Tag.CALL: self.do_call, Tag.RETURN: self.do_return,
-            Tag.RETURN_NONE: lambda: self.leave(None),
+            Tag.BINARY: self.do_binary, Tag.NOT: lambda to, source: self.put(to, self.flip(self.numbered(source))),
+            Tag.CAST: self.do_cast, Tag.CLASSIFY: lambda to, source: self.put(to, self.wanted(self.value(source), True)),
+            Tag.FILL: self.do_fill, Tag.AT: self.do_at, Tag.PUT: self.do_put, Tag.SIZE: self.do_size, Tag.CAT: self.do_cat,
+            Tag.SUM: self.do_sum, Tag.BITS: self.do_bits, Tag.ARGUMENT: self.do_argument,
+            Tag.DECLASSIFY: lambda to, source: self.put(to, self.declassify(self.numbered(source))),
+            Tag.PUBLISH: lambda name, source: self.publish(self.code.names[name], self.numbered(source)),
+            Tag.ASSERT: self.do_assert, Tag.BRANCH: self.do_branch, Tag.JUMP: self.do_jump, Tag.CALL: self.do_call,
+            Tag.RETURN: self.do_return, Tag.RETURN_NONE: lambda: self.leave(None),
         }
 
     def literal(self, to: int, word: int):

@@ -8,7 +8,8 @@ from chacha import tape_words
 from clear import UNBOUNDED, Input, OpenedShort, Report, Runnable, ValueType, dealer_need, evaluate, evaluate_blind, runnable_of
 from entries import read_inputs, read_public
 from files import (
-    read_opened, read_schedule, read_tapes, write_opened, write_own_tape, write_public, write_schedule, write_share, write_tapes, write_view,
+    read_opened, read_schedule, read_tapes, write_opened, write_own_tape, write_public, write_schedule, write_share, write_tapes,
+    write_view,
 )
 from joint import Direction, JointRun, SimulatedMiner, map_tapes
 from network import Outcome, default_delivery, listed_delivery, shuffled_delivery

@@ -25,6 +25,7 @@ RANDOM = {
     "random-schedules": (file_calls.changed(faulty_files.changed_lines, GOOD_FILES["s"]), file_calls.play_schedule),
     "random-orders": (file_calls.random_orders, file_calls.play_order),
     "random-codes": (code_calls.at_random, code_calls.play),
+    "text-codes": (code_calls.of_texts, code_calls.play),
 }
 DIRECTED = {
     "words": (lambda source: call_words.by_hand(), call_words.play),

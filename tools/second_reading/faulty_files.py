@@ -10,30 +10,41 @@ from files import write_inputs, write_public
 from good_calls import GOOD_FILES, LENGTHS, inputs
 
 NO_JSON = (
-    b"", b" ", b"\n", b"{", b"}", b"[", b'"', b"{}{}", b"nul", b"True", b"NaN", b"Infinity", b"-", b"+1", b"01", b"1.", b".5", b"1e", b"1e+", b"0x1", b"1_0",
-    b"- 1", b"1 2", b"'a'", b"[1,]", b"[,1]", b"[1 2]", b'{"a"}', b'{"a":}', b'{"a" 1}', b'{"a":1,}', b"{,}", b"{1:2}", b'{"a":1 "b":2}', b"[1}", b'{"a":1]',
-    b'"\n"', b'"\t"', b'"\x00"', b'"\x1f"', b'"\\x41"', b'"\\u12"', b'"\\u12g4"', b'"\\"', b'"\\ud800"', b'"\\ud800x"', b'"\\ud800\\n"', b'"\\ud800\\u0041"',
-    b'"\\ud800\\ud800"', b'"\\udc00"', b'"\\U0041"', b"\xef\xbb\xbf{}", b"\xff", b'"\xff"', b'"\xc0\x80"', b'"\xed\xa0\x80"', b'"\xf4\x90\x80\x80"', b'"\xc3"',
-    b"\xfe\xff\x00{", b"{}\x00", b"\x0b{}", b"\x0c{}", b"\xc2\xa0{}", b"// c\n{}", b"/* c */ {}", b"# c\n{}", b"{} // c", b"{}x", b"{},", b"[[]", b"1e999", b"-1e999",
-    b"1e309", b"1" + b"0" * 400, b"[1e999]", b"tru", b"truee", b"falsenull", b"nullnull", b"\\u007b}",
+    b"", b" ", b"\n", b"{", b"}", b"[", b'"', b"{}{}", b"nul", b"True", b"NaN", b"Infinity", b"-", b"+1", b"01", b"1.", b".5", b"1e",
+    b"1e+", b"0x1", b"1_0", b"- 1", b"1 2", b"'a'", b"[1,]", b"[,1]", b"[1 2]", b'{"a"}', b'{"a":}', b'{"a" 1}', b'{"a":1,}', b"{,}",
+    b"{1:2}", b'{"a":1 "b":2}', b"[1}", b'{"a":1]', b'"\n"', b'"\t"', b'"\x00"', b'"\x1f"', b'"\\x41"', b'"\\u12"', b'"\\u12g4"', b'"\\"',
+    b'"\\ud800"', b'"\\ud800x"', b'"\\ud800\\n"', b'"\\ud800\\u0041"', b'"\\ud800\\ud800"', b'"\\udc00"', b'"\\U0041"', b"\xef\xbb\xbf{}",
+    b"\xff", b'"\xff"', b'"\xc0\x80"', b'"\xed\xa0\x80"', b'"\xf4\x90\x80\x80"', b'"\xc3"', b"\xfe\xff\x00{", b"{}\x00", b"\x0b{}",
+    b"\x0c{}", b"\xc2\xa0{}", b"// c\n{}", b"/* c */ {}", b"# c\n{}", b"{} // c", b"{}x", b"{},", b"[[]", b"1e999", b"-1e999", b"1e309",
+    b"1" + b"0" * 400, b"[1e999]", b"tru", b"truee", b"falsenull", b"nullnull", b"\\u007b}",
 )
 OTHER_TOPS = (
-    b"null", b"true", b"0", b"1e5", b'"inputs"', b"[]", b'[{"inputs":[]}]', b"{}", b'{"Inputs":[]}', b'{"input":[]}', b'{"inputs":{}}', b'{"inputs":null}',
-    b'{"inputs":"[]"}', b'{"inputs":0}', b'{"inputs":[],"inputs":{}}', b'{"inputs":{},"inputs":[]}', b'{"in\\u0070uts":[]}', b'{"inputs\\u0000":[]}',
-    b'{"":[]}', b' \t\r\n{ "inputs" : [ ] } \t\r\n', b'{"inputs":[],"x":1e-999}', b'{"inputs":[],"x":0e999}', b'{"inputs":[],"x":-0.0e-0}',
-    b'{"inputs":[],"x":"\\ud83d\\ude00\\"\\\\\\/\\b\\f\\n\\r\\t\x7f"}', b'{"inputs":[],"x":"\xf0\x9f\x98\x80\xef\xbf\xbf"}', b'{"inputs":[],"x":1e308}',
-    b'{"inputs":[],"x":1.7e308}', b'{"inputs":[],"x":"\xed"}', b'{"inputs":[],"\xff":1}', b'{"inputs":[],"x":' + b"9" * 300 + b"}",
+    b"null", b"true", b"0", b"1e5", b'"inputs"', b"[]", b'[{"inputs":[]}]', b"{}", b'{"Inputs":[]}', b'{"input":[]}', b'{"inputs":{}}',
+    b'{"inputs":null}', b'{"inputs":"[]"}', b'{"inputs":0}', b'{"inputs":[],"inputs":{}}', b'{"inputs":{},"inputs":[]}',
+    b'{"in\\u0070uts":[]}', b'{"inputs\\u0000":[]}', b'{"":[]}', b' \t\r\n{ "inputs" : [ ] } \t\r\n', b'{"inputs":[],"x":1e-999}',
+    b'{"inputs":[],"x":0e999}', b'{"inputs":[],"x":-0.0e-0}', b'{"inputs":[],"x":"\\ud83d\\ude00\\"\\\\\\/\\b\\f\\n\\r\\t\x7f"}',
+    b'{"inputs":[],"x":"\xf0\x9f\x98\x80\xef\xbf\xbf"}', b'{"inputs":[],"x":1e308}', b'{"inputs":[],"x":1.7e308}',
+    b'{"inputs":[],"x":"\xed"}', b'{"inputs":[],"\xff":1}', b'{"inputs":[],"x":' + b"9" * 300 + b"}",
 )
-NAMES = ('"a"', '"Z_9"', '"_"', '"0"', '"' + "n" * 64 + '"', '"' + "n" * 65 + '"', '""', '" a"', '"a "', '"a-b"', '"a.b"', '"\u00e9"', '"\\u0061b"', '"a\\u0000"', '"\\n"',
-         "null", "1", "true", "[]", "{}", '["a"]', '"\u0430"', '"\uff41"', '"public"', '"a\\nb"')
-DOMAINS = ('"public"', '"private"', '"Private"', '"p"', '""', '"public "', "null", "true", "0", "[]", '["private"]', '"privat\\u0065"', '"shared3p"')
+NAMES = (
+    '"a"', '"Z_9"', '"_"', '"0"', '"' + "n" * 64 + '"', '"' + "n" * 65 + '"', '""', '" a"', '"a "', '"a-b"', '"a.b"', '"\u00e9"',
+    '"\\u0061b"', '"a\\u0000"', '"\\n"', "null", "1", "true", "[]", "{}", '["a"]', '"\u0430"', '"\uff41"', '"public"', '"a\\nb"',
+)
+DOMAINS = (
+    '"public"', '"private"', '"Private"', '"p"', '""', '"public "', "null", "true", "0", "[]", '["private"]', '"privat\\u0065"',
+    '"shared3p"',
+)
 TYPES = ('"uint64"', '"bool"', '"uint"', '"Bool"', '"int64"', '"uint64[[1]]"', '""', "null", "64", "[]", '"boo\\u006c"')
-VALUES = ("0", "1", "5", "18446744073709551615", "18446744073709551616", "99999999999999999999999", "-1", "-0", "0.0", "1.0", "1e0", "1E2", "0e0", "1.5",
-          "9223372036854775808", "-9223372036854775809", "true", "false", "null", '"6"', '"true"', '""', "{}", "[]", "[0]", "[true]", "[1,2,3]", "[true,false]",
-          "[1,true]", "[true,1]", "[[1]]", "[[]]", "[null]", "[1,null]", '["1"]', "[1,-1]", "[1.0]", "[1,2,18446744073709551616]", "{\"value\":1}", "[{}]",
-          "1e999", "01", "[01]", "[1,]")
-SHAPES = ('"scalar"', "0", "1", "3", "65536", "65537", "18446744073709551615", "18446744073709551616", "-1", "1.0", "-0", "null", "true", '"array"', '"Scalar"', '""',
-          '"3"', "[]", "[3]", "{}", '"scala\\u0072"', "1e3")
+VALUES = (
+    "0", "1", "5", "18446744073709551615", "18446744073709551616", "99999999999999999999999", "-1", "-0", "0.0", "1.0", "1e0", "1E2",
+    "0e0", "1.5", "9223372036854775808", "-9223372036854775809", "true", "false", "null", '"6"', '"true"', '""', "{}", "[]", "[0]",
+    "[true]", "[1,2,3]", "[true,false]", "[1,true]", "[true,1]", "[[1]]", "[[]]", "[null]", "[1,null]", '["1"]', "[1,-1]", "[1.0]",
+    "[1,2,18446744073709551616]", "{\"value\":1}", "[{}]", "1e999", "01", "[01]", "[1,]",
+)
+SHAPES = (
+    '"scalar"', "0", "1", "3", "65536", "65537", "18446744073709551615", "18446744073709551616", "-1", "1.0", "-0", "null", "true",
+    '"array"', '"Scalar"', '""', '"3"', "[]", "[3]", "{}", '"scala\\u0072"', "1e3",
+)
 FIELDS = ("name", "domain", "type", "value")
 GOOD = {"name": '"a"', "domain": '"private"', "type": '"uint64"', "value": "6"}
 SHOWN = {"name": NAMES, "domain": DOMAINS, "type": TYPES, "value": VALUES, "shape": SHAPES}
@@ -148,7 +159,8 @@ def entry_files(has_shapes: bool) -> Iterator[bytes]:
 
 
 TOKENS = tuple(text.encode() for text in (
-    *NAMES, *DOMAINS, *TYPES, *VALUES, *SHAPES, *(f'"{field}"' for field in (*FIELDS, "shape", "inputs", "share")), "{", "}", "[", "]", ",", ":", " ", "\n", "\x0b",
+    *NAMES, *DOMAINS, *TYPES, *VALUES, *SHAPES, *(f'"{field}"' for field in (*FIELDS, "shape", "inputs", "share")), "{", "}", "[", "]", ",",
+    ":", " ", "\n", "\x0b",
     "\\u0061", "\\ud800", "\ufeff"))
 
 
@@ -229,10 +241,11 @@ def tape_files() -> Iterator[bytes]:
 
 OPENED_LINES = (
     "open", "open 0", "open 1", "open true", "open false", "open 1 true 0", "open 18446744073709551615", "open 18446744073709551616",
-    "open 99999999999999999999", "open 01", "open 00", "open -1", "open -0", "open +1", "open 1.0", "open 0x1", "open True", "open TRUE", "open tru",
-    "open truefalse", "open x", "open ", "open  1", "open 1 ", "open 1  2", " open 1", "open\t1", "open 1\t2", "open 1\r", "open 1\x0b", "open 1\x00", "opne 13", "Open 1",
-    "ope", "opened 1", "open1", "open,1", "", " ", "end done cost 7", "publish s 1", "open \u0661", "\u00e9", "open 1\u00a02", "open '1'", "\ufeffopen 1", "open 1_0",
-    "open 1e1", "open 0" + "0" * 30, "open " + "9" * 100,
+    "open 99999999999999999999", "open 01", "open 00", "open -1", "open -0", "open +1", "open 1.0", "open 0x1", "open True", "open TRUE",
+    "open tru", "open truefalse", "open x", "open ", "open  1", "open 1 ", "open 1  2", " open 1", "open\t1", "open 1\t2", "open 1\r",
+    "open 1\x0b", "open 1\x00", "opne 13", "Open 1", "ope", "opened 1", "open1", "open,1", "", " ", "end done cost 7", "publish s 1",
+    "open \u0661", "\u00e9", "open 1\u00a02", "open '1'", "\ufeffopen 1", "open 1_0", "open 1e1", "open 0" + "0" * 30,
+    "open " + "9" * 100,
 )
 
 
@@ -251,8 +264,10 @@ def opened_files() -> Iterator[bytes]:
     yield b"open 1\r\nopen 2\r\n"
 
 
-SCHEDULE_LINES = ("11", "22", "33", "10", "01", "14", "41", "1", "2", "123", "", " ", " 12", "12 ", "12\r", "1 2", "1-2", "012", "+12", "12.", "xx", "12\x00", "\t12", "12,", "l2", "\uff11\uff12",
-                  "\ufeff12", "12 13", "1213")
+SCHEDULE_LINES = (
+    "11", "22", "33", "10", "01", "14", "41", "1", "2", "123", "", " ", " 12", "12 ", "12\r", "1 2", "1-2", "012", "+12", "12.", "xx",
+    "12\x00", "\t12", "12,", "l2", "\uff11\uff12", "\ufeff12", "12 13", "1213",
+)
 
 
 def schedule_files() -> Iterator[bytes]:
@@ -277,7 +292,9 @@ def schedule_files() -> Iterator[bytes]:
     yield "".join(good).encode() + b"\xff\n"
 
 
-LINE_TOKENS = (b"\n", b" ", b"open", b"open ", b"true", b"0", b"1", b"2", b"3", b"12\n", b"31\n", b"\r", b"\xff", b"\x00", b"18446744073709551616")
+LINE_TOKENS = (
+    b"\n", b" ", b"open", b"open ", b"true", b"0", b"1", b"2", b"3", b"12\n", b"31\n", b"\r", b"\xff", b"\x00", b"18446744073709551616",
+)
 
 
 def changed_lines(data: bytes, source: random.Random) -> bytes:
