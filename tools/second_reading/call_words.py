@@ -144,8 +144,7 @@ def bounded(line: Line) -> Iterator[list[str]]:
             yield replace(line.having("budget", value), places=line.places[:-1] + ("gone",)).words()
 
 
-FAULTS = {"forms": arranged, "options": faulty_options, "strays": added, "values": valued, "sources": sources, "bounds": bounded}
-GROUP = 12
+MANNERS = (arranged, faulty_options, added, valued, sources, bounded)
 
 
 def without_command() -> Iterator[list[str]]:
@@ -157,14 +156,11 @@ def without_command() -> Iterator[list[str]]:
         yield [word, "check", "p.sc"]
 
 
-def by_hand() -> Iterator[list[list[str]]]:
-    """Calls in small groups, each played in one folder."""
-    whole = list(without_command())
+def by_hand() -> Iterator[list[str]]:
+    yield from without_command()
     for line in LINES:
-        for make in FAULTS.values():
-            whole += make(line)
-    for begin in range(0, len(whole), GROUP):
-        yield whole[begin : begin + GROUP]
+        for make in MANNERS:
+            yield from make(line)
 
 
 def spoiled(words: list[str], source: random.Random) -> list[str]:
@@ -196,23 +192,15 @@ def spoiled(words: list[str], source: random.Random) -> list[str]:
     return words
 
 
-def at_random(source: random.Random, count: int) -> Iterator[list[list[str]]]:
+def at_random(source: random.Random, count: int) -> Iterator[list[str]]:
     """Calls in any form with none to three changes."""
+    forms = [list(arranged(line)) for line in LINES]
     for _ in range(count):
-        group = []
-        for _ in range(GROUP):
-            words = source.choice(list(arranged(source.choice(LINES))))
-            for _ in range(source.choice((0, 0, 1, 1, 1, 2, 3))):
-                words = spoiled(words, source)
-            group.append(words)
-        yield group
+        words = source.choice(source.choice(forms))
+        for _ in range(source.choice((0, 0, 1, 1, 1, 2, 3))):
+            words = spoiled(words, source)
+        yield words
 
 
-def play(group: list[list[str]], source: random.Random, folder: Folder):
-    """The calls of a group over the good files, each of which finds the files as they were."""
-    folder.make_folder("folder")
-    for path, data in GOOD_FILES.items():
-        folder.put(path, data)
-    for words in group:
-        folder.call(*words)
-        folder.reset(GOOD_FILES)
+def play(words: list[str], source: random.Random, folder: Folder):
+    folder.call(*words)

@@ -127,8 +127,8 @@ def play(case: Case, source: random.Random, folder: Folder):
         folder.tell(words, folder.files, faults[:8])
 
 
-def by_hand(source: random.Random) -> Iterator[Case]:
-    """The edges, and each operation."""
+def by_hand(source: random.Random, count: int) -> Iterator[Case]:
+    """The edges, and each operation, however many they are."""
     return chain(edges.cases(), directed_runs.operations(source))
 
 

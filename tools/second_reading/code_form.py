@@ -188,7 +188,7 @@ class FormMaker:
         return result(kind)
 
     def binary(self, node: tree.Binary) -> int:
-        """An operator; one that may cut short is a test and its right operand."""
+        """An operator; one that may cut short is a test and its right operand. A connective of scalars can't trap: its line is 0."""
         left_type, right_type = self.recorder.types[node.left], self.recorder.types[node.right]
         left = self.value(node.left)
         if node.operator in ("&&", "||") and not left & (PRIVATE | ARRAY) and not right_type.dimension:
@@ -202,7 +202,8 @@ class FormMaker:
         if not (operator == "*" or operator == "&" and left_type.data is Data.TRUTH):
             left, right = self.stored(left, private), self.stored(right, private)
         to = private | (left | right) & ARRAY | (TRUTH if operator in COMPARISONS else left & TRUTH)
-        self.does(Tag.BINARY, operator, to, left, right, self.line(node))
+        has_line = node.operator == operator or to & ARRAY
+        self.does(Tag.BINARY, operator, to, left, right, self.line(node) if has_line else 0)
         return to
 
     def call(self, node: tree.Call) -> int | None:

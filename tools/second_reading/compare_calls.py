@@ -8,6 +8,7 @@ import random
 import sys
 from collections.abc import Iterator
 from functools import partial
+from itertools import islice
 
 import call_words
 import code_calls
@@ -24,38 +25,46 @@ RANDOM = {
     "random-opened": (file_calls.changed(faulty_files.changed_lines, b"open 1 true\nopen\nopen 20\n"), file_calls.play_opened),
     "random-schedules": (file_calls.changed(faulty_files.changed_lines, GOOD_FILES["s"]), file_calls.play_schedule),
     "random-orders": (file_calls.random_orders, file_calls.play_order),
-    "random-codes": (code_calls.at_random, code_calls.play),
-    "text-codes": (code_calls.of_texts, code_calls.play),
 }
 DIRECTED = {
-    "words": (lambda source: call_words.by_hand(), call_words.play),
-    "inputs": (lambda source: faulty_files.entry_files(False), file_calls.play_input),
-    "publics": (lambda source: faulty_files.entry_files(True), file_calls.play_public),
-    "tapes": (lambda source: faulty_files.tape_files(), file_calls.play_tapes),
-    "opened": (lambda source: faulty_files.opened_files(), file_calls.play_opened),
-    "schedules": (lambda source: faulty_files.schedule_files(), file_calls.play_schedule),
-    "orders": (lambda source: file_calls.combined(), file_calls.play_combined),
-    "writes": (lambda source: file_calls.writing_cases(), file_calls.play_writing),
-    "streams": (lambda source: file_calls.streams(), file_calls.play_streams),
-    "codes": (code_calls.by_hand, code_calls.play),
+    "words": (call_words.by_hand, call_words.play),
+    "inputs": (lambda: faulty_files.entry_files(False), file_calls.play_input),
+    "publics": (lambda: faulty_files.entry_files(True), file_calls.play_public),
+    "tapes": (faulty_files.tape_files, file_calls.play_tapes),
+    "opened": (faulty_files.opened_files, file_calls.play_opened),
+    "schedules": (faulty_files.schedule_files, file_calls.play_schedule),
+    "orders": (file_calls.combined, file_calls.play_combined),
+    "writes": (file_calls.writing_cases, file_calls.play_writing),
+    "streams": (file_calls.streams, file_calls.play_streams),
 }
+CODES = {"random-codes": code_calls.at_random, "text-codes": code_calls.of_texts, "codes": code_calls.by_hand}
+GROUP = 10
+
+
+def groups(made: Iterator) -> Iterator[list]:
+    """Cases together that are played in one folder."""
+    while group := list(islice(made, GROUP)):
+        yield group
 
 
 def cases(part: str, seed: int, count: int) -> Iterator[Play]:
-    """The cases of a part: each is played in a folder."""
+    """The cases of a part, each of which is played in a folder of its own: a program with its code, or a group of calls."""
     name = f"{seed} {part}"
-    if part in RANDOM:
-        make, play = RANDOM[part]
-        made = make(random.Random(name), count)
+    if part in CODES:
+        play = code_calls.play
+        made = sampled(lambda: CODES[part](random.Random(name), count), count, name)
+    elif part in RANDOM:
+        make, play = RANDOM[part][0], file_calls.in_turn(RANDOM[part][1])
+        made = groups(make(random.Random(name), GROUP * count))
     else:
-        make, play = DIRECTED[part]
-        made = sampled(lambda: make(random.Random(name)), count, name)
+        make, play = DIRECTED[part][0], file_calls.in_turn(DIRECTED[part][1])
+        made = sampled(lambda: groups(iter(make())), count, name)
     for number, case in enumerate(made):
         yield partial(play, case, random.Random(f"{name} {number}"))
 
 
 def main() -> int:
-    comparison = Comparison("Compares answers to words and on files.", [*RANDOM, *DIRECTED])
+    comparison = Comparison("Compares answers to words and on files.", [*RANDOM, *DIRECTED, *CODES])
     for part in comparison.options.part:
         comparison.play(part, cases(part, comparison.options.seed, comparison.options.cases))
     return comparison.finish()

@@ -91,6 +91,10 @@ class Folder:
         self.folders.add(path)
         (self.place / path).mkdir()
 
+    def remove_folder(self, path: str):
+        self.folders.remove(path)
+        (self.place / path).rmdir()
+
     def remove(self, path: str):
         del self.files[path]
         (self.place / path).unlink()

@@ -20,14 +20,24 @@ def line_of(command: str, nth: int = 0) -> Line:
     return [line for line in LINES if line.command == command][nth]
 
 
-def prepared(folder: Folder, given: dict[str, bytes]):
-    for path, data in {**FILES, **given}.items():
-        folder.put(path, data)
+FOLDER = "folder"
+
+
+def in_turn(play):
+    """Plays the cases of a group in one folder, each of which finds the good files alone."""
+
+    def play_group(group: list, source: random.Random, folder: Folder):
+        folder.make_folder(FOLDER)
+        for case in group:
+            folder.reset(FILES)
+            play(case, source, folder)
+
+    return play_group
 
 
 def play_input(data: bytes, source: random.Random, folder: Folder):
     """An input file: dealt, where its shares show all that was read, and given to another command."""
-    prepared(folder, {"x": data})
+    folder.put("x", data)
     folder.call("deal", "--input", "x", "--tape", "z", "--to", "d")
     command = source.choice(("eval", "need", "run", "map", "twin", "twin"))
     line = line_of(command).having(source.choice(("input", "second")) if command == "twin" else "input", "x")
@@ -36,24 +46,24 @@ def play_input(data: bytes, source: random.Random, folder: Folder):
 
 def play_public(data: bytes, source: random.Random, folder: Folder):
     """A public file: its private entries show in the view."""
-    prepared(folder, {"x": data})
+    folder.put("x", data)
     line = line_of("simulate", 1).having("public", "x")
     folder.call(*replace(line, places=(source.choice("123"), "p.sc")).having("sim", source.choice(("z", "z", "sim"))).words())
 
 
 def play_opened(data: bytes, source: random.Random, folder: Folder):
-    prepared(folder, {"x": data})
+    folder.put("x", data)
     folder.call(*replace(line_of("simulate", source.randrange(2)), places=(source.choice("123"), "p.sc")).having("opened", "x").words())
 
 
 def play_tapes(data: bytes, source: random.Random, folder: Folder):
-    prepared(folder, {"x": data})
+    folder.put("x", data)
     for command in source.sample(("run", "map", "twin", "deal", "simulate"), 2):
         folder.call(*line_of(command).having("sim" if command == "simulate" else "tape", "x").words())
 
 
 def play_schedule(data: bytes, source: random.Random, folder: Folder):
-    prepared(folder, {"x": data})
+    folder.put("x", data)
     folder.call(*line_of(source.choice(("run", "simulate"))).having("schedule", "x").words())
 
 
@@ -96,20 +106,18 @@ def combined() -> Iterator[tuple[Line, tuple[str, ...]]]:
 
 def play_combined(case: tuple[Line, tuple[str, ...]], source: random.Random, folder: Folder):
     line, states = case
-    folder.make_folder("folder")
-    prepared(folder, {})
     for role, state in zip(roles(line), states):
         if state == "wrong":
             folder.put(f"wrong {role}", source.choice(WRONG[role] + LATER.get(role, ())))
             line = with_path(line, role, f"wrong {role}")
         elif state == "gone":
-            line = with_path(line, role, source.choice(("gone", "", "folder", ".", "nowhere/x", f"gone {role}")))
+            line = with_path(line, role, source.choice(("gone", "", FOLDER, ".", "nowhere/x", f"gone {role}")))
     folder.call(*line.words())
     if source.random() < 0.3:
         folder.call(*spoiled(line.words(), source))
 
 
-WRITING = ("new", "folder", "nowhere/x", "", "p.sc", "i.json", "t", "s", "both")
+WRITING = ("new", FOLDER, "nowhere/x", "", "p.sc", "i.json", "t", "s", "both")
 
 
 def written() -> Iterator[Line]:
@@ -123,32 +131,34 @@ def written() -> Iterator[Line]:
             yield made
 
 
-def prefixed() -> Iterator[Line]:
-    """Each prefix with a folder where one of its files is to be written; the folder is named as that file."""
+def prefixed() -> Iterator[tuple[Line, str]]:
+    """Each prefix with a file of it that is a folder."""
     for command, name, endings in (("run", "views", ("1", "2", "3")), ("deal", "to", ("1", "2", "3", "t1", "t2", "t3"))):
         for ending in endings:
-            line = line_of(command).having(name, "kept")
-            yield replace(line, options=(*line.options, ("", f"kept.{ending}")))
+            yield line_of(command).having(name, "kept"), f"kept.{ending}"
 
 
-def writing_cases() -> Iterator[Line]:
-    yield from written()
+def writing_cases() -> Iterator[tuple[Line, str | None]]:
+    """Calls that write, perhaps with one more folder."""
+    yield from ((line, None) for line in written())
     yield from prefixed()
 
 
-def play_writing(line: Line, source: random.Random, folder: Folder):
-    """A call that writes; a last option without a name stands for a folder."""
-    options = dict(line.options)
-    if "" in options:
-        folder.make_folder(options.pop(""))
-        line = replace(line, options=tuple(options.items()))
-    folder.make_folder("folder")
-    prepared(folder, {"both": b"as it was", "kept.1": b"as it was"} if "kept.1" not in folder.folders else {"both": b""})
+def play_writing(case: tuple[Line, str | None], source: random.Random, folder: Folder):
+    """A call that writes, seldom with a wrong file; what stood on its paths is another file then."""
+    line, path = case
+    if path is not None:
+        folder.make_folder(path)
+    for kept in ("both", "kept.1", "kept.t2"):
+        if kept != path:
+            folder.put(kept, b"as it was")
     if source.random() < 0.2:
         role = source.choice(roles(line))
         folder.put("wrong", source.choice(WRONG[role] + LATER.get(role, ())))
         line = with_path(line, role, "wrong")
     folder.call(*line.words())
+    if path is not None:
+        folder.remove_folder(path)
 
 
 def streams() -> Iterator[tuple[Line, tuple[str, ...]]]:
@@ -160,8 +170,7 @@ def streams() -> Iterator[tuple[Line, tuple[str, ...]]]:
 def play_streams(case: tuple[Line, tuple[str, ...]], source: random.Random, folder: Folder):
     """A good call, one with a wrong file, and one with a path that can't be written."""
     line, full = case
-    folder.make_folder("folder")
-    prepared(folder, {"wrong": b"$"})
+    folder.put("wrong", b"$")
     folder.call(*line.words(), full=full)
     if roles(line):
         folder.call(*with_path(line, source.choice(roles(line)), "wrong").words(), full=full)
@@ -176,22 +185,16 @@ def random_orders(source: random.Random, count: int) -> Iterator[tuple[Line, ran
 
 
 def play_order(case: tuple[Line, random.Random], source: random.Random, folder: Folder):
-    """Some calls of any files on any paths."""
+    """A call of any files on any paths."""
     line, source = case
-    folder.make_folder("folder")
-    prepared(folder, {})
-    kept = dict(folder.files)
-    for _ in range(6):
-        made, faults = line, source.choice((1, 2, 2, 3, 4))
-        for role in source.sample(roles(line), min(faults, len(roles(line)))):
-            folder.put(f"x {role}", any_file(role, source))
-            made = with_path(made, role, source.choice((f"x {role}", f"x {role}", f"x {role}", "gone", *kept)))
-        for name in WRITTEN.get(line.command, ()):
-            if source.random() < 0.3:
-                made = made.having(name, source.choice(WRITING))
-        words = made.words()
-        folder.call(*(spoiled(words, source) if source.random() < 0.15 else words))
-        folder.reset(kept)
+    for role in source.sample(roles(line), min(source.choice((1, 2, 2, 3, 4)), len(roles(line)))):
+        folder.put(f"x {role}", any_file(role, source))
+        line = with_path(line, role, source.choice((f"x {role}", f"x {role}", f"x {role}", "gone", *FILES)))
+    for name in WRITTEN.get(line.command, ()):
+        if source.random() < 0.3:
+            line = line.having(name, source.choice(WRITING))
+    words = line.words()
+    folder.call(*(spoiled(words, source) if source.random() < 0.15 else words))
 
 
 def any_file(role: str, source: random.Random) -> bytes:
