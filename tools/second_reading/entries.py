@@ -2,6 +2,7 @@
 from __future__ import annotations
 
 import re
+from functools import lru_cache
 
 from clear import Input, ValueType
 from json_text import NoJson, json_value
@@ -12,8 +13,8 @@ ELEMENT_LIMIT = 65_536
 NAME_FORM = re.compile(r"[A-Za-z0-9_]{1,64}")
 
 
-def refused(what: str) -> CallRefused:
-    return CallRefused(what, 4)
+class EntryFault(Exception):
+    """The first fault of an entry, as it is told."""
 
 
 def is_of(value, data: Data) -> bool:
@@ -27,8 +28,8 @@ class EntryReader:
     def __init__(self, entry, number: int):
         self.fields, self.number = entry if isinstance(entry, dict) else {}, number
 
-    def bad(self, field: str) -> CallRefused:
-        return refused(f"I2 entry {self.number} {field}")
+    def bad(self, field: str) -> EntryFault:
+        return EntryFault(f"I2 entry {self.number} {field}")
 
     def name(self, taken: set[str]) -> str:
         name = self.fields.get("name")
@@ -64,7 +65,7 @@ class EntryReader:
 
     def count(self, elements: int):
         if elements > ELEMENT_LIMIT:
-            raise refused(f"I3 entry {self.number}")
+            raise EntryFault(f"I3 entry {self.number}")
 
     def read(self, taken: set[str], has_shapes: bool) -> Input:
         name = self.name(taken)
@@ -74,21 +75,31 @@ class EntryReader:
         return Input(name, ValueType(private, data, array), words)
 
 
-def read_entries(data: bytes, has_shapes: bool) -> list[Input]:
-    """The entries of a file, one after the other."""
+@lru_cache(maxsize=4)
+def entries_or_fault(data: bytes, has_shapes: bool) -> tuple[Input, ...] | str:
+    """The entries of a file, or the line of its first fault."""
     try:
         whole = json_value(data)
+        entries = whole.get("inputs") if isinstance(whole, dict) else None
+        if not isinstance(entries, list):
+            return "I2 inputs"
+        found: list[Input] = []
+        taken: set[str] = set()
+        for number, entry in enumerate(entries):
+            found.append(EntryReader(entry, number).read(taken, has_shapes))
+            taken.add(found[-1].name)
+        return tuple(found)
     except NoJson:
-        raise refused("I1") from None
-    entries = whole.get("inputs") if isinstance(whole, dict) else None
-    if not isinstance(entries, list):
-        raise refused("I2 inputs")
-    found: list[Input] = []
-    taken: set[str] = set()
-    for number, entry in enumerate(entries):
-        found.append(EntryReader(entry, number).read(taken, has_shapes))
-        taken.add(found[-1].name)
-    return found
+        return "I1"
+    except EntryFault as fault:
+        return str(fault)
+
+
+def read_entries(data: bytes, has_shapes: bool) -> list[Input]:
+    found = entries_or_fault(data, has_shapes)
+    if isinstance(found, str):
+        raise CallRefused(found, 4)
+    return list(found)
 
 
 def read_inputs(data: bytes) -> list[Input]:

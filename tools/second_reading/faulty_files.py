@@ -105,23 +105,20 @@ def long_value(count: int, last: str = "1") -> str:
 
 def large_files(has_shapes: bool) -> Iterator[bytes]:
     """Sizes about the limit, beside other faults."""
-    other, bad = entry(name='"b"'), entry(name='"-"')
-    fields = [{"value": long_value(count)} for count in (65_535, 65_536, 65_537)]
-    fields += [{"value": long_value(65_537, "-1")}, {"type": '"bool"', "value": long_value(65_537)}, {"value": long_value(65_537, "true")}]
-    if has_shapes:
-        fields = [{**one, "domain": '"public"'} for one in fields]
-        other = shown({**as_shape(GOOD), "name": '"b"'})
-    for one in fields:
-        large = entry(**one)
-        yield whole(large)
-        yield whole(other, large)
+    base = as_shape(GOOD) if has_shapes else GOOD
+    other, bad = shown({**base, "name": '"b"'}), shown({**base, "name": '"-"'})
+    for shape in ("65536", "65537", "18446744073709551616") if has_shapes else ():
+        large = shown({**base, "shape": shape})
+        yield from (whole(large, bad), whole(bad, large), whole(other, large, bad))
+    for count, last in ((65_536, "1"), (65_537, "1"), (65_537, "-1"), (65_537, "true")):
+        large = entry(domain='"public"', value=long_value(count, last))
         yield whole(large, bad)
-        yield whole(bad, large)
-    if has_shapes:
-        for shape in ("65536", "65537", "18446744073709551616"):
-            large = shown(as_shape({**GOOD, "shape": shape}))
-            yield whole(large, bad)
-            yield whole(other, large)
+        yield whole(other, large)
+        if last == "1":
+            yield whole(bad, large)
+            yield whole(large.replace("public", "private"), bad)
+            yield whole(large.replace("uint64", "bool"), bad)
+    yield whole(entry(domain='"public"', type='"bool"', value=long_value(65_537).replace("0", "true").replace("1", "true")), bad)
 
 
 def deep_files() -> Iterator[bytes]:

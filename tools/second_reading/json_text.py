@@ -10,7 +10,7 @@ NUMBER = re.compile(r"(-?)(0|[1-9][0-9]*)((?:\.[0-9]+)?(?:[eE][+-]?[0-9]+)?)")
 PLAIN = re.compile(r'[^"\\\x00-\x1f]*')
 FOUR = re.compile(r"[0-9a-fA-F]{4}")
 ESCAPES = {'"': '"', "\\": "\\", "/": "/", "b": "\b", "f": "\f", "n": "\n", "r": "\r", "t": "\t"}
-LITERALS = (("true", True), ("false", False), ("null", None))
+LITERALS = {"t": ("true", True), "f": ("false", False), "n": ("null", None)}
 
 
 class NoJson(Exception):
@@ -47,17 +47,19 @@ class Reader:
 
     def value(self, level: int):
         self.blanks()
-        if self.text.startswith(("[", "{"), self.place) and level == LEVELS:
-            raise NoJson
-        if self.sees("["):
-            return self.array(level + 1)
-        if self.sees("{"):
-            return self.object(level + 1)
-        if self.sees('"'):
+        sign = self.text[self.place : self.place + 1]
+        if sign in ("[", "{"):
+            if level == LEVELS:
+                raise NoJson
+            self.place += 1
+            return self.array(level + 1) if sign == "[" else self.object(level + 1)
+        if sign == '"':
+            self.place += 1
             return self.string()
-        for word, value in LITERALS:
-            if self.sees(word):
-                return value
+        if sign in LITERALS:
+            word, value = LITERALS[sign]
+            self.want(word)
+            return value
         return self.number()
 
     def array(self, level: int) -> list:
