@@ -107,20 +107,29 @@ def added(line: Line) -> Iterator[list[str]]:
         yield [*words[:place], words[place] + "\udcff", *words[place + 1 :]]
 
 
-def valued(line: Line) -> Iterator[list[str]]:
-    """Each place and each option with values that are good or not."""
+def valued(line: Line, shown: dict[str, tuple[str, ...]]) -> Iterator[list[str]]:
+    """Each place and each option of these names with these values, in one form or another."""
     for name, _ in line.options:
-        shown = NUMBERS_SHOWN if name in NUMBERS else SEEDS_SHOWN if name in SEEDS else PATHS_SHOWN
-        for value in shown:
-            yield line.having(name, value).words()
-            changed = [f"--{one}={other}" for one, other in line.having(name, value).options]
-            yield [line.command, *changed, *line.places]
-    names = FORMS[line.command].places
-    for place, name in enumerate(names):
-        for value in NUMBERS_SHOWN if name in NUMBERS else PATHS_SHOWN:
-            changed = replace(line, places=line.places[:place] + (value,) + line.places[place + 1 :])
-            yield changed.words()
-            yield [line.command, *(word for one, other in line.options for word in (f"--{one}", other)), "--", *changed.places]
+        for number, value in enumerate(shown.get(name, ())):
+            joined = [f"--{one}={other}" for one, other in line.having(name, value).options]
+            yield [line.command, *joined, *line.places] if number % 2 else line.having(name, value).words()
+    flat = [word for name, value in line.options for word in (f"--{name}", value)]
+    for place, name in enumerate(FORMS[line.command].places):
+        for number, value in enumerate(shown.get(name, ())):
+            places = line.places[:place] + (value,) + line.places[place + 1 :]
+            yield [line.command, *flat, "--", *places] if number % 2 else replace(line, places=places).words()
+
+
+def numbered(line: Line) -> Iterator[list[str]]:
+    """Numbers and seeds, each in both forms."""
+    yield from valued(line, {**{name: NUMBERS_SHOWN for name in NUMBERS}, **{name: SEEDS_SHOWN for name in SEEDS}})
+    yield from valued(line, {**{name: NUMBERS_SHOWN[1:] for name in NUMBERS}, **{name: SEEDS_SHOWN[1:] for name in SEEDS}})
+
+
+def pathed(line: Line) -> Iterator[list[str]]:
+    """Paths."""
+    names = [name for name in (*FORMS[line.command].places, *FORMS[line.command].options) if name not in (*NUMBERS, *SEEDS)]
+    yield from valued(line, {name: PATHS_SHOWN for name in names})
 
 
 def sources(line: Line) -> Iterator[list[str]]:
@@ -144,7 +153,9 @@ def bounded(line: Line) -> Iterator[list[str]]:
             yield replace(line.having("budget", value), places=line.places[:-1] + ("gone",)).words()
 
 
-MANNERS = (arranged, faulty_options, added, valued, sources, bounded)
+PARTS = {
+    "words": (arranged, sources, bounded), "options": (faulty_options,), "strays": (added,), "numbers": (numbered,), "paths": (pathed,),
+}
 
 
 def without_command() -> Iterator[list[str]]:
@@ -156,10 +167,12 @@ def without_command() -> Iterator[list[str]]:
         yield [word, "check", "p.sc"]
 
 
-def by_hand() -> Iterator[list[str]]:
-    yield from without_command()
+def by_hand(part: str) -> Iterator[list[str]]:
+    """The command lines of a part."""
+    if part == "words":
+        yield from without_command()
     for line in LINES:
-        for make in MANNERS:
+        for make in PARTS[part]:
             yield from make(line)
 
 

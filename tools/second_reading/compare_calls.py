@@ -27,7 +27,7 @@ RANDOM = {
     "random-orders": (file_calls.random_orders, file_calls.play_order),
 }
 DIRECTED = {
-    "words": (call_words.by_hand, call_words.play),
+    **{part: (partial(call_words.by_hand, part), call_words.play) for part in call_words.PARTS},
     "inputs": (lambda: faulty_files.entry_files(False), file_calls.play_input),
     "publics": (lambda: faulty_files.entry_files(True), file_calls.play_public),
     "tapes": (faulty_files.tape_files, file_calls.play_tapes),
