@@ -6,8 +6,7 @@ import random
 import struct
 from collections.abc import Iterator
 
-from files import write_inputs, write_public
-from good_calls import GOOD_FILES, LENGTHS, inputs
+from good_calls import GOOD_FILES, LENGTHS
 
 NO_JSON = (
     b"", b" ", b"\n", b"{", b"}", b"[", b'"', b"{}{}", b"nul", b"True", b"NaN", b"Infinity", b"-", b"+1", b"01", b"1.", b".5", b"1e",
@@ -308,7 +307,3 @@ def changed_tapes(data: bytes, source: random.Random) -> bytes:
     place = 8 * source.randrange(4)
     length = source.choice((source.randrange(40), source.getrandbits(64), 1 << source.randrange(64), (1 << 24) + source.randrange(-1, 2)))
     return data[:place] + struct.pack("<Q", length) + data[place + 8 :] if choice < 3 else data[: source.randrange(40)]
-
-
-GOOD_PUBLIC = write_public(inputs(0, (0, 0, 0)))
-GOOD_INPUTS = write_inputs(inputs(6, (1, 0, 1)))

@@ -3,27 +3,25 @@ from __future__ import annotations
 
 import itertools
 import random
-from collections.abc import Iterator
+from collections.abc import Callable, Iterator
 from dataclasses import replace
 
 import faulty_files
 from call_words import spoiled
 from comparison import Folder
 from files import write_tapes
-from good_calls import GOOD_FILES, LINES, SEED, WRITTEN, Line, is_read
+from good_calls import GOOD_FILES, LINES, WRITTEN, Line, is_read
 
 ROOMY = write_tapes([[0] * 400, *([[place] * 60 for place in (1, 2, 3)])])
 FILES = {**GOOD_FILES, "z": ROOMY}
+FOLDER = "folder"
 
 
 def line_of(command: str, nth: int = 0) -> Line:
     return [line for line in LINES if line.command == command][nth]
 
 
-FOLDER = "folder"
-
-
-def in_turn(play):
+def in_turn(play: Callable[..., None]) -> Callable[..., None]:
     """Plays the cases of a group in one folder, each of which finds the good files alone."""
 
     def play_group(group: list, source: random.Random, folder: Folder):
@@ -80,7 +78,7 @@ WRONG = {
 }
 WRONG["second"] = WRONG["public"] = WRONG["input"]
 WRONG["sim"] = WRONG["tape"]
-LATER = {"schedule": (b"", b"13\n", b"12\n12\n"), "opened": (b"", b"open\n"), "second": (faulty_files.GOOD_INPUTS.replace(b":3}", b":4}"),)}
+LATER = {"schedule": (b"", b"13\n", b"12\n12\n"), "opened": (b"", b"open\n"), "second": (GOOD_FILES["i.json"].replace(b":3}", b":4}"),)}
 PROGRAM = "program"
 
 
@@ -211,6 +209,6 @@ def any_file(role: str, source: random.Random) -> bytes:
     return faulty_files.changed_lines(GOOD_FILES["s" if role == "schedule" else "opened"], source)
 
 
-def changed(make, good: bytes):
-    """Cases of a file that was changed at random."""
+def changed(make: Callable[[bytes, random.Random], bytes], good: bytes) -> Callable[[random.Random, int], Iterator[bytes]]:
+    """What makes cases of a file that was changed at random."""
     return lambda source, count: (make(good, source) for _ in range(count))
