@@ -305,11 +305,7 @@ class CaseCalls:
                 elif words[place - 1] in READ or words[place] == "p.sc":
                     words[place] = f"gone{place}"
             self.folder.call(*(words if words[0] == "deal" else self.with_budget(*words)))
-            for path in set(self.folder.files) - set(kept):
-                self.folder.remove(path)
-            for path, data in kept.items():
-                if self.folder.files.get(path) != data:
-                    self.folder.put(path, data)
+            self.folder.reset(kept)
 
     def odd_tapes(self):
         """Tape files of wrong sizes and lengths."""

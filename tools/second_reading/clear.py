@@ -550,15 +550,18 @@ class Evaluation:
         self.events.append(Event(name, value.type.data, value.words))
 
     def argument(self, node: tree.Argument, wanted: ValueType) -> Value:
+        return self.asked(node.name, wanted, node)
+
+    def asked(self, name: str, wanted: ValueType, node: tree.Node) -> Value:
         """The value of an input, which must be of the type that is wanted."""
         self.charge(1)
-        entry = self.inputs.get(node.name)
+        entry = self.inputs.get(name)
         if entry is None or entry.type != wanted:
             self.trap("Argument", node)
         self.charge_rest(len(entry.words))
         number = None
         if wanted.private:
-            place = self.private_names.index(node.name)
+            place = self.private_names.index(name)
             number = self.making(lambda made: made.make(Kind.INPUT, (), len(entry.words), wanted.ring, (place,)))
         return Value(wanted, entry.words, number)
 

@@ -6,14 +6,17 @@ from functools import lru_cache
 
 from chacha import tape_words
 from clear import UNBOUNDED, Input, OpenedShort, Report, Runnable, ValueType, dealer_need, evaluate, evaluate_blind, runnable_of
+from entries import read_inputs, read_public
 from files import (
-    CallRefused, read_inputs, read_opened, read_public, read_schedule, read_tapes, write_opened, write_own_tape, write_public,
-    write_schedule, write_share, write_tapes, write_view,
+    read_opened, read_schedule, read_tapes, write_opened, write_own_tape, write_public, write_schedule, write_share, write_tapes,
+    write_view,
 )
 from joint import Direction, JointRun, SimulatedMiner, map_tapes
 from network import Outcome, default_delivery, listed_delivery, shuffled_delivery
+from refusals import CallRefused
 from tree import Data
 from verdict import Verdict, judge
+from words import Usage, Words, read_words
 
 DEFAULT_BUDGET = 1_000_000
 DEFAULT_WORDS = 65_536
@@ -25,6 +28,9 @@ LOAD_PROGRAM = (
 )
 
 
+Written = list[tuple[str, bytes | None]]
+
+
 @dataclass
 class Answer:
     """What a command does; of a file that is written without bytes here any bytes may be written."""
@@ -32,51 +38,22 @@ class Answer:
     status: int = 0
     out: bytes = b""
     err: bytes = b""
-    written: dict[str, bytes | None] = field(default_factory=dict)
+    written: Written = field(default_factory=list)
 
 
-def refusal(refused: CallRefused) -> Answer:
-    return Answer(refused.status, b"", f"error: {refused.line}\n".encode())
+def refusal(line: str, status: int, written: Written | None = None) -> Answer:
+    return Answer(status, b"", f"error: {line}\n".encode(), written or [])
 
 
-NOWHERE = "nowhere/"
-
-
-def written_in_order(answer: Answer) -> Answer:
-    """Writes stop at the first path that cannot be written: one in a folder that is not there."""
-    paths = list(answer.written)
-    for place, path in enumerate(paths):
-        if path.startswith(NOWHERE):
-            kept = {one: answer.written[one] for one in paths[:place]}
-            return Answer(9, b"", f"error: file {path}\n".encode(), kept)
-    return answer
-
-
-class Words:
-    """The words of a call: places, and options with values."""
-
-    def __init__(self, words: list[str]):
-        self.places, self.options = [], {}
-        rest = iter(words)
-        for word in rest:
-            if word.startswith("--"):
-                name, has_value, value = word[2:].partition("=")
-                self.options[name] = value if has_value else next(rest)
-            else:
-                self.places.append(word)
-
-    def number(self, name: str, default: int) -> int:
-        return int(self.options.get(name, default))
-
-    def budget(self) -> int:
-        return self.number("budget", DEFAULT_BUDGET)
+def budget_of(words: Words) -> int:
+    return words.number("budget", DEFAULT_BUDGET)
 
 
 class Caller:
     """Answers calls over a set of files."""
 
-    def __init__(self, found: dict[str, bytes]):
-        self.found = found
+    def __init__(self, found: dict[str, bytes], folders: set[str]):
+        self.found, self.folders = found, folders
         self.reports: list[Report] = []
         self.last_joint: tuple[Report, list[list[int]], JointRun] | None = None
 
@@ -88,9 +65,23 @@ class Caller:
             "simulate": self.simulate, "twin": self.twin, "deal": self.deal, "load": self.load,
         }
         try:
-            return written_in_order(commands[words[0]](Words(words[1:])))
+            asked = read_words(words)
+            return self.written_in_order(commands[asked.command](asked))
+        except Usage:
+            return refusal("usage", 2)
         except CallRefused as refused:
-            return refusal(refused)
+            return refusal(refused.line, refused.status)
+
+    def can_be_written(self, path: str) -> bool:
+        """Paths lead to no other folder than the one in which the program is called."""
+        return path not in ("", ".", "..", *self.folders) and "/" not in path
+
+    def written_in_order(self, answer: Answer) -> Answer:
+        """Writes stop at the first path that cannot be written."""
+        for place, (path, _) in enumerate(answer.written):
+            if not self.can_be_written(path):
+                return refusal(f"file {path}", 9, answer.written[:place])
+        return answer
 
     def read(self, path: str) -> bytes:
         if path not in self.found:
@@ -110,11 +101,11 @@ class Caller:
 
     def delivery(self, words: Words):
         """Reads the schedule; what is given back walks a list of gates."""
-        if "schedule" in words.options:
-            schedule = read_schedule(self.read(words.options["schedule"]))
+        if "schedule" in words:
+            schedule = read_schedule(self.read(words["schedule"]))
             return lambda gates: listed_delivery(gates, schedule)
-        if "shuffle" in words.options:
-            seed = bytes.fromhex(words.options["shuffle"])
+        if "shuffle" in words:
+            seed = bytes.fromhex(words["shuffle"])
             return lambda gates: shuffled_delivery(gates, seed)
         return default_delivery
 
@@ -124,35 +115,35 @@ class Caller:
         return report
 
     def check(self, words: Words) -> Answer:
-        self.verdict(words.places[0])
+        self.verdict(words["program"])
         return Answer(out=b"ok\n")
 
     def compile(self, words: Words) -> Answer:
-        functions = self.verdict(words.places[0]).functions
-        return Answer(out=f"functions {functions}\n".encode(), written={words.options["code"]: None})
+        functions = self.verdict(words["program"]).functions
+        return Answer(out=f"functions {functions}\n".encode(), written=[(words["code"], None)])
 
     def run(self, words: Words) -> Answer:
         """The text of a run, the views, and the delivered links."""
-        program = self.program(words.places[0])
-        inputs = read_inputs(self.read(words.options["input"]))
-        seed = words.options.get("seed")
-        tapes = None if seed is not None else read_tapes(self.read(words.options["tape"]))
+        program = self.program(words["program"])
+        inputs = read_inputs(self.read(words["input"]))
+        seed = words["seed"] if "seed" in words else None
+        tapes = None if seed is not None else read_tapes(self.read(words["tape"]))
         lengths = [words.number("words", DEFAULT_WORDS)] * 4 if seed is not None else [len(tape) for tape in tapes]
         delivery = self.delivery(words)
-        report = self.evaluated(program, inputs, words.budget(), lengths)
+        report = self.evaluated(program, inputs, budget_of(words), lengths)
         if seed is not None:
             wanted = [dealer_need(inputs) if report.inputs_dealt else 0, *report.needs[1:]]
             tapes = [tape_words(bytes.fromhex(seed), party, count) for party, count in enumerate(wanted)]
         outcome = accepted(delivery(report.gates))
-        written = {}
-        if "views" in words.options:
+        written: Written = []
+        if "views" in words:
             joint = self.joint_run(report, inputs, tapes)
             for miner in (1, 2, 3):
                 shares = [share[miner] for share in joint.dealt]
                 view = write_view(miner, inputs, shares, joint.drawn(miner), outcome.delivered, joint.messages, report)
-                written[f"{words.options['views']}.{miner}"] = view
-        if "record" in words.options:
-            written[words.options["record"]] = write_schedule(outcome.delivered)
+                written.append((f"{words['views']}.{miner}", view))
+        if "record" in words:
+            written.append((words["record"], write_schedule(outcome.delivered)))
         return Answer(report.end.status, report.text().encode(), b"", written)
 
     def joint_run(self, report: Report, inputs: list[Input], tapes: list[list[int]]) -> JointRun:
@@ -162,75 +153,73 @@ class Caller:
         return self.last_joint[2]
 
     def eval(self, words: Words) -> Answer:
-        program = self.program(words.places[0])
-        inputs = read_inputs(self.read(words.options["input"]))
-        report = self.evaluated(program, inputs, words.budget(), UNBOUNDED)
+        program = self.program(words["program"])
+        inputs = read_inputs(self.read(words["input"]))
+        report = self.evaluated(program, inputs, budget_of(words), UNBOUNDED)
         return Answer(report.end.status, report.text().encode())
 
     def need(self, words: Words) -> Answer:
-        program = self.program(words.places[0])
-        inputs = read_inputs(self.read(words.options["input"]))
-        report = self.evaluated(program, inputs, words.budget(), UNBOUNDED)
+        program = self.program(words["program"])
+        inputs = read_inputs(self.read(words["input"]))
+        report = self.evaluated(program, inputs, budget_of(words), UNBOUNDED)
         return Answer(report.end.status, ("need " + " ".join(map(str, report.needs)) + "\n").encode())
 
     def map(self, words: Words) -> Answer:
         """What the simulator of a view is given."""
-        miner, program = int(words.places[0]), self.program(words.places[1])
-        inputs = read_inputs(self.read(words.options["input"]))
-        tapes = read_tapes(self.read(words.options["tape"]))
-        report = self.evaluated(program, inputs, words.budget(), [len(tape) for tape in tapes])
+        miner, program = words.number("miner"), self.program(words["program"])
+        inputs = read_inputs(self.read(words["input"]))
+        tapes = read_tapes(self.read(words["tape"]))
+        report = self.evaluated(program, inputs, budget_of(words), [len(tape) for tape in tapes])
         mapped = map_tapes(miner, Direction.TO_SIMULATOR, report.gates, inputs, tapes, report.inputs_dealt)
-        written = {words.options["sim"]: write_tapes(mapped)}
-        written[words.options["public"]] = write_public(inputs)
-        written[words.options["opened"]] = write_opened(report)
-        return Answer(written=written)
+        made = {"sim": write_tapes(mapped), "public": write_public(inputs), "opened": write_opened(report)}
+        return Answer(written=[(words[name], data) for name, data in made.items()])
 
     def simulate(self, words: Words) -> Answer:
         """The view that the simulator makes."""
-        miner, program = int(words.places[0]), self.program(words.places[1])
-        inputs = read_public(self.read(words.options["public"]))
-        opened = read_opened(self.read(words.options["opened"]))
-        tapes = read_tapes(self.read(words.options["sim"]))
+        miner, program = words.number("miner"), self.program(words["program"])
+        inputs = read_public(self.read(words["public"]))
+        opened = read_opened(self.read(words["opened"]))
+        tapes = read_tapes(self.read(words["sim"]))
         delivery = self.delivery(words)
         try:
-            report = evaluate_blind(program, inputs, opened, words.budget(), [len(tape) for tape in tapes])
+            report = evaluate_blind(program, inputs, opened, budget_of(words), [len(tape) for tape in tapes])
         except OpenedShort:
             raise CallRefused(f"V2 have {len(opened)}", 15) from None
         self.reports.append(report)
         outcome = accepted(delivery(report.gates))
         seen = SimulatedMiner(miner, report.gates, inputs if report.inputs_dealt else [], report.opened, tapes)
         view = write_view(miner, inputs, seen.dealt, seen.drawn(), outcome.delivered, seen.received, report)
-        return Answer(written={words.options["view"]: view})
+        return Answer(written=[(words["view"], view)])
 
     def twin(self, words: Words) -> Answer:
         """The first run's tapes, for the second inputs."""
-        miner, program = int(words.places[0]), self.program(words.places[1])
-        first = read_inputs(self.read(words.options["input"]))
-        second = read_inputs(self.read(words.options["second"]))
-        tapes = read_tapes(self.read(words.options["tape"]))
+        miner, program = words.number("miner"), self.program(words["program"])
+        first = read_inputs(self.read(words["input"]))
+        second = read_inputs(self.read(words["second"]))
+        tapes = read_tapes(self.read(words["tape"]))
         lengths = [len(tape) for tape in tapes]
         alike_public(first, second)
-        reports = [self.evaluated(program, inputs, words.budget(), lengths) for inputs in (first, second)]
+        reports = [self.evaluated(program, inputs, budget_of(words), lengths) for inputs in (first, second)]
         alike_opened(*reports)
         mapped = map_tapes(miner, Direction.TO_SIMULATOR, reports[0].gates, first, tapes, reports[0].inputs_dealt)
         twin = map_tapes(miner, Direction.FROM_SIMULATOR, reports[1].gates, second, mapped, reports[1].inputs_dealt)
-        return Answer(written={words.options["to"]: write_tapes(twin)})
+        return Answer(written=[(words["to"], write_tapes(twin))])
 
     def deal(self, words: Words) -> Answer:
         """The miners' shares and tapes."""
-        inputs = read_inputs(self.read(words.options["input"]))
-        tapes = read_tapes(self.read(words.options["tape"]))
+        inputs = read_inputs(self.read(words["input"]))
+        tapes = read_tapes(self.read(words["tape"]))
         need = dealer_need(inputs)
         if need > len(tapes[0]):
             raise CallRefused(f"Q2 need {need} have {len(tapes[0])}", 8)
         dealt = JointRun([], inputs, tapes).dealt
-        prefix, lengths = words.options["to"], [len(tape) for tape in tapes]
-        written = {f"{prefix}.{miner}": write_share(inputs, dealt, lengths, miner) for miner in (1, 2, 3)}
-        written.update({f"{prefix}.t{miner}": write_own_tape(tapes[miner]) for miner in (1, 2, 3)})
+        prefix, lengths = words["to"], [len(tape) for tape in tapes]
+        written: Written = [(f"{prefix}.{miner}", write_share(inputs, dealt, lengths, miner)) for miner in (1, 2, 3)]
+        written += [(f"{prefix}.t{miner}", write_own_tape(tapes[miner])) for miner in (1, 2, 3)]
         return Answer(written=written)
 
     def load(self, words: Words) -> Answer:
-        inputs = load_inputs(int(words.options["number"]))
+        inputs = load_inputs(words.number("number"))
         report = self.evaluated(runnable(LOAD_PROGRAM), inputs, DEFAULT_BUDGET, [LOAD_WORDS] * 4)
         messages = len(default_delivery(report.gates).delivered)
         return Answer(report.end.status, f"{report.text()}messages {messages}\n".encode())

@@ -3,19 +3,22 @@ from __future__ import annotations
 
 import argparse
 import random
+import shlex
 import subprocess
 import sys
 import threading
 import time
 from collections import Counter
 from collections.abc import Callable, Iterable, Iterator
-from dataclasses import dataclass, field
+from dataclasses import dataclass, field, replace
 from itertools import islice
 from pathlib import Path
 from tempfile import TemporaryDirectory
 
 from commands import Answer, Caller
+from words import FORMS
 
+FULL = "/dev/full"
 SHOWN = 2000
 PATIENCE = 600
 
@@ -26,6 +29,7 @@ class Tally:
 
     cases: int = 0
     calls: int = 0
+    codes: int = 0
     differences: int = 0
     commands: Counter[str] = field(default_factory=Counter)
     signs: Counter[str] = field(default_factory=Counter)
@@ -34,7 +38,7 @@ class Tally:
     def take(self, words: list[str], answer: Answer, caller: Caller):
         """Counts a call."""
         self.calls += 1
-        self.commands[words[0]] += 1
+        self.commands[words[0] if words and words[0] in FORMS else "no command"] += 1
         if answer.err:
             self.signs[answer.err.decode().split()[1]] += 1
         for report in caller.reports:
@@ -42,7 +46,8 @@ class Tally:
             self.ends[" ".join(parts[:2]) if parts[0] in ("trap", "tape") else parts[0]] += 1
 
     def show(self):
-        print(f"{self.cases} cases, {self.calls} calls compared, {self.differences} differences")
+        codes = f", {self.codes} code files" if self.codes else ""
+        print(f"{self.cases} cases, {self.calls} calls{codes} compared, {self.differences} differences")
         for name, counts in (("calls", self.commands), ("signs of refusals", self.signs), ("ends of runs", self.ends)):
             print(f"{name}: " + (", ".join(f"{key} {count}" for key, count in sorted(counts.items())) or "none"))
 
@@ -51,6 +56,11 @@ def shown(data: bytes, start: int = 0) -> str:
     """Bytes as they are printed, at most so many."""
     place = f"from byte {start} " if start else ""
     return place + repr(data[start : start + SHOWN]) + (f" .. of {len(data)} bytes" if len(data) > start + SHOWN else "")
+
+
+def printable(text: str) -> str:
+    """A text that may have halves of characters, as it is printed."""
+    return text.encode("utf-8", "backslashreplace").decode()
 
 
 def sides(want: bytes | None, have: bytes | None) -> str:
@@ -69,41 +79,65 @@ class Folder:
     def __init__(self, program: Path, place: Path, tally: Tally, case: str):
         self.program, self.place, self.tally, self.case = program, place, tally, case
         self.files: dict[str, bytes] = {}
-        self.caller = Caller(self.files)
+        self.folders: set[str] = set()
+        self.caller = Caller(self.files, self.folders)
 
     def put(self, path: str, data: bytes):
         self.files[path] = data
         (self.place / path).write_bytes(data)
 
+    def make_folder(self, path: str):
+        """Makes a folder, which can be neither read nor written as a file."""
+        self.folders.add(path)
+        (self.place / path).mkdir()
+
+    def remove_folder(self, path: str):
+        self.folders.remove(path)
+        (self.place / path).rmdir()
+
     def remove(self, path: str):
         del self.files[path]
         (self.place / path).unlink()
 
-    def call(self, *words: str) -> Answer:
-        """Calls both sides, and compares."""
+    def reset(self, files: dict[str, bytes]):
+        """Makes these all the files that there are."""
+        for path in set(self.files) - set(files):
+            self.remove(path)
+        for path, data in files.items():
+            if self.files.get(path) != data:
+                self.put(path, data)
+
+    def call(self, *words: str, full: tuple[str, ...] = ()) -> Answer:
+        """Calls both sides, and compares; of the streams `full` names those that take nothing."""
         answer = self.caller.call(list(words))
+        if "stdout" in full:
+            answer = untold(answer)
+        if "stderr" in full:
+            answer = replace(answer, err=b"")
         self.tally.take(list(words), answer, self.caller)
         before = dict(self.files)
-        faults = self.faults(list(words), answer)
+        faults = self.faults(list(words), answer, full)
         if faults:
-            self.tell(list(words), before, faults)
+            self.tell([*words, *(f"{stream}=full" for stream in full)], before, faults)
         return answer
 
-    def faults(self, words: list[str], answer: Answer) -> list[str]:
+    def faults(self, words: list[str], answer: Answer, full: tuple[str, ...]) -> list[str]:
         """What the program does otherwise; the folder is left as the model says."""
         found = []
         try:
-            done = subprocess.run([str(self.program), *words], cwd=self.place, capture_output=True, timeout=PATIENCE)
+            with open(FULL, "wb") as device:
+                streams = {name: device if name in full else subprocess.PIPE for name in ("stdout", "stderr")}
+                done = subprocess.run([str(self.program), *words], cwd=self.place, timeout=PATIENCE, **streams)
         except subprocess.TimeoutExpired:
             found.append(f"no answer in {PATIENCE} seconds")
         else:
             if answer.status != done.returncode:
                 found.append(f"status: model {answer.status}, program {done.returncode}")
             for name, want, have in (("output", answer.out, done.stdout), ("error", answer.err, done.stderr)):
-                if want != have:
+                if want != (have or b""):
                     found.append(f"{name}:{sides(want, have)}")
-        there = {one.name: one.read_bytes() for one in self.place.iterdir()}
-        self.files.update({path: there.get(path, b"") if data is None else data for path, data in answer.written.items()})
+        there = {one.name: one.read_bytes() for one in self.place.iterdir() if one.is_file()}
+        self.files.update((path, there.get(path, b"") if data is None else data) for path, data in answer.written)
         for path in sorted(set(there) | set(self.files)):
             want, have = self.files.get(path), there.get(path)
             if want != have:
@@ -122,13 +156,18 @@ class Folder:
     def tell(self, words: list[str], before: dict[str, bytes], faults: list[str]):
         """Prints a difference: the words, the files that they name, and what was found."""
         self.tally.differences += 1
-        print(f"DIFFERENCE in {self.case}: {' '.join(words)}")
+        print(f"DIFFERENCE in {self.case}: {printable(shlex.join(words))}")
         for path, data in before.items():
             if path in words:
-                print(f"  given {path}: {shown(data)}")
+                print(f"  given {printable(path)}: {shown(data)}")
         for fault in faults:
-            print(f"  {fault}")
+            print(f"  {printable(fault)}")
         sys.stdout.flush()
+
+
+def untold(answer: Answer) -> Answer:
+    """The answer where the output takes nothing: a text that can't be printed is a fault, behind all writes."""
+    return Answer(16, b"", b"error: write\n", answer.written) if answer.out else answer
 
 
 Play = Callable[[Folder], None]

@@ -1,54 +1,20 @@
-"""The files: inputs, public parts, shares, tapes, opened words, schedules and views."""
+"""The files that are written, and tapes, opened words and schedules that are read."""
 from __future__ import annotations
 
 import json
 import re
 import struct
 
-from clear import Input, Report, ValueType
+from clear import Input, Report
 from joint import LINKS
+from refusals import CallRefused
 from tree import Data
 
 TAPE_LIMIT = 1 << 24
 
 
-class CallRefused(Exception):
-    """A refusal: its line and its status."""
-
-    def __init__(self, line: str, status: int):
-        super().__init__(line)
-        self.line, self.status = line, status
-
-
 def compact(value) -> bytes:
     return json.dumps(value, separators=(",", ":"), sort_keys=True).encode()
-
-
-def read_inputs(data: bytes) -> list[Input]:
-    """A good input file."""
-    entries = []
-    for entry in json.loads(data)["inputs"]:
-        array = isinstance(entry["value"], list)
-        words = entry["value"] if array else [entry["value"]]
-        kind = ValueType(entry["domain"] == "private", Data(entry["type"]), array)
-        entries.append(Input(entry["name"], kind, tuple(int(word) for word in words)))
-    return entries
-
-
-def read_public(data: bytes) -> list[Input]:
-    """A good public file; private words are zeros."""
-    entries = []
-    for entry in json.loads(data)["inputs"]:
-        private = entry["domain"] == "private"
-        value = entry["shape"] if private else entry["value"]
-        array = isinstance(value, int) and not isinstance(value, bool) if private else isinstance(value, list)
-        kind = ValueType(private, Data(entry["type"]), array)
-        if private:
-            words = (0,) * (value if array else 1)
-        else:
-            words = tuple(int(word) for word in (value if array else [value]))
-        entries.append(Input(entry["name"], kind, words))
-    return entries
 
 
 def shown_value(entry: Input):
