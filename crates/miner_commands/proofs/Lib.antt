@@ -2,6 +2,6 @@ pub mod LoadRuns
 pub mod Planned
 pub mod Written
 pub use Rattle.viewed_run.proofs.Agreeing
-pub use Rattle.delivered_run.proofs.Taken
+pub use Rattle.viewed_run.proofs.Taken
 pub use Rattle.viewed_run.proofs.CodeViews
-pub use Rattle.delivered_run.proofs.Programs
+pub use Rattle.viewed_run.proofs.Programs

@@ -18,12 +18,12 @@ use Rattle.tape_file.specs.Seeds.{seed_tapes}
 use Rattle.workload_program.specs.LoadTree.{load_typed}
 use Rattle.workload_program.proofs.Runnable.{load_is_runnable}
 use Rattle.program_run.specs.Accepted.{IsAccepted}
-use Rattle.delivered_run.specs.Deliveries.{HasRunOf, IsRunOf, net_of}
-use Rattle.delivered_run.specs.Premises.{HaveWords}
+use Rattle.viewed_run.specs.Deliveries.{HasRunOf, IsRunOf, net_of}
+use Rattle.viewed_run.specs.Premises.{HaveWords}
 use Rattle.counted_net.specs.declared.delivery.DeliveryErr.{DeliveryErr}
 use Rattle.counted_net.specs.declared.delivery.DeliveryErr.TheVariants as refusal
-use Rattle.delivered_run.specs.declared.running.DeliveredRun.{DeliveredRun}
-use Rattle.delivered_run.proofs.Taken.{made_deliveries_are_taken}
+use Rattle.viewed_run.specs.DeliveredRun.{DeliveredRun}
+use Rattle.viewed_run.proofs.Taken.{made_deliveries_are_taken}
 use Rattle.command_frame.specs.declared.stop.Stop.{Stop}
 use Rattle.command_frame.specs.declared.stop.Stop.TheVariants as stops
 use Rattle.command_frame.specs.Answer.{Effect}

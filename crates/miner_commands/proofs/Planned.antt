@@ -15,8 +15,8 @@ use Rattle.tape_file.specs.Tapes.{FourTapes}
 use Rattle.language_model.specs.Reports.{Report}
 use Rattle.program_run.specs.Reports.{TellsAs, eval_with}
 use Rattle.program_run.specs.declared.running.RunReport.{RunReport}
-use Rattle.delivered_run.specs.Deliveries.{HasRunOf, delivered_of, net_of}
-use Rattle.delivered_run.specs.declared.running.DeliveredRun.{DeliveredRun}
+use Rattle.viewed_run.specs.Deliveries.{HasRunOf, delivered_of, net_of}
+use Rattle.viewed_run.specs.DeliveredRun.{DeliveredRun}
 use Rattle.counted_net.specs.declared.delivery.DeliveryErr.{DeliveryErr}
 use Rattle.counted_net.specs.declared.delivery.DeliveryErr.TheVariants as refusal
 use Rattle.viewed_run.specs.Views.{view_of}

@@ -5,7 +5,7 @@ use Rattle.command_frame.specs.Answer.{Written, effect_of, paths_in, writes_of}
 use Rattle.command_frame.specs.Reads.{PlanNames}
 use Rattle.command_frame.specs.declared.plan.Plan.{Plan}
 use Rattle.command_words.specs.Ask.{RunAsk}
-use Rattle.delivered_run.specs.declared.running.DeliveredRun.{DeliveredRun}
+use Rattle.viewed_run.specs.DeliveredRun.{DeliveredRun}
 use Rattle.proto_core.specs.declared.link.Link.{Link}
 use Rattle.viewed_run.specs.Seen.{view_in}
 use Rattle.viewed_run.specs.declared.seen.Views.{Views}

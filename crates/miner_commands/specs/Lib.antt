@@ -1,7 +1,7 @@
 pub mod Load
 pub mod Run
 pub mod Views
-pub use Rattle.delivered_run.specs.Premises
-pub use Rattle.delivered_run.specs.Deliveries
+pub use Rattle.viewed_run.specs.Premises
+pub use Rattle.viewed_run.specs.Deliveries
 pub use Rattle.viewed_run.specs.CodeViews
-pub use Rattle.delivered_run.specs.Programs
+pub use Rattle.viewed_run.specs.Programs

@@ -10,8 +10,8 @@ use Rattle.tape_file.specs.Tapes.{FourTapes}
 use Rattle.workload.specs.Load.{load_entries, load_seed}
 use Rattle.workload_program.specs.LoadTree.{load_typed}
 use Rattle.language_model.specs.Reports.{Report}
-use Rattle.delivered_run.specs.Deliveries.{delivered_of}
-use Rattle.delivered_run.specs.declared.running.DeliveredRun.{DeliveredRun}
+use Rattle.viewed_run.specs.Deliveries.{delivered_of}
+use Rattle.viewed_run.specs.DeliveredRun.{DeliveredRun}
 use Rattle.command_frame.specs.Answer.{Answer, Effect}
 use Rattle.command_frame.specs.declared.status.Status.{Status}
 use Rattle.command_words.specs.Ask.{LoadAsk}

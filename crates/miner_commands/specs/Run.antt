@@ -15,12 +15,12 @@ use Rattle.value_file.specs.declared.inputs.Entry.{Entry}
 use Rattle.typed_tree.specs.Programs.{TypedProgramTree}
 use Rattle.language_model.specs.Reports.{Report}
 use Rattle.program_run.specs.Reports.{eval_with}
-use Rattle.delivered_run.specs.Deliveries.{delivered_of, net_of, IsRefusedOf}
+use Rattle.viewed_run.specs.Deliveries.{delivered_of, net_of, IsRefusedOf}
 use Rattle.counted_net.specs.declared.delivery.DeliveryErr.{DeliveryErr}
 use Rattle.viewed_run.specs.Views.{view_of}
 use Rattle.view_text.specs.View.{View}
 use Rattle.command_frame.specs.declared.plan.Plan.{Plan}
-use Rattle.delivered_run.specs.declared.running.DeliveredRun.{DeliveredRun}
+use Rattle.viewed_run.specs.DeliveredRun.{DeliveredRun}
 use Rattle.program_commands.specs.Ends.{ending_status}
 use Rattle.program_commands.specs.Eval.{end_status, eval_text}
 use Rattle.program_commands.specs.Judging.{Finding}

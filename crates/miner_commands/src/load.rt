@@ -8,17 +8,17 @@ ghost use Rattle.protocol_model.specs.Network.{Default};
 ghost use Rattle.value_file.specs.Input.{AreInputs};
 ghost use Rattle.workload.specs.Load.{load_program};
 ghost use Rattle.workload_program.specs.LoadTree.{load_typed};
-ghost use Rattle.delivered_run.specs.Deliveries.{HasRunOf};
+ghost use Rattle.viewed_run.specs.Deliveries.{HasRunOf};
 ghost use Rattle.miner_commands.specs.Load.{load_budget, load_effect, loaded_effect, messages_text};
 
 use command_frame::{Plan, Stop};
 use command_words::LoadWords;
-use delivered_run::{DeliveredRun, Delivery, DeliveryErr, run_delivered};
 use input_share::see_entries;
 use program_commands::{ending_status, typed_of_text};
 use sc_text::run_text;
 use std::alloc::{AllocError, Global};
 use view_model::see_tapes;
+use viewed_run::{DeliveredRun, Delivery, DeliveryErr, run_delivered};
 use workload::{Workload, make};
 
 /// The most that the run may cost.

@@ -4,7 +4,7 @@ ghost use Rattle.command_frame.specs.Answer.{effect_of, writes_of};
 ghost use Rattle.command_frame.specs.Reads.{OnlyRead, Gives, KeepsTo, PlanNames, StopsReading};
 ghost use Rattle.command_words.specs.Views.{run_ask};
 ghost use Rattle.counted_net.specs.declared.delivery.DeliveryErr.TheVariants.{Memory as NoMemory};
-ghost use Rattle.delivered_run.specs.Deliveries.{delivery_seen};
+ghost use Rattle.viewed_run.specs.Deliveries.{delivery_seen};
 ghost use Rattle.program_run.specs.Accepted.{IsAccepted};
 ghost use Rattle.typed_tree.specs.Programs.{typed_program_tree};
 ghost use Rattle.value_file.specs.Input.{AreInputs};
@@ -14,7 +14,6 @@ ghost use Rattle.miner_commands.specs.Run.{ran_effect, ran_paths, recorded_links
 use crate::views::view_writes;
 use command_frame::{Plan, PlannedWrite, Stop};
 use command_words::RunWords;
-use delivered_run::{DeliveredRun, Delivery, DeliveryErr, run_delivered};
 use outside::Files;
 use program_commands::{
     delivery_stop, ending_status, read_delivery, read_inputs, read_tapes, read_typed,
@@ -25,7 +24,7 @@ use std::alloc::{AllocError, Global};
 use tape_file::Tapes;
 use typed_tree::TypedProgram;
 use value_file::Inputs;
-use viewed_run::run_seen;
+use viewed_run::{DeliveredRun, Delivery, DeliveryErr, run_delivered, run_seen};
 
 // Adds the links that were delivered to what is to be written, where they are asked for.
 fn record_links(

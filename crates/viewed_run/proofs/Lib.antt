@@ -5,3 +5,5 @@ pub mod Ended
 pub mod Undealt
 pub mod Viewed
 pub use Rattle.code_views.proofs.CodeViews
+pub use Rattle.delivered_run.proofs.Taken
+pub use Rattle.delivered_run.proofs.Programs

@@ -3,3 +3,7 @@ pub mod Seen
 pub mod Laws
 pub use Rattle.code_views.specs.CodeViews
 pub use Rattle.program_views.specs.Views
+pub use Rattle.delivered_run.specs.Premises
+pub use Rattle.delivered_run.specs.Deliveries
+pub use Rattle.delivered_run.specs.Programs
+pub use Rattle.delivered_run.specs.declared.running.DeliveredRun

@@ -1,7 +1,7 @@
 use Rattle.std.proofs.Common.{◌∷◌, ◌++◌, sym, ◌∙◌, ap}
 use Rattle.command_words.specs.Views.{run_ask}
 use Rattle.typed_tree.specs.Programs.{typed_program_tree}
-use Rattle.delivered_run.specs.Deliveries.{delivery_seen}
+use Rattle.viewed_run.specs.Deliveries.{delivery_seen}
 use Rattle.command_frame.proofs.Naming.{names_later}
 use Rattle.program_commands.specs.Reading.{order_paths, source_paths}
 use Rattle.program_commands.proofs.Exits.{first_in, named_behind, second_in, stopped, stopped_at, tapes_named}

@@ -1,7 +1,7 @@
 use Rattle.std.proofs.Common.{◌∙◌, ap, option_map, string_bytes}
 use Rattle.command_frame.specs.Answer.{writes_of}
 use Rattle.command_words.specs.Views.{run_ask}
-use Rattle.delivered_run.specs.Deliveries.{delivery_seen}
+use Rattle.viewed_run.specs.Deliveries.{delivery_seen}
 use Rattle.typed_tree.specs.Programs.{typed_program_tree}
 use Rattle.miner_commands.specs.Run.{ran_effect}
 use Rattle.miner_commands.proofs.Planned.{planned_seen, planned_unseen, some_path}
