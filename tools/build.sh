@@ -71,16 +71,6 @@ tell_progress() {
   done
 }
 
-# How many crates `rt ci` proves side by side: one a processor, as long as there are 2.5 GB for each. Untold, it hands the processors that are free for a
-# moment to one crate for as long as that is proved, and what comes ready behind waits: in one run the last chain of crates did so for six minutes of sixty.
-side_by_side() {
-  local most
-  most=$(($(sed -nE 's/^MemAvailable: *([0-9]+) kB$/\1/p' /proc/meminfo) / 2500000))
-  [ "$most" -le "$(nproc)" ] || most=$(nproc)
-  [ "$most" -ge 1 ] || most=1
-  echo "$most"
-}
-
 # place_build FILE SUM: this program becomes the build of the sources of this sum, and those of other sources are let go. The lock is held.
 place_build() {
   local new=$build/new.$$ old=$build/old.$$
@@ -118,7 +108,7 @@ make_build() {
   tell_progress "$build/log" 9>&- &
   teller=$!
   status=0
-  (cd "$scratch" && RT_JOBS=$(side_by_side) rt ci) >"$build/log" 2>&1 </dev/null 9>&- || status=$?
+  (cd "$scratch" && rt ci) >"$build/log" 2>&1 </dev/null 9>&- || status=$?
   kill "$teller" 2>/dev/null || true
   wait "$teller" 2>/dev/null || true
   teller=
