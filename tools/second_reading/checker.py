@@ -546,8 +546,8 @@ def data_fits(operator: str, left: Data, right: Data, private: bool) -> bool:
     return left == Data.TRUTH
 
 
-def check(program: Program) -> Findings:
-    """All refusals of a program's types, and what its calls reach."""
+def checked_bodies(program: Program) -> tuple[Names, Findings]:
+    """The names of a program, and what its bodies' types and calls come to."""
     findings = Findings()
     names = Names(program, findings)
     for number, function in enumerate(program.functions):
@@ -555,6 +555,12 @@ def check(program: Program) -> Findings:
             findings.reach(Instance(number, ()))
     while findings.waiting:
         BodyChecker(program, names, findings, findings.waiting.pop()).check()
+    return names, findings
+
+
+def check(program: Program) -> Findings:
+    """All refusals of a program's types, and what its calls reach."""
+    names, findings = checked_bodies(program)
     for number in findings.called:
         head_told(program.functions[number], names, findings)
     return findings

@@ -5,7 +5,7 @@ from bisect import bisect_right
 from dataclasses import dataclass, field
 
 import tree
-from checker import BodyChecker, Findings, Instance, Names, Type, Typing
+from checker import BodyChecker, Findings, Instance, Names, Type, Typing, checked_bodies
 from code_file import ARRAY, COMPARISONS, NOTHING, OPERATORS, PRIVATE, TRUTH, Code, Function, Tag
 from limits import function_size, in_code_order, reached
 from tree import Data, Node, Program
@@ -242,13 +242,7 @@ class FormMaker:
 
 def forms_of(program: Program, text: bytes) -> list[Form]:
     """The forms of all functions of the code of an accepted program, in their order."""
-    findings = Findings()
-    names = Names(program, findings)
-    for number, function in enumerate(program.functions):
-        if not function.variables:
-            findings.reach(Instance(number, ()))
-    while findings.waiting:
-        BodyChecker(program, names, findings, findings.waiting.pop()).check()
+    names, findings = checked_bodies(program)
     instances = reached(program, findings)
     order = {instance: place for place, instance in enumerate(instances)}
     starts = [0] + [place + 1 for place, byte in enumerate(text) if byte == 0x0A]
