@@ -18,11 +18,11 @@ use Rattle.block_steps.specs.declared.progress.Progress.{Progress}
 use Rattle.block_steps.specs.declared.progress.Progress.TheVariants.{Stands, Goes, Made}
 
 abbrev pub ring_left : {R P : Type 0} → Ring → Number → RingBlock R P → Strand (List (List ℕ))
-ring_left r i (MulMasked held) = mul_masked r (length held.value.mask) i held.value
-ring_left r i (MulCrossed held) = mul_crossed r (length held.value.mask) i held.value
-ring_left r i (OpenMasked state) = left_masked r i state.value
-ring_left r i (OpenFromPrevious state) = left_from_previous r i state.value
-ring_left r i (OpenFromNext state) = left_from_next r i state.value
+ring_left r i (MulMasked held) = mul_masked r (length held.mask) i held
+ring_left r i (MulCrossed held) = mul_crossed r (length held.mask) i held
+ring_left r i (OpenMasked state) = left_masked r i state
+ring_left r i (OpenFromPrevious state) = left_from_previous r i state
+ring_left r i (OpenFromNext state) = left_from_next r i state
 ring_left r i (Resharing state) = left_sent r i state.value
 
 abbrev pub pending_left : {P : Type 0} → Number → Pending P → Strand (List (List ℕ))

@@ -1,4 +1,4 @@
-ghost use Rattle.std.specs.Prelude.{◌≡◌, ◌≤◌, List, [], ◌∷◌, ◌++◌, length, drop, OnOk, OnErr};
+ghost use Rattle.std.specs.Prelude.{◌≡◌, ◌≤◌, List, [], ◌∷◌, ◌++◌, length, drop, OnOk, OnErr, option_map};
 ghost use Rattle.proto_core.specs.Strand.{rest_of};
 ghost use Rattle.block_steps.specs.Inboxes.{FrontIs};
 
@@ -45,12 +45,30 @@ impl Inbox {
         self.messages.push(msg)
     }
 
+    /// A message of these words comes; with no memory left the inbox is as before.
+    #[tactic(auto, using(crate::proofs::Inboxes::inbox_steps))]
+    pub fn push_words(&mut self, words: &[u64]) -> Result<(), AllocError>
+        requires { length words.now ≤ 2048 }
+        ensures ok { OnOk result ((self.new.0 ≡ self.old.0 ++ words.now ∷ []) × (self.new.1 ≡ self.old.1 ++ words.now ∷ [])) }
+        ensures err { OnErr result (self.new ≡ self.old) }
+    {
+        self.messages.push_words(words)
+    }
+
     /// A copy of the oldest message that was not taken; `None` where all were.
     #[tactic(auto, using(crate::proofs::Inboxes::inbox_steps))]
     pub fn front(&self) -> Option<Msg>
         ensures { FrontIs result self.now.1 }
     {
         self.messages.get(self.taken)
+    }
+
+    /// The words of the oldest message that was not taken, where they lie; `None` where all were.
+    #[tactic(auto, using(crate::proofs::Inboxes::inbox_steps))]
+    pub fn lent(&self) -> Option<&[u64]>
+        ensures { FrontIs (option_map (λ words. words.now) result) self.now.1 }
+    {
+        self.messages.lent(self.taken)
     }
 
     /// Takes the oldest message that was not taken, if there is one.

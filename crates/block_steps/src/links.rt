@@ -1,4 +1,4 @@
-ghost use Rattle.std.specs.Prelude.{◌≡◌, List, [], ◌∷◌, ◌++◌, OnOk, OnErr, IfOk};
+ghost use Rattle.std.specs.Prelude.{◌≡◌, ◌≤◌, List, [], ◌∷◌, ◌++◌, length, OnOk, OnErr, IfOk};
 ghost use Rattle.block_steps.specs.Outcomes.{came_from_previous, came_from_next};
 
 use crate::inbox::Inbox;
@@ -61,6 +61,24 @@ impl Links {
         ensures err { OnErr result (self.new ≡ self.old) }
     {
         self.from_next.push(msg)
+    }
+
+    /// A message of these words comes from the previous miner; with no memory left all is as before.
+    pub fn receive_words_from_previous(&mut self, words: &[u64]) -> Result<(), AllocError>
+        requires { length words.now ≤ 2048 }
+        ensures ok { OnOk result (self.new ≡ came_from_previous self.old words.now) }
+        ensures err { OnErr result (self.new ≡ self.old) }
+    {
+        self.from_previous.push_words(words)
+    }
+
+    /// A message of these words comes from the next miner; with no memory left all is as before.
+    pub fn receive_words_from_next(&mut self, words: &[u64]) -> Result<(), AllocError>
+        requires { length words.now ≤ 2048 }
+        ensures ok { OnOk result (self.new ≡ came_from_next self.old words.now) }
+        ensures err { OnErr result (self.new ≡ self.old) }
+    {
+        self.from_next.push_words(words)
     }
 
     /// The messages that went to the next miner, oldest first.

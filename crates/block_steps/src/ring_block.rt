@@ -5,28 +5,28 @@ ghost use Rattle.block_steps.specs.Pendings.{ring_left, progress_left, StandsThe
 use crate::links::Links;
 use crate::progress::Progress;
 use crate::{multiplying, opening, resharing};
-use multiply::{Crossed, Mul};
-use open_result::{FromNext, FromPrev, Open};
+use multiply::MulWords;
 use proto_core::{Link, Party};
-use reshare::{Reshare, Sent};
+use reshare::{Reshare, Sent, ShareWords};
 use share_ring::ShareRing;
 use std::alloc::AllocError;
 
 /// A miner's part in a block of a protocol that is for any ring, by the message that is awaited.
 ///
-/// A state has room for the longest block, so it is boxed: what hands it on moves a pointer.
+/// The words of a product and of an opening are in vectors. Any other state has room for the longest block, so it is boxed: what hands it on
+/// moves a pointer.
 #[derive(Drop)]
 pub enum RingBlock<R, P> {
     /// Of a product: the previous miner's masks.
-    MulMasked(Box<Mul<R, P, multiply::Masked>>),
+    MulMasked(MulWords),
     /// Of a product: the previous miner's factors.
-    MulCrossed(Box<Mul<R, P, Crossed>>),
+    MulCrossed(MulWords),
     /// Of an opening: the previous miner's mask.
-    OpenMasked(Box<Open<R, P, open_result::Masked>>),
+    OpenMasked(ShareWords),
     /// Of an opening: the previous miner's new share.
-    OpenFromPrevious(Box<Open<R, P, FromPrev>>),
+    OpenFromPrevious(ShareWords),
     /// Of an opening: the next miner's new share.
-    OpenFromNext(Box<Open<R, P, FromNext>>),
+    OpenFromNext(ShareWords),
     /// The previous miner's mask, of a value that is shared anew.
     Resharing(Box<Reshare<R, P, Sent>>),
 }

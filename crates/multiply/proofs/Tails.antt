@@ -16,7 +16,7 @@ use Rattle.multiply.specs.Steps.{Starts, Crosses, Multiplied}
 abbrev holds : List ℕ → List ℕ → List ℕ → Held
 holds x y z = record { u = x; v = y; mask = z }
 
-same_held : (a b : Held) → a.u ≡ b.u → a.v ≡ b.v → a.mask ≡ b.mask → a ≡ b
+pub same_held : (a b : Held) → a.u ≡ b.u → a.v ≡ b.v → a.mask ≡ b.mask → a ≡ b
 same_held a b u v mask = ap (λ x. holds x a.v a.mask) u ∙ ap (λ y. holds b.u y a.mask) v ∙ ap (λ z. holds b.u b.v z) mask
 
 module _ (r : Ring) (n : ℕ) where

@@ -3,9 +3,12 @@
 
 mod arithmetic;
 mod gate;
+mod kernels;
 mod multiply;
 mod together;
+mod words;
 
 pub use gate::{MulGate, mul_is_lawful};
 pub use multiply::{Crossed, Masked, Mul};
 pub use together::{Operands, Part, multiply_together};
+pub use words::MulWords;

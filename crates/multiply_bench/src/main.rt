@@ -8,8 +8,8 @@ ghost use Rattle.std.specs.Prelude.{◌≡◌, ◌+◌, ◌^◌, ◌<◌, ◌≤
 mod held;
 
 use crate::held::Held;
-use multiply::Mul;
-use proto_core::{Block, P1, P2, P3};
+use multiply::MulWords;
+use proto_core::Messages;
 use share_ring::AddRing;
 use std::alloc::{AllocError, Global};
 use std::time::{Duration, Instant};
@@ -54,8 +54,34 @@ struct Products {
     third: Vec<u64>,
 }
 
+// Takes the masks that were sent.
+fn cross(miner: &mut MulWords, sent: &Messages) {
+    if let Some(words) = sent.lent(0)
+        && words.len() == 3 * miner.size()
+    {
+        miner.cross::<AddRing>(words);
+    }
+}
+
+// Takes the factors that were sent.
+fn product(alloc: Global, miner: MulWords, sent: &Messages) -> Vec<u64> {
+    if let Some(words) = sent.lent(1)
+        && words.len() == 2 * miner.size()
+    {
+        return miner.into_product::<AddRing>(words);
+    }
+    Vec::new(alloc)
+}
+
+// Sends the factors.
+fn send(miner: &MulWords, sent: &mut Messages) -> Result<(), AllocError> {
+    let (u, v) = miner.factors();
+    sent.push_two(u, v)
+}
+
 // One block, from one element to before another.
 fn multiply_block(
+    alloc: Global,
     miners: &Miners,
     from: usize,
     to: usize,
@@ -68,24 +94,30 @@ fn multiply_block(
     let first = miners.first.part(from, to);
     let second = miners.second.part(from, to);
     let third = miners.third.part(from, to);
-    let (u1, v1) = (Block::from_words(first.u), Block::from_words(first.v));
-    let (u2, v2) = (Block::from_words(second.u), Block::from_words(second.v));
-    let (u3, v3) = (Block::from_words(third.u), Block::from_words(third.v));
-    let (miner1, masks1) = Mul::<AddRing, P1, _>::start(&u1, &v1, first.tape);
-    let (miner2, masks2) = Mul::<AddRing, P2, _>::start(&u2, &v2, second.tape);
-    let (miner3, masks3) = Mul::<AddRing, P3, _>::start(&u3, &v3, third.tape);
-    let (miner1, factors1) = miner1.got(&masks3).unwrap();
-    let (miner2, factors2) = miner2.got(&masks1).unwrap();
-    let (miner3, factors3) = miner3.got(&masks2).unwrap();
+    let mut sent1 = Messages::new(alloc);
+    let mut sent2 = Messages::new(alloc);
+    let mut sent3 = Messages::new(alloc);
+    let mut miner1 = MulWords::masked::<AddRing>(alloc, first.u, first.v, first.tape)?;
+    let mut miner2 = MulWords::masked::<AddRing>(alloc, second.u, second.v, second.tape)?;
+    let mut miner3 = MulWords::masked::<AddRing>(alloc, third.u, third.v, third.tape)?;
+    sent1.push_words(first.tape)?;
+    sent2.push_words(second.tape)?;
+    sent3.push_words(third.tape)?;
+    cross(&mut miner1, &sent3);
+    cross(&mut miner2, &sent1);
+    cross(&mut miner3, &sent2);
+    send(&miner1, &mut sent1)?;
+    send(&miner2, &mut sent2)?;
+    send(&miner3, &mut sent3)?;
     products
         .first
-        .extend_from_slice(miner1.got(&factors3).unwrap().words())?;
+        .extend_from_slice(&product(alloc, miner1, &sent3))?;
     products
         .second
-        .extend_from_slice(miner2.got(&factors1).unwrap().words())?;
+        .extend_from_slice(&product(alloc, miner2, &sent1))?;
     products
         .third
-        .extend_from_slice(miner3.got(&factors2).unwrap().words())
+        .extend_from_slice(&product(alloc, miner3, &sent2))
 }
 
 // The products of all elements, in blocks of 512.
@@ -99,7 +131,7 @@ fn multiply_all(alloc: Global, miners: &Miners) -> Result<Products, AllocError> 
     let mut from = 0;
     while from < n {
         let to = (n - from).min(BLOCK) + from;
-        multiply_block(miners, from, to, &mut products)?;
+        multiply_block(alloc, miners, from, to, &mut products)?;
         from = to;
     }
     Ok(products)

@@ -1,6 +1,6 @@
 -- Messages kept as words and ends.
 use Rattle.std.proofs.Common.{◌≡◌, ℕ, zero, suc, ◌+◌, ◌-◌, ◌<◌, ◌≤◌, List, [], ◌∷◌, ◌++◌, length, take, drop, map, get_or, refl, sym, ◌∙◌, ap, arith}
-use Rattle.std.proofs.Common.{length-append, length-drop, inl, inr}
+use Rattle.std.proofs.Common.{length-append, length-drop, append_assoc, inl, inr}
 use Rattle.std.specs.Prelude.{slice_get, Some, None}
 use Rattle.std.specs.List.{range_with_len}
 use Rattle.std.proofs.Math.Seq.{take-length, drop-append_seam}
@@ -124,10 +124,16 @@ AreEnds-push ends words m is short =
       last = ap (start_of (ends ++ length (words ++ m) ∷ [])) more ∙ at-ends_new ends words m;
     }
 
+pub messages_of-push_two :
+    (ends words x y : List ℕ) → AreEnds ends words →
+    messages_of (ends ++ length ((words ++ x) ++ y) ∷ []) ((words ++ x) ++ y) ≡ messages_of ends words ++ (x ++ y) ∷ []
+messages_of-push_two ends words x y is =
+    ap (λ w. messages_of (ends ++ length w ∷ []) w) (append_assoc words x y) ∙ messages_of-push ends words (x ++ y) is
+
 pub AreEnds-none : AreEnds [] []
 AreEnds-none = record { pieces = λ k h. absurd (omega arith); last = refl }
 
-pub ruleset pushed = (messages_of-push, length-append, AreEnds-push)
+pub ruleset pushed = (messages_of-push, messages_of-push_two, length-append, AreEnds-push)
 
 pub ruleset counted = (length-messages_of, length-append)
 

@@ -1,4 +1,4 @@
-ghost use Rattle.std.specs.Prelude.{◌≡◌, ◌+◌, ◌<◌, ◌≤◌, ◌↔◌, ℕ, List, [], ◌∷◌, ◌++◌, length, IsTrue, OnOk, OnErr, slice_get};
+ghost use Rattle.std.specs.Prelude.{◌≡◌, ◌+◌, ◌<◌, ◌≤◌, ◌↔◌, ℕ, List, [], ◌∷◌, ◌++◌, length, IsTrue, OnOk, OnErr, slice_get, option_map, IfSome};
 ghost use Rattle.proto_core.specs.MessageLists.{start_of};
 
 use crate::msg::Msg;
@@ -36,13 +36,44 @@ impl Messages {
     }
 
     /// One message more at the end; with no memory left the list is as before.
-    #[tactic(auto, using(crate::proofs::MessageListsLemmas::pushed))]
     pub fn push(&mut self, msg: &Msg) -> Result<(), AllocError>
         ensures ok { OnOk result (self.new ≡ self.old ++ msg.now ∷ []) }
         ensures err { OnErr result (self.new ≡ self.old) }
     {
+        self.push_words(msg.words())
+    }
+
+    /// A message of these words more at the end; with no memory left the list is as before.
+    #[tactic(auto, using(crate::proofs::MessageListsLemmas::pushed))]
+    pub fn push_words(&mut self, words: &[u64]) -> Result<(), AllocError>
+        requires { length words.now ≤ 2048 }
+        ensures ok { OnOk result (self.new ≡ self.old ++ words.now ∷ []) }
+        ensures err { OnErr result (self.new ≡ self.old) }
+    {
         let before = self.words.len();
-        self.words.extend_from_slice(msg.words())?;
+        self.words.extend_from_slice(words)?;
+        match self.ends.push(self.words.len()) {
+            Ok(()) => Ok(()),
+            Err(refused) => {
+                self.words.truncate(before);
+                Err(refused.into())
+            }
+        }
+    }
+
+    /// A message of these words, and those behind them, more at the end; with no memory left the list is as before.
+    #[tactic(auto, using(crate::proofs::MessageListsLemmas::pushed))]
+    pub fn push_two(&mut self, first: &[u64], second: &[u64]) -> Result<(), AllocError>
+        requires { length first.now + length second.now ≤ 2048 }
+        ensures ok { OnOk result (self.new ≡ self.old ++ (first.now ++ second.now) ∷ []) }
+        ensures err { OnErr result (self.new ≡ self.old) }
+    {
+        let before = self.words.len();
+        self.words.extend_from_slice(first)?;
+        let Ok(()) = self.words.extend_from_slice(second) else {
+            self.words.truncate(before);
+            return Err(AllocError);
+        };
         match self.ends.push(self.words.len()) {
             Ok(()) => Ok(()),
             Err(refused) => {
@@ -69,17 +100,24 @@ impl Messages {
     }
 
     /// The message of a number, from 0; `None` past the end.
-    #[tactic(auto, using(crate::proofs::MessageListsLemmas::found))]
     pub fn get(&self, at: usize) -> Option<Msg>
         ensures { result ≡ slice_get self.now at }
+    {
+        Some(Msg::from_words(self.lent(at)?))
+    }
+
+    /// The words of the message of a number, from 0, where they lie; `None` past the end.
+    #[tactic(auto, using(crate::proofs::MessageListsLemmas::found))]
+    pub fn lent(&self, at: usize) -> Option<&[u64]>
+        ensures found { option_map (λ words. words.now) result ≡ slice_get self.now at }
+        ensures short { IfSome result (λ words. length words.now ≤ 2048) }
     {
         let ends = self.ends.as_slice();
         let words = self.words.as_slice();
         if at >= ends.len() {
             return None;
         }
-        let piece = &words[start(ends, at)..ends[at]];
-        Some(Msg::from_words(piece))
+        Some(&words[start(ends, at)..ends[at]])
     }
 }
 

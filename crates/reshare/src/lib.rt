@@ -5,9 +5,12 @@
 #![tactic(auto)]
 
 mod gate;
+mod kernels;
 mod resharing;
 mod together;
+mod words;
 
 pub use gate::{ReshareGate, reshare_is_lawful};
 pub use resharing::{Reshare, Sent, take_mask};
 pub use together::{Part, reshare_together};
+pub use words::ShareWords;

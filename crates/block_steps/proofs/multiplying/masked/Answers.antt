@@ -1,23 +1,13 @@
-use Rattle.std.proofs.Common.{◌*◌, [], ◌∷◌, length, refl}
-use Rattle.proto_core.specs.Parties.{from_previous}
-use Rattle.proto_core.specs.Strand.{Words}
-use Rattle.multiply.specs.MulStrand.{Held}
+use Rattle.std.proofs.Common.{◌≡◌, ◌*◌, [], ◌∷◌, ◌++◌, length, ◌∙◌, ap, arith}
 use Rattle.block_steps.proofs.Rings.{masked-turn}
-use Rattle.block_steps.proofs.Turns.{wrong-previous}
 use Rattle.block_steps.proofs.multiplying.masked.Goals as goal
 
-pub returns-in_ok-boxed-in-Ok-clause-same : goal.returns-in_ok-boxed-in-Ok-clause-same
-returns-in_ok-boxed-in-Ok-clause-same g c =
+pub returns-clause-same : goal.returns-clause-same
+returns-clause-same g c =
     let l = c.args.links.now in
-    masked-turn g.R.ShareRing.ring g.P.Party.me c.args.state.value c.into_inner.result c.in-Ok.state c.in_ok-boxed-in-Ok.field-0.value c.in-Some.msg
-    c.in-Ok.next
-    l.from_previous.1 c.take.new.self.1 l.from_next.1 l.to_next c.push.new.self l.to_previous l.opened.items
-    c.into_inner.ensures c.in_ok-boxed-in-Ok.ensures c.in-Some.ensures c.take.ensures.left c.in-Ok.ensures.ok c.in_ok-push-in-Ok.ensures.ok
-
-pub returns-in_ok-boxed-in-Err-clause-stands : goal.returns-in_ok-boxed-in-Err-clause-stands
-returns-in_ok-boxed-in-Err-clause-stands g c =
-    let l = c.args.links.now in
-    wrong-previous (λ (s : Held). length s.mask) (Words ∷ Words ∷ Words ∷ []) c.into_inner.result (3 * length c.into_inner.result.mask) c.in-Some.msg
-    c.in-Err.refused
-    c.in_ok-boxed-in-Err.field-0.value g.P.Party.me l.from_previous.1 l.from_next.1 refl c.in-Err.ensures.err c.in_ok-boxed-in-Err.ensures
-    (from_previous g.P.Party.me) refl c.in-Some.ensures
+    let after = c.cross.new.self in
+    let fits : length c.in-Some.words.now ≡ 3 * length c.args.state.mask = omega (arith, c.size.ensures.size) in
+    masked-turn g.R.ShareRing.ring g.P.Party.me c.args.state after c.in-Some.words.now l.from_previous.1 c.take.new.self.1 l.from_next.1
+    l.to_next c.push_two.new.self l.to_previous l.opened.items c.in-Some.ensures c.take.ensures.left fits c.cross.ensures
+    (c.in_ok-push_two.ensures.ok ∙ ap (λ w. l.to_next ++ (w ++ c.factors.result.1.now) ∷ []) c.factors.ensures.u
+    ∙ ap (λ w. l.to_next ++ (after.u ++ w) ∷ []) c.factors.ensures.v)

@@ -1,4 +1,4 @@
-use Rattle.std.proofs.Common.{ℕ, List, [], ◌∷◌, ◌++◌, length, refl, ap, ◌∙◌}
+use Rattle.std.proofs.Common.{ℕ, List, length, refl, ap, ◌∙◌}
 use Rattle.proto_core.specs.Parties.{to_next}
 use Rattle.proto_core.specs.Strand.{run}
 use Rattle.proto_core.specs.Net.{mail_of}
@@ -16,8 +16,6 @@ returns-clause-same g c =
     let u = c.args.u.now in
     let w = c.args.words.now in
     let x = mail_of i l.from_previous.1 l.from_next.1 in
-    let n = c.push.new.self in
-    ap (λ (s : List ℕ × List ℕ). outcome i n l.to_previous l.opened.items (run (left_masked r i s) x))
-    (c.in_ok-boxed.ensures ∙ c.start-state.ensures.state ∙ ap (λ (b : List ℕ). (b, w)) c.from_words.ensures)
-    ∙ outcome-sent_next i l.to_next n l.to_previous l.opened.items w (to_next i) (open_masked r (length u) i u w) x refl
-    (c.in_ok-push.ensures.ok ∙ ap (λ (m : List ℕ). l.to_next ++ m ∷ []) c.start-state.ensures.mask)
+    let n = c.push_words.new.self in
+    ap (λ (s : List ℕ × List ℕ). outcome i n l.to_previous l.opened.items (run (left_masked r i s) x)) c.in_ok-state.ensures
+    ∙ outcome-sent_next i l.to_next n l.to_previous l.opened.items w (to_next i) (open_masked r (length u) i u w) x refl c.in_ok-push_words.ensures.ok

@@ -1,0 +1,9 @@
+use Rattle.std.proofs.Common.{◌≡◌, ◌≤◌, length}
+use Rattle.proto_core.proofs.Edits.{edited}
+use Rattle.multiply.proofs.Crossings.{crossed_at}
+use Rattle.multiply.proofs.kernels.add_crossed.Given as goal
+
+abbrev pub invariant-loop-at : goal.invariant-loop-at
+invariant-loop-at g l =
+    (l.at ≤ length l.fn.share)
+    × (l.share ≡ edited l.at (crossed_at g.R.ShareRing.ring l.u l.v l.previous l.fn.share (length l.fn.share)) l.fn.share)
