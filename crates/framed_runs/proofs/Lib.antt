@@ -1,0 +1,2 @@
+pub mod FramedScripts
+pub mod FramedMessages

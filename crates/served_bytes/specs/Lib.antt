@@ -1,0 +1,4 @@
+pub mod Front
+pub mod Served
+pub mod Reading
+pub mod Laws

@@ -1,0 +1,4 @@
+pub mod Frames
+pub mod Hellos
+pub mod Digests
+pub mod Vectors
