@@ -1,7 +1,8 @@
 -- What a function that reads files answered.
-use Rattle.std.specs.Prelude.{ℕ, ◌≡◌, ◌≤◌, List, true, Result, Ok, Err, MatchResult, Contains, string_bytes}
+use Rattle.std.specs.Prelude.{ℕ, ◌≡◌, List, true, Result, Ok, Err, MatchResult, Contains, string_bytes}
 use Rattle.outside.specs.Causes.{Rose}
-use Rattle.outside.specs.Files.{FilesState, SameFiles}
+use Rattle.outside.specs.Files.{FilesState}
+pub use Rattle.outside.specs.Files.{OnlyRead}
 use Rattle.sc_text.specs.Fault.{file_line}
 use Rattle.command_frame.specs.declared.object.Object.TheVariants as objects
 use Rattle.command_frame.specs.declared.plan.Plan.{Plan}
@@ -10,12 +11,6 @@ use Rattle.command_frame.specs.declared.stop.Stop.{Stop}
 use Rattle.command_frame.specs.declared.stop.Stop.TheVariants as stops
 use Rattle.command_frame.specs.Answer.{Cause, cause_of, paths_in, writes_of}
 use Rattle.command_frame.specs.Objects.{OfFile}
-
--- nothing was written
-pub record OnlyRead (old new : FilesState) : Type 0 where
-  pub same : SameFiles old new
-  pub later : old.faults ≤ new.faults
-  pub still : old.steady ≡ true → new.steady ≡ true
 
 -- the count of faults rose, and that of a steady store only where the file is missing
 pub record Faulted {Y : Type 0} (old new : FilesState) (line : List ℕ) (decided : Result Y Cause) : Type 0 where

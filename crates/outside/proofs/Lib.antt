@@ -1,5 +1,5 @@
 pub mod Given
 pub mod Known
-pub mod Lookups
+pub mod MapFiles
 pub mod Peers
 pub mod Puts

@@ -1,13 +1,15 @@
 pub mod Causes
+pub mod FileCall
 pub mod Files
 pub mod Links
+pub mod MemFile
 pub mod MemFiles
 pub mod MemLinks
 pub mod MemPeer
 pub mod MemSink
-pub mod Pairs
 pub mod Plan
 pub mod Sink
 pub mod Spawner
 pub mod SpawnCall
 pub mod MemSpawner
+pub mod Tapes

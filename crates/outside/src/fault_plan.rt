@@ -23,6 +23,13 @@ impl FaultPlan {
         }
     }
 
+    /// How many calls there were.
+    pub(crate) fn calls(&self) -> u64
+        ensures { result ≡ self.now.calls }
+    {
+        self.calls
+    }
+
     /// Counts one more call, and a fault where it is one that is to fail. Says whether it is.
     pub(crate) fn next_fails(&mut self) -> bool
         ensures listed { IsTrue result ↔ Contains self.old.fails.items self.old.calls }

@@ -34,6 +34,13 @@ impl MemLinks {
         }
     }
 
+    /// How many calls were made, failed ones too.
+    pub fn calls_made(&self) -> u64
+        ensures { result ≡ (plan_in self.now).calls }
+    {
+        self.plan.calls()
+    }
+
     /// Lets these bytes come from this peer, after those that were to come: it is no call of the links.
     #[tactic(auto, using(crate::proofs::Peers::peers))]
     pub fn arrive(&mut self, peer: u8, bytes: &[u8]) -> Result<(), AllocError>

@@ -29,6 +29,13 @@ impl MemSink {
         }
     }
 
+    /// How many calls were made, failed ones too.
+    pub fn calls_made(&self) -> u64
+        ensures { result ≡ (plan_in self.now).calls }
+    {
+        self.plan.calls()
+    }
+
     /// All that was put: it is no call of the sink.
     pub fn bytes(&self) -> &[u8]
         ensures { result.now ≡ bytes_in self.now }

@@ -62,6 +62,13 @@ impl MemSpawner {
         }
     }
 
+    /// How many calls were made, failed ones too.
+    pub fn calls_made(&self) -> u64
+        ensures { result ≡ (plan_in self.now).calls }
+    {
+        self.plan.calls()
+    }
+
     /// The calls that were answered, in order: it is no call of the spawner.
     pub fn calls(&self) -> &[SpawnCall]
         ensures { calls_of result.now ≡ calls_in self.now }

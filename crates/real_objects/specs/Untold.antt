@@ -1,13 +1,14 @@
 -- Nothing is told of what the real objects hold: only their faults are counted.
-use Rattle.std.specs.Prelude.{ℕ, pos, [], false}
+use Rattle.std.specs.Prelude.{ℕ, List, pos, [], false, Option}
 use Rattle.std.specs.FinMap.{empty}
 use Rattle.outside.specs.Files.{FilesState}
 use Rattle.outside.specs.Links.{LinksState}
 use Rattle.outside.specs.Sink.{SinkState}
 use Rattle.outside.specs.Spawner.{SpawnerState}
 
-abbrev pub untold_files : ℕ → FilesState
-untold_files faults = record { told = false; contents = empty; faults = faults; steady = false }
+-- but the sizes that were answered are known
+abbrev pub untold_files : ℕ → (List ℕ → Option ℕ) → FilesState
+untold_files faults sized = record { told = false; contents = empty; faults = faults; steady = false; sized = sized }
 
 abbrev pub untold_sink : ℕ → SinkState
 untold_sink faults = record { told = false; written = []; faults = faults; shortages = 0; steady = false }

@@ -1,4 +1,4 @@
-// Links over TCP on this machine's loopback address.
+// Links over TCP on this machine's loopback network.
 ghost use Rattle.std.specs.Prelude.{◌≡◌, ◌+◌, ◌-◌, ◌<◌, ◌≤◌};
 ghost use Rattle.real_objects.specs.Untold.{untold_links};
 
@@ -6,15 +6,21 @@ use crate::attempts::{read_some, write_some};
 use crate::vectors::push;
 use outside::{Failed, FileErr, Links};
 use std::alloc::Global;
-use std::io;
-use std::net::{IpAddr, Ipv4Addr, Net, OpenListener, OpenStream, SocketAddr};
+use std::net::{IpAddr, Ipv4Addr, Net, OpenListener, OpenStream, Shutdown, SocketAddr};
+use std::time::{Clock, Duration};
+use std::{io, thread};
 
 /// How often a peer is tried before a fault is counted.
 const MAX_TRIES: u32 = 1_000_000;
 
+/// How often a peer is tried at once, before each try waits for a millisecond.
+const PROMPT_TRIES: u32 = 300;
+
 /// Links over TCP. Nothing is told of them; each error is counted.
-#[derive(Drop)]
-pub struct RealLinks<'a, R: Net> {
+///
+/// When they are dropped, each stream's sending half is shut down first, so that its peer reads all that was sent and then the
+/// stream's end.
+pub struct RealLinks<'a, R: Net + Clock> {
     rt: &'a R,
     alloc: Global,
     // Of peers 1 to 3, in this order; none of this one's own number.
@@ -33,8 +39,10 @@ fn pair_port(lower: u8, higher: u8, port: u16) -> u16
     port + u16::from(lower + higher - 3)
 }
 
+// Both ends of a pair use 127.0.0.2. The system gives a try that names no address of its own 127.0.0.1, so one at a port on which
+// nobody listens yet can't meet itself here, and streams of other programs at this port of 127.0.0.1 don't hinder a bind.
 fn loopback(port: u16) -> SocketAddr {
-    SocketAddr::new(IpAddr::V4(Ipv4Addr::LOCALHOST), port)
+    SocketAddr::new(IpAddr::V4(Ipv4Addr::new(127, 0, 0, 2)), port)
 }
 
 // Whether this stream has another end than itself: a try at a port on which nobody listens can meet its own.
@@ -43,8 +51,11 @@ fn is_joined<S: OpenStream>(stream: &S, port: u16) -> bool {
 }
 
 // The stream to the peer that listens on this port, or will soon.
-fn reach<R: Net>(rt: &R, port: u16) -> io::Result<R::Stream> {
-    for _ in 0..MAX_TRIES {
+fn reach<R: Net + Clock>(rt: &R, port: u16) -> io::Result<R::Stream> {
+    for tries in 0..MAX_TRIES {
+        if tries >= PROMPT_TRIES {
+            thread::sleep(rt, Duration::from_millis(1));
+        }
         if let Ok(stream) = rt.connect(loopback(port)) {
             if is_joined(&stream, port) {
                 stream.set_nodelay(true)?;
@@ -72,7 +83,7 @@ fn listen<R: Net>(rt: &R, alloc: Global, me: u8, port: u16) -> io::Result<Vec<R:
 }
 
 // Connects to the peers of a lower number.
-fn reach_lower<R: Net>(
+fn reach_lower<R: Net + Clock>(
     rt: &R,
     me: u8,
     port: u16,
@@ -106,7 +117,7 @@ fn accept_higher<R: Net>(
 }
 
 // Connects to the lower peers and then accepts the higher ones.
-fn join_peers<R: Net>(
+fn join_peers<R: Net + Clock>(
     rt: &R,
     me: u8,
     port: u16,
@@ -122,7 +133,12 @@ fn join_peers<R: Net>(
 }
 
 // The streams to all three: it binds all its ports before it joins a peer.
-fn join<R: Net>(rt: &R, alloc: Global, me: u8, port: u16) -> io::Result<Vec<Option<R::Stream>>>
+fn join<R: Net + Clock>(
+    rt: &R,
+    alloc: Global,
+    me: u8,
+    port: u16,
+) -> io::Result<Vec<Option<R::Stream>>>
     requires me_from { 1 ≤ me }
     requires me_to { me ≤ 3 }
     requires port_to { port ≤ 65533 }
@@ -133,7 +149,28 @@ fn join<R: Net>(rt: &R, alloc: Global, me: u8, port: u16) -> io::Result<Vec<Opti
     Ok(streams)
 }
 
-impl<'a, R: Net> RealLinks<'a, R> {
+// Ends the sending half of each stream.
+fn end_sending<S: OpenStream>(streams: &[Option<S>]) {
+    for stream in streams {
+        if let Some(stream) = stream {
+            let _ = stream.shutdown(Shutdown::Write);
+        }
+    }
+}
+
+impl<R: Net + Clock> Drop for RealLinks<'_, R> {
+    fn drop(self) {
+        end_sending(&self.streams);
+        let RealLinks {
+            rt: _,
+            alloc: _,
+            streams: _,
+            faults: _,
+        } = self;
+    }
+}
+
+impl<'a, R: Net + Clock> RealLinks<'a, R> {
     /// Links that are not joined to any peer.
     pub fn new(rt: &'a R, alloc: Global) -> Self
         ensures { result.faults ≡ 0 }
@@ -147,7 +184,7 @@ impl<'a, R: Net> RealLinks<'a, R> {
     }
 }
 
-impl<'a, R: Net> Links for RealLinks<'a, R> {
+impl<'a, R: Net + Clock> Links for RealLinks<'a, R> {
     ghost state = { λ s. untold_links s.faults };
 
     fn connect(&mut self, me: u8, port: u16) -> Result<(), Failed> {

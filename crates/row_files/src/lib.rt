@@ -17,6 +17,6 @@ pub use compared::{Outcome, judge};
 pub use lines::Lines;
 pub use reader::{Refused, read_rows};
 pub use row::{Failing, Kind, Object, Row, Text, peer_of};
-pub use slow::SlowSink;
+pub use slow::{SlowLinks, SlowSink};
 pub use tally::Tally;
 pub use wrong::Wrong;

@@ -34,7 +34,7 @@ fn refuse<E: Sink>(err: &mut E, stop: Stop) -> Status {
 
 // Does what the words ask for.
 fn obey<E: Sink>(rt: &HostRuntime, alloc: Global, words: &[String], err: &mut E) -> Status {
-    let mut files = RealFiles::new(rt);
+    let mut files = RealFiles::new(rt, alloc);
     let mut out = RealSink::new(rt.stdout());
     let mut links = RealLinks::new(rt, alloc);
     let mut children = RealSpawner::new(rt, alloc);

@@ -1,5 +1,5 @@
 use Rattle.std.proofs.Common.{rules}
-use Rattle.outside.proofs.Lookups.{wrote_only}
+use Rattle.outside.proofs.MapFiles.{wrote_only}
 use Rattle.outside.proofs.mem_files.MemFilesFiles.write.Goals as goal
 
 pub returns-clause-only : goal.returns-clause-only

@@ -1,0 +1,5 @@
+pub mod Drawing
+pub mod Filling
+pub mod Opened
+pub mod Parties
+pub mod Splits
