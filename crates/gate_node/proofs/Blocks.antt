@@ -2,8 +2,8 @@
 use Rattle.std.proofs.Common.{◌≡◌, ℕ, suc, ◌+◌, ◌-◌, ◌<◌, ◌≤◌, min, Bool, true, false, ◌&&◌, nat_le, if◌then◌else◌, List, [], ◌∷◌, ◌++◌, length, take}
 use Rattle.std.proofs.Common.{drop, refl, sym, ◌∙◌, ap, subst, arith, Some, None, IsTrue, ◌↔◌, get_or, drop-cons, add-one}
 use Rattle.std.specs.Prelude.{Option}
-use Rattle.std.proofs.lemmas.Bool.{le-leb, lt-leb, leb-true, and_parts}
-use Rattle.std.proofs.lemmas.List.{drop-drop, drop-take, length-take-le, length-map}
+use Rattle.std.proofs.lemmas.Bool.{le-leb, lt-leb, leb-true, leb-false, and_parts}
+use Rattle.std.proofs.lemmas.List.{drop-drop, drop-take, length-take-le, length-map, length-append}
 use Rattle.std.proofs.Math.Seq.{take-add}
 use Rattle.proto_core.specs.declared.party.Number.{Number}
 use Rattle.proto_core.specs.Protocol.{Protocol}
@@ -269,6 +269,23 @@ module _ (i : Number) (dealt values : Values) (tape : List ℕ) (gate : Gate) (b
       let draws = draws-are i dealt values gate x is in
       can-is ∙ ap (λ t. t && nat_le (own_draws i dealt values gate) (length tape)) told ∙ lt-leb _ _ (omega (arith, draws, short))
 
+-- where words are wanting, it can run exactly with as many
+module _ (i : Number) (dealt values : Values) (tape : List ℕ) (gate : Gate) (b : Bool)
+    (tells : IsTrue b ↔ SizesSuit (sizes_of dealt) (sizes_of values) gate) (x : Exchanged) (is : IsExchanged gate x) (told : b ≡ true) (count : ℕ)
+    (wanting : length tape + count ≡ (protocol_of x.exchange).draws (length (value values x.u)) i) (more : List ℕ) where
+  by_test : (t : Bool) → nat_le count (length more) ≡ t → can_run i dealt values (tape ++ more) gate ≡ t
+  by_test true e =
+      let l : length (tape ++ more) ≡ length tape + length more = length-append tape more in
+      let reach : count ≤ length more = leb-true _ _ e in
+      together-can i dealt values (tape ++ more) gate b tells x is told (omega (arith, l, wanting, reach))
+  by_test false e =
+      let l : length (tape ++ more) ≡ length tape + length more = length-append tape more in
+      let short : length more < count = leb-false _ _ e in
+      together-short i dealt values (tape ++ more) gate b tells x is told (omega (arith, l, wanting, short))
+
+  pub wants-exactly : can_run i dealt values (tape ++ more) gate ≡ nat_le count (length more)
+  wants-exactly = by_test (nat_le count (length more)) refl
+
 -- a gate that can run suits, and its words are there
 module _ (i : Number) (dealt values : Values) (tape : List ℕ) (gate : Gate) (can : can_run i dealt values tape gate ≡ true) where
   pub can-suits : SizesSuit (sizes_of dealt) (sizes_of values) gate
@@ -276,3 +293,10 @@ module _ (i : Number) (dealt values : Values) (tape : List ℕ) (gate : Gate) (c
 
   pub can-reach : own_draws i dealt values gate ≤ length tape
   can-reach = leb-true _ _ (and_parts _ _ can).1
+
+  -- more words make no difference
+  pub can-more : (more : List ℕ) → can_run i dealt values (tape ++ more) gate ≡ true
+  can-more more =
+      let l : length (tape ++ more) ≡ length tape + length more = length-append tape more in
+      ap (λ b. b && nat_le (own_draws i dealt values gate) (length (tape ++ more))) (and_parts _ _ can).0
+      ∙ le-leb (own_draws i dealt values gate) (length (tape ++ more)) (omega (arith, l, can-reach))

@@ -1,17 +1,16 @@
 -- A miner that has let go values of which nothing is left to be done.
-use Rattle.std.proofs.Common.{◌≡◌, ◌≤◌, ◌+◌, ◌⊎◌, inl, inr, ℕ, length, true, sym, ap, ◌∙◌, subst, arith}
+use Rattle.std.proofs.Common.{◌≡◌, ◌≤◌, ◌+◌, ◌⊎◌, inl, inr, ℕ, List, ◌++◌, length, true, sym, ap, ◌∙◌, subst, arith}
 use Rattle.std.proofs.lemmas.List.{drop_all}
 use Rattle.std.specs.Ordering.{nat_cmp}
 use Rattle.std.specs.BTreeSet.{BTreeSet, contains}
 use Rattle.proto_core.specs.declared.party.Number.{Number}
-use Rattle.proto_core.specs.Strand.{Ends}
 use Rattle.gates.specs.Clear.{Values, value}
 use Rattle.gates.specs.Held.{kept_only}
 use Rattle.gates.proofs.Held.{kept_length, kept_value}
 use Rattle.gate_node.specs.declared.engine.Work.TheVariants as work
 use Rattle.gate_node.specs.declared.engine.Engine.{Engine}
-use Rattle.gate_node.specs.OwnGates.{Whole, own_gates}
-use Rattle.gate_node.specs.Nodes.{engine_left, work_left}
+use Rattle.gate_node.specs.OwnGates.{own_gates}
+use Rattle.gate_node.specs.Nodes.{work_left, filled, ComesTo}
 
 abbrev pub IsDone : {P : Type 0} → Engine P → Type 0
 IsDone e = (e.work ≡ work.Idle) × (length e.gates.items ≤ e.begun)
@@ -19,17 +18,17 @@ IsDone e = (e.work ≡ work.Idle) × (length e.gates.items ≤ e.begun)
 module _
     {P : Type 0} (i : Number) (e f : Engine P) (same : f ≡ record e { values = f.values })
     (then : (f.values ≡ e.values) ⊎ IsDone e) where
-  pub through_still : engine_left i e ≡ Ends (Whole e.values e.tape.1) → engine_left i f ≡ Ends (Whole f.values f.tape.1)
-  through_still through = by then
+  pub through_still : (more : List ℕ) → ComesTo i e.values e more → ComesTo i f.values f more
+  through_still more through = by then
     where
-      by : (f.values ≡ e.values) ⊎ IsDone e → engine_left i f ≡ Ends (Whole f.values f.tape.1)
+      by : (f.values ≡ e.values) ⊎ IsDone e → ComesTo i f.values f more
       by (inl is) =
           let all : f ≡ e = same ∙ ap (λ v. record e { values = v }) is in
-          subst (λ v. engine_left i v ≡ Ends (Whole v.values v.tape.1)) (sym all) through
+          subst (λ v. ComesTo i v.values v more) (sym all) through
       by (inr done) =
-          subst (λ v. engine_left i v ≡ Ends (Whole v.values v.tape.1)) (sym same)
-          (ap (work_left i (record e { values = f.values })) done.0
-          ∙ ap (λ l. own_gates i e.dealt l f.values e.tape.1) (drop_all e.begun e.gates.items done.1))
+          subst (λ v. ComesTo i v.values v more) (sym same)
+          (ap (work_left i (filled (record e { values = f.values }) more)) done.0
+          ∙ ap (λ l. own_gates i e.dealt l f.values (e.tape.1 ++ more)) (drop_all e.begun e.gates.items done.1))
 
 module _
     {P : Type 0} (numbers : BTreeSet ℕ) (e : Engine P) (after : Values)

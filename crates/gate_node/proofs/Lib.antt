@@ -7,3 +7,4 @@ pub mod Blocks
 pub mod Turns
 pub mod LettingGo
 pub mod Storing
+pub mod Supplied

@@ -1,6 +1,6 @@
 -- The last gate, a store into an array that is let go, is run in place.
 use Rattle.std.proofs.Common.{◌≡◌, ℕ, ◌+◌, ◌<◌, ◌≤◌, Bool, true, IsTrue, ◌↔◌, List, [], ◌∷◌, ◌++◌, length, get_or, refl, sym, ◌∙◌, ap, subst, arith}
-use Rattle.std.specs.Prelude.{set}
+use Rattle.std.specs.Prelude.{set, Result, Ok, Err, IfOk}
 use Rattle.std.proofs.lemmas.List.{drop_all, length-map, length_push, set-append_left}
 use Rattle.proto_core.specs.declared.party.Number.{Number}
 use Rattle.proto_core.specs.Strand.{Ends}
@@ -13,7 +13,7 @@ use Rattle.shared_gates.proofs.Models.{size-value}
 use Rattle.gate_node.specs.declared.engine.Work.TheVariants as work
 use Rattle.gate_node.specs.declared.engine.Engine.{Engine}
 use Rattle.gate_node.specs.OwnGates.{Whole, own_gates}
-use Rattle.gate_node.specs.Nodes.{work_left, StoresLast, HasStored, IsAhead}
+use Rattle.gate_node.specs.Nodes.{work_left, filled, StoresLast, HasStored, IsAhead}
 use Rattle.gate_node.proofs.Blocks.{drop-front, gate-alone, alone-can}
 
 module _ {P : Type 0} (i : Number) (e : Engine P) (array index v : ℕ) where
@@ -34,11 +34,12 @@ module _ {P : Type 0} (i : Number) (e : Engine P) (array index v : ℕ) where
         idle = idle;
         last = last;
         left =
-            ap (work_left i e) idle
-            ∙ ap (λ l. own_gates i e.dealt l e.values e.tape.1)
+            λ more.
+            ap (work_left i (filled e more)) idle
+            ∙ ap (λ l. own_gates i e.dealt l e.values (e.tape.1 ++ more))
             (drop-front e.begun e.gates.items store some is ∙ ap (λ l. store ∷ l) (drop_all (e.begun + 1) e.gates.items none))
-            ∙ gate-alone i e.dealt e.values e.tape.1 store [] (alone-can i e.dealt e.values e.tape.1 store b tells told tt) tt
-            ∙ ap (λ x. Ends (Whole (e.values ++ set (value e.values array) index x ∷ []) e.tape.1)) (sym has);
+            ∙ gate-alone i e.dealt e.values (e.tape.1 ++ more) store [] (alone-can i e.dealt e.values (e.tape.1 ++ more) store b tells told tt) tt
+            ∙ ap (λ x. Ends (Whole (e.values ++ set (value e.values array) index x ∷ []) (e.tape.1 ++ more))) (sym has);
         there = subst (λ n. array < n) many suit.0;
         within = subst (λ n. index < n) (sym size) suit.2;
       }
@@ -53,39 +54,48 @@ module _ {P : Type 0} (i : Number) (array index word count : ℕ) (e : Engine P)
   has-stored is next counted =
       let new : List ℕ = set (value e.values array) index word in
       let all : Values = e.values ++ new ∷ [] in
-      let more : length all ≡ length e.values + 1 = length_push e.values new in
-      let none : length e.gates.items ≤ begun = omega (arith, h.last, next) in (
-        all,
-        record {
-          came = h.left;
-          left = ap (work_left i after) h.idle ∙ ap (λ l. own_gates i e.dealt l values e.tape.1) (drop_all begun e.gates.items none);
+      let grown : length all ≡ length e.values + 1 = length_push e.values new in
+      let none : length e.gates.items ≤ begun = omega (arith, h.last, next) in
+      record {
+        values = all;
+        stored = λ more. record {
+          came = h.left more;
+          left =
+              ap (work_left i (filled after more)) h.idle
+              ∙ ap (λ l. own_gates i e.dealt l values (e.tape.1 ++ more)) (drop_all begun e.gates.items none);
           let_go = is ∙ sym (set-append_left e.values (new ∷ []) array [] h.there);
-          earlier = omega (arith, more, h.there);
-          counted = more ∙ counted;
+          earlier = omega (arith, grown, h.there);
+          counted = grown ∙ counted;
           links = refl;
           dealt = refl;
           tape = refl;
-        },
-      )
+        };
+      }
 
 -- other gates were run before
 pub stored_behind :
     {P : Type 0} (i : Number) (array count : ℕ) (e f h : Engine P) → IsAhead i e f → HasStored i array count f h → HasStored i array count e h
 stored_behind i array count e f h ahead stored =
-    let s = stored.1 in (
-      stored.0,
-      record {
-        came = sym ahead.left ∙ s.came ∙ ap (λ (t : List ℕ × List ℕ). Ends (Whole stored.0 t.1)) ahead.tape;
+    record {
+      values = stored.values;
+      stored = λ more. let s = stored.stored more in record {
+        came = sym (ahead.left more) ∙ s.came ∙ ap (λ (t : List ℕ × List ℕ). Ends (Whole stored.values (t.1 ++ more))) ahead.tape;
         left = s.left;
         let_go = s.let_go;
         earlier = s.earlier;
         counted = s.counted;
         links = s.links ∙ ahead.links;
         dealt = s.dealt ∙ ahead.dealt;
-        tape = s.tape ∙ ahead.tape;
-      },
-    )
+        tape = s.tape ∙ ap (λ (t : List ℕ × List ℕ). (t.0 ++ more, t.1 ++ more)) ahead.tape;
+      };
+    }
+
+pub stored_behind_all :
+    {P E : Type 0} (i : Number) (array count : ℕ) (e f h : Engine P) (r : Result Bool E) → IsAhead i e f →
+    IfOk r (λ done. done ≡ true → HasStored i array count f h) → IfOk r (λ done. done ≡ true → HasStored i array count e h)
+stored_behind_all i array count e f h (Ok done) ahead stored = λ is. stored_behind i array count e f h ahead (stored is)
+stored_behind_all i array count e f h (Err x) ahead stored = tt
 
 pub ahead_of_all : {P : Type 0} (i : Number) (e f h : Engine P) → IsAhead i e f → IsAhead i f h → IsAhead i e h
 ahead_of_all i e f h a b =
-    record { left = b.left ∙ a.left; links = b.links ∙ a.links; dealt = b.dealt ∙ a.dealt; tape = b.tape ∙ a.tape }
+    record { left = λ more. b.left more ∙ a.left more; links = b.links ∙ a.links; dealt = b.dealt ∙ a.dealt; tape = b.tape ∙ a.tape }

@@ -1,8 +1,15 @@
 -- Words that were drawn, and those that are left.
-use Rattle.std.proofs.Common.{◌≡◌, ℕ, ◌+◌, List, drop, length, length-drop, sym}
-use Rattle.std.proofs.lemmas.List.{drop-drop}
+use Rattle.std.proofs.Common.{◌≡◌, ℕ, ◌+◌, ◌≤◌, List, ◌++◌, take, drop, length, length-drop, sym, arith}
+use Rattle.std.proofs.lemmas.List.{drop-drop, drop-append-le, take-append-le, length-append}
 
 pub drop-more : (n drawn : ℕ) (xs : List ℕ) → drop (drawn + n) xs ≡ drop n (drop drawn xs)
 drop-more n drawn xs = sym (drop-drop n drawn xs)
 
-pub ruleset tape_steps = (drop-more, length-drop)
+-- further words come behind: those at the front are the same, and so many are left as before, with the further ones
+pub front-more : (n : ℕ) (xs more : List ℕ) → n ≤ length xs → (take n (xs ++ more) ≡ take n xs) × (drop n (xs ++ more) ≡ drop n xs ++ more)
+front-more n xs more h = (take-append-le n xs more h, drop-append-le n xs more h)
+
+pub further : (n : ℕ) (xs more : List ℕ) → n ≤ length xs → n ≤ length (xs ++ more)
+further n xs more h = let l : length (xs ++ more) ≡ length xs + length more = length-append xs more in omega (arith, l, h)
+
+pub ruleset tape_steps = (drop-more, length-drop, drop-append-le)

@@ -1,5 +1,5 @@
 -- One step of a block changes nothing of what a miner has done and will do.
-use Rattle.std.proofs.Common.{◌≡◌, ℕ, ◌+◌, ◌-◌, ◌<◌, ◌≤◌, min, List, ◌++◌, length, take, drop, refl, sym, ◌∙◌, ap, subst, arith, length-drop, Option}
+use Rattle.std.proofs.Common.{◌≡◌, ℕ, ◌+◌, ◌-◌, ◌<◌, ◌≤◌, min, true, get_or, List, [], ◌∷◌, ◌++◌, length, take, drop, refl, sym, ◌∙◌, ap, subst, arith, length-drop, Option}
 use Rattle.std.proofs.Common.{Some, None, Vec, Global, ◌⊎◌, inl, inr}
 use Rattle.std.proofs.lemmas.List.{length-take-le, drop-append-le}
 use Rattle.proto_core.specs.declared.party.Number.{Number}
@@ -9,6 +9,7 @@ use Rattle.gates.specs.Blocks.{block_sizes}
 use Rattle.gates.specs.declared.gate.Gate.{Gate}
 use Rattle.gates.specs.Clear.{Values, value}
 use Rattle.blocked_protocol.specs.Blocked.{joined, blocks_strand}
+use Rattle.shared_gates.specs.LocalGates.{local_share, IsLocal}
 use Rattle.joint_run.specs.declared.exchange.Exchange.{Exchange}
 use Rattle.joint_run.specs.Exchanges.{protocol_of}
 use Rattle.joint_run.specs.Steps.{second_value}
@@ -23,12 +24,13 @@ use Rattle.gate_node.specs.declared.running.Running.{Running}
 use Rattle.gate_node.specs.declared.engine.Work.{Work}
 use Rattle.gate_node.specs.declared.engine.Work.TheVariants as work
 use Rattle.gate_node.specs.declared.engine.Engine.{Engine}
-use Rattle.gate_node.specs.OwnGates.{Halted, own_gates, then_gates}
+use Rattle.gate_node.specs.OwnGates.{Halted, can_run, own_gates, then_gates}
 use Rattle.gate_node.specs.Shares.{shares_of}
-use Rattle.gate_node.specs.Nodes.{blocks_then, protocol_at, size_at, gates_left, running_left, work_left, engine_left, engine_outcome, IsSoundWork}
+use Rattle.gate_node.specs.Nodes.{blocks_then, protocol_at, size_at, gates_left, running_left, work_left, engine_left, engine_outcome, filled}
+use Rattle.gate_node.specs.Nodes.{IsSoundWork}
 use Rattle.gate_node.proofs.Always.{then-all, then-assoc}
 use Rattle.gate_node.proofs.OwnGates.{run-behind}
-use Rattle.gate_node.proofs.Blocks.{blocks-begin}
+use Rattle.gate_node.proofs.Blocks.{blocks-begin, draws-apart, drop-front, gate-alone, can-more}
 
 -- ---- what stands behind
 
@@ -71,11 +73,11 @@ module _ (i : Number) (x : Exchange) (from size : ℕ) (u v tape : List ℕ) (ma
       ∙ ap (λ w. outcome_of i a (then_do (p.strand size i (take size (drop from u)) (take (p.second size) (drop (p.second from) v)) w) behind)) hw
       ∙ ap (outcome_of i a) (sym (blocks-begin p (blockable-of x) i from size u v tape made go some is reach))
 
--- the same, as the code reads its operands and words
+-- the same, as the code reads its operands, and its words from the front of the tape
 module _ (i : Number) (x : Exchange) (from size : ℕ) (u v tape : List ℕ) (made : List (List ℕ)) (go : List (List ℕ) → List ℕ → Strand Halted) where
   pub next-turn :
       (a b : Links) (s : Strand (List (List ℕ))) (tape2 w w2 t : List ℕ) (f n count : ℕ) →
-      w ≡ u → w2 ≡ v → t ≡ tape → f ≡ (protocol_of x).second from → n ≡ (protocol_of x).second size → count ≡ (protocol_of x).draws size i →
+      w ≡ u → w2 ≡ v → take count t ≡ take count tape → f ≡ (protocol_of x).second from → n ≡ (protocol_of x).second size → count ≡ (protocol_of x).draws size i →
       tape2 ≡ drop count tape → from < length w → size ≡ min (length w - from) 512 → (protocol_of x).draws (length u - from) i ≤ length tape →
       outcome_of i b s
       ≡ outcome_of i a ((protocol_of x).strand (length (take ((from + size) - from) (drop from w))) i (take ((from + size) - from) (drop from w))
@@ -96,7 +98,17 @@ module _ (i : Number) (x : Exchange) (from size : ℕ) (u v tape : List ℕ) (ma
       let len : length (take size (drop from u)) ≡ size = length-take-le size (drop from u) (omega (arith, l, is_size)) in
       ap (λ t. outcome_of i b (then_do s (λ here. blocks_then p i (from + size) u v t (joined made here) go))) (hd ∙ ap (λ k. drop k tape) hc)
       ∙ begin-turn i x from size u v tape made go a b s (take ((from + size) - from) (drop from w)) (take ((f + n) - f) (drop f w2)) (take count t)
-      begins is_size reach is_u is_v (ap (λ k. take k t) hc ∙ ap (take (p.draws size i)) ht) (ap length is_u ∙ len) same
+      begins is_size reach is_u is_v (ht ∙ ap (λ k. take k tape) hc) (ap length is_u ∙ len) same
+
+-- the words of the next block are there
+pub reaches :
+    (i : Number) (x : Exchange) (from size : ℕ) (u w : List ℕ) (count : ℕ) (tape : List ℕ) → w ≡ u → from < length w → size ≡ min (length w - from) 512 →
+    count ≡ (protocol_of x).draws size i → (protocol_of x).draws (length u - from) i ≤ length tape → count ≤ length tape
+reaches i x from size u w count tape hw some is hc reach =
+    let l : length w ≡ length u = ap length hw in
+    let apart : size + (length u - (from + size)) ≡ length u - from = omega (arith, l, some, is) in
+    let draws = draws-apart x i size (length u - (from + size)) (length u - from) apart in
+    omega (arith, draws, hc, reach)
 
 -- ---- a block that is through
 
@@ -121,6 +133,20 @@ module _ {P : Type 0} (i : Number) (e : Engine P) (w : Work P) (is : e.work ≡ 
 
   pub sound-work : IsSoundWork i e w → IsSoundWork i e e.work
   sound-work = subst (IsSoundWork i e) (sym is)
+
+-- a gate that sends nothing, and can run with the words that were supplied, is through at once, whatever words come behind
+pub runs-alone :
+    {P : Type 0} (i : Number) (e : Engine P) (gate : Gate) (values : Values) → e.work ≡ work.Idle → e.begun < length e.gates.items →
+    get_or e.gates.items e.begun gate ≡ gate → can_run i e.dealt e.values e.tape.1 gate ≡ true → IsLocal gate →
+    values ≡ e.values ++ local_share i e.dealt e.values gate ∷ [] → (more : List ℕ) →
+    engine_left i (filled (record e { values = values; begun = e.begun + 1 }) more) ≡ engine_left i (filled e more)
+runs-alone i e gate values idle some is can local made more =
+    let rest = drop (e.begun + 1) e.gates.items in
+    ap (work_left i (filled (record e { values = values; begun = e.begun + 1 }) more)) idle
+    ∙ ap (λ v. own_gates i e.dealt rest v (e.tape.1 ++ more)) made
+    ∙ sym (ap (work_left i (filled e more)) idle
+    ∙ ap (λ l. own_gates i e.dealt l e.values (e.tape.1 ++ more)) (drop-front e.begun e.gates.items gate some is)
+    ∙ gate-alone i e.dealt e.values (e.tape.1 ++ more) gate rest (can-more i e.dealt e.values e.tape.1 gate can more) local)
 
 -- ---- gates are added
 
@@ -172,19 +198,20 @@ module _ {P : Type 0} (i : Number) (e f : Engine P) (same : f.gates.items ≡ e.
 
 -- gates that have begun are let go
 module _ {P : Type 0} (i : Number) (e : Engine P) (f : Engine P) (same : drop f.begun f.gates.items ≡ drop e.begun e.gates.items) where
-  pub work-kept : (w : Work P) → work_left i (record e { gates = f.gates; begun = f.begun }) w ≡ work_left i e w
-  work-kept work.Idle = ap (λ l. own_gates i e.dealt l e.values e.tape.1) same
-  work-kept (work.Between r) =
+  work-kept : (t : List ℕ × List ℕ) (w : Work P) → work_left i (record e { gates = f.gates; begun = f.begun; tape = t }) w ≡ work_left i (record e { tape = t }) w
+  work-kept t work.Idle = ap (λ l. own_gates i e.dealt l e.values t.1) same
+  work-kept t (work.Between r) =
       ap (λ l.
-      blocks_then (protocol_at r) i r.begun (value e.values r.gate.u) (second_value e.values r.gate.v) e.tape.1 r.made
+      blocks_then (protocol_at r) i r.begun (value e.values r.gate.u) (second_value e.values r.gate.v) t.1 r.made
       (λ all tape. own_gates i e.dealt l (e.values ++ all) tape)) same
-  work-kept (work.Within r block) =
+  work-kept t (work.Within r block) =
       ap (λ l.
       then_do (pending_left i block)
       (λ here.
-      blocks_then (protocol_at r) i r.begun (value e.values r.gate.u) (second_value e.values r.gate.v) e.tape.1 (joined r.made here)
+      blocks_then (protocol_at r) i r.begun (value e.values r.gate.u) (second_value e.values r.gate.v) t.1 (joined r.made here)
       (λ all tape. own_gates i e.dealt l (e.values ++ all) tape))) same
-  work-kept work.Halt = refl
+  work-kept t work.Halt = refl
 
-  pub engine-kept : f ≡ record e { gates = f.gates; begun = f.begun } → engine_left i f ≡ engine_left i e
-  engine-kept is = subst (λ v. engine_left i v ≡ engine_left i e) (sym is) (work-kept e.work)
+  pub engine-kept : f ≡ record e { gates = f.gates; begun = f.begun } → (more : List ℕ) → engine_left i (filled f more) ≡ engine_left i (filled e more)
+  engine-kept is more =
+      subst (λ v. engine_left i (filled v more) ≡ engine_left i (filled e more)) (sym is) (work-kept (e.tape.0 ++ more, e.tape.1 ++ more) e.work)

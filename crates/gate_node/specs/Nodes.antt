@@ -1,5 +1,8 @@
 -- What a miner has that runs gates, and what is left for it to do.
-use Rattle.std.specs.Prelude.{◌≡◌, ℕ, ◌+◌, ◌-◌, ◌*◌, ◌<◌, ◌≤◌, true, false, List, [], ◌∷◌, ◌++◌, length, take, drop, set}
+--
+-- Of its tape it has the words that were supplied. What it does is the same whatever words come behind them, so all that is said of what it does
+-- is said with any further words.
+use Rattle.std.specs.Prelude.{◌≡◌, ℕ, ◌+◌, ◌-◌, ◌*◌, ◌<◌, ◌≤◌, Bool, true, false, nat_le, List, [], ◌∷◌, ◌++◌, length, take, drop, set}
 use Rattle.proto_core.specs.declared.party.Number.{Number}
 use Rattle.proto_core.specs.Protocol.{Protocol}
 use Rattle.proto_core.specs.Strand.{Strand, Ends, then_do}
@@ -26,9 +29,16 @@ use Rattle.gate_node.specs.OwnGates.{Halted, Whole, Stuck, can_run, own_gates}
 -- ---- how a gate begins
 
 abbrev pub BeginsAs : Number → (dealt values : Values) → (tape : List ℕ) → Gate → Beginning → Type 0
-BeginsAs i dealt values tape gate beginning.Unfit = can_run i dealt values tape gate ≡ false
+BeginsAs i dealt values tape gate beginning.Unfit = (more : List ℕ) → can_run i dealt values (tape ++ more) gate ≡ false
 BeginsAs i dealt values tape gate beginning.Alone = (can_run i dealt values tape gate ≡ true) × IsLocal gate
 BeginsAs i dealt values tape gate (beginning.Together x) = (can_run i dealt values tape gate ≡ true) × IsExchanged gate x
+BeginsAs i dealt values tape gate (beginning.Wants count) =
+    (0 < count) × ((more : List ℕ) → can_run i dealt values (tape ++ more) gate ≡ nat_le count (length more))
+
+-- whether the first of these gates can run, if there is one
+abbrev pub first_can_run : Number → (dealt values : Values) → (tape : List ℕ) → List Gate → Bool
+first_can_run i dealt values tape [] = true
+first_can_run i dealt values tape (gate ∷ gates) = can_run i dealt values tape gate
 
 -- ---- a gate block by block
 
@@ -45,11 +55,21 @@ protocol_at r = protocol_of r.gate.exchange
 abbrev pub size_at : Values → Running → ℕ
 size_at values r = length (value values r.gate.u)
 
--- where a miner stands with these links and values, this tape left and this left to do
+-- where a miner stands with these links and values, this tape left and this left to do; with a whole tape it wants no words
 abbrev pub StandsAs : Number → Stand → Links → Values → (tape : List ℕ) → (left : Strand Halted) → Type 0
 StandsAs i stand.Through links values tape left = left ≡ Ends (Whole values tape)
 StandsAs i (stand.Waits link cause) links values tape left = StandsAt i links cause left × AwaitsOn link left
 StandsAs i stand.Stuck links values tape left = left ≡ Ends Stuck
+StandsAs i (stand.Wants count) links values tape left = ⊥
+
+-- the same where no further words come
+abbrev pub settled : Stand → Stand
+settled (stand.Wants count) = stand.Stuck
+settled s = s
+
+-- with further words behind those that were supplied
+abbrev pub filled : {P : Type 0} → Engine P → (words : List ℕ) → Engine P
+filled e words = record e { tape = (e.tape.0 ++ words, e.tape.1 ++ words) }
 
 module _ {P : Type 0} (i : Number) where
   -- ---- what is left
@@ -78,9 +98,20 @@ module _ {P : Type 0} (i : Number) where
   abbrev pub engine_outcome : Engine P → Outcome Halted
   engine_outcome e = outcome_of i e.links (engine_left e)
 
+  -- whatever words come behind
+  abbrev pub DoesTheSame : (before after : Engine P) → Type 0
+  DoesTheSame before after = (more : List ℕ) → engine_outcome (filled after more) ≡ engine_outcome (filled before more)
+
+  abbrev pub HasTheSameLeft : (before after : Engine P) → Type 0
+  HasTheSameLeft before after = (more : List ℕ) → engine_left (filled after more) ≡ engine_left (filled before more)
+
+  -- it comes to these values, with no message
+  abbrev pub ComesTo : Values → Engine P → (more : List ℕ) → Type 0
+  ComesTo values e more = engine_left (filled e more) ≡ Ends (Whole values (e.tape.1 ++ more))
+
   -- ---- what holds of it
 
-  -- the second operand is as long as the exchange takes it, and the tape reaches to the end of the gate
+  -- the second operand is as long as the exchange takes it, and the words that were supplied reach to the end of the gate
   pub record IsSoundRun (e : Engine P) (r : Running) : Type 0 where
     pub within : r.begun ≤ size_at e.values r
     pub second : length (second_value e.values r.gate.v) ≡ (protocol_at r).second (size_at e.values r)
@@ -96,17 +127,31 @@ module _ {P : Type 0} (i : Number) where
     pub gates : e.begun ≤ length e.gates.items
     pub work : IsSoundWork e e.work
 
-  -- where the gate at work is through, no gate is at work
-  abbrev pub RunStands : Stand → Engine P → Type 0
-  RunStands stand.Through e = e.work ≡ work.Idle
-  RunStands s e = StandsAs i s e.links e.values e.tape.1 (engine_left e)
-
   abbrev pub EngineStands : Stand → Engine P → Type 0
   EngineStands s e = StandsAs i s e.links e.values e.tape.1 (engine_left e)
 
+  -- no gate is at work, and with these words more the next can run exactly where they are so many
+  pub record Wants (count : ℕ) (e : Engine P) (more : List ℕ) : Type 0 where
+    pub some : 0 < count
+    pub idle : e.work ≡ work.Idle
+    pub exactly : first_can_run i e.dealt e.values (e.tape.1 ++ more) (gates_left e) ≡ nat_le count (length more)
+
+  -- where it stands with these words more
+  abbrev pub StandsWith : Stand → Engine P → (more : List ℕ) → Type 0
+  StandsWith (stand.Wants count) e more = Wants count e more
+  StandsWith s e more = EngineStands s (filled e more)
+
+  abbrev pub StandsAlways : Stand → Engine P → Type 0
+  StandsAlways s e = (more : List ℕ) → StandsWith s e more
+
+  -- where the gate at work is through, no gate is at work
+  abbrev pub RunStands : Stand → Engine P → Type 0
+  RunStands stand.Through e = e.work ≡ work.Idle
+  RunStands s e = StandsAlways s e
+
 -- the same is left to do, and no message was taken or sent
 pub record IsAhead {P : Type 0} (i : Number) (before after : Engine P) : Type 0 where
-  pub left : engine_left i after ≡ engine_left i before
+  pub left : HasTheSameLeft i before after
   pub links : after.links ≡ before.links
   pub dealt : after.dealt ≡ before.dealt
   pub tape : after.tape ≡ before.tape
@@ -115,7 +160,7 @@ pub record IsAhead {P : Type 0} (i : Number) (before after : Engine P) : Type 0 
 pub record StoresLast {P : Type 0} (i : Number) (array index word : ℕ) (e : Engine P) : Type 0 where
   pub idle : e.work ≡ work.Idle
   pub last : e.begun + 1 ≡ length e.gates.items
-  pub left : engine_left i e ≡ Ends (Whole (e.values ++ set (value e.values array) index word ∷ []) e.tape.1)
+  pub left : (more : List ℕ) → ComesTo i (e.values ++ set (value e.values array) index word ∷ []) e more
   pub there : array < length e.values
   pub within : index < length (value e.values array)
 
@@ -130,8 +175,18 @@ pub record Stored {P : Type 0} (i : Number) (array count : ℕ) (values : Values
   pub dealt : after.dealt ≡ before.dealt
   pub tape : after.tape ≡ before.tape
 
-abbrev pub HasStored : {P : Type 0} (i : Number) (array count : ℕ) (before after : Engine P) → Type 0
-HasStored i array count before after = (values : Values) × Stored i array count values before after
+pub record HasStored {P : Type 0} (i : Number) (array count : ℕ) (before after : Engine P) : Type 0 where
+  pub values : Values
+  pub stored : (more : List ℕ) → Stored i array count values (filled before more) (filled after more)
+
+-- a tape that begins with the words that were supplied, and has so many behind them
+pub record IsTapeOf (supplied : List ℕ) (ahead : ℕ) (tape : List ℕ) : Type 0 where
+  pub begins : tape ≡ supplied ++ drop (length supplied) tape
+  pub counted : length tape ≡ length supplied + ahead
+
+-- the miner where it has its tape whole
+abbrev pub with_tape : {P : Type 0} → Engine P → (tape : List ℕ) → Engine P
+with_tape e tape = filled e (drop (length e.tape.0) tape)
 
 -- what came stays, and so does what it was made with
 pub record Keeps {P : Type 0} (before after : Engine P) : Type 0 where

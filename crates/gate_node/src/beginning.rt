@@ -9,15 +9,17 @@ use proto_core::Number;
 /// How a gate begins.
 #[derive(Clone, Copy, Drop)]
 pub(crate) enum Beginning {
-    /// It doesn't suit the values before it, or the tape is too short for it.
+    /// It doesn't suit the values before it.
     Unfit,
     /// By the miner's own shares alone.
     Alone,
     /// With messages.
     Together(Exchanged),
+    /// So many words are wanting.
+    Wants(u128),
 }
 
-/// How a miner begins a gate, by what it was dealt, its values, and how many words are left on its tape.
+/// How a miner begins a gate, by what it was dealt, its values, and how many of the words that were supplied are left.
 pub(crate) fn begins(
     miner: Number,
     dealt: &Values,
@@ -34,8 +36,10 @@ pub(crate) fn begins(
         None => Beginning::Alone,
         Some(exchanged) => {
             let size = values.value(exchanged.u).len();
-            if exchanged.exchange.draws(size, miner) > tape.len() as u128 {
-                Beginning::Unfit
+            let draws = exchanged.exchange.draws(size, miner);
+            let there = tape.len() as u128;
+            if draws > there {
+                Beginning::Wants(draws - there)
             } else {
                 Beginning::Together(exchanged)
             }

@@ -1,9 +1,9 @@
 // A miner's gates, block by block.
-ghost use Rattle.std.specs.Prelude.{◌≡◌, ◌≢◌, ◌+◌, ◌≤◌, ◌<◌, ◌⊎◌, length, true, false, None, IfSome, IfOk, OnOk};
+ghost use Rattle.std.specs.Prelude.{◌≡◌, ◌≢◌, ◌+◌, ◌≤◌, ◌<◌, ◌⊎◌, ℕ, List, length, true, false, None, IfSome, IfOk, OnOk};
 ghost use Rattle.gates.specs.Held.{kept_only};
 ghost use Rattle.block_steps.specs.Outcomes.{outcome_of};
-ghost use Rattle.gate_node.specs.Nodes.{gates_left, work_left, engine_outcome, IsSoundRun, IsSound, EngineStands, RunStands, Keeps, KeepsGates, measure};
-ghost use Rattle.gate_node.specs.Nodes.{StoresLast, HasStored, IsAhead};
+ghost use Rattle.gate_node.specs.Nodes.{gates_left, work_left, engine_outcome, IsSoundRun, IsSound, StandsAlways, RunStands, Keeps, KeepsGates, measure};
+ghost use Rattle.gate_node.specs.Nodes.{StoresLast, HasStored, IsAhead, DoesTheSame, filled};
 
 use crate::beginning::{Beginning, begins};
 use crate::made::Made;
@@ -128,7 +128,7 @@ impl<P: Party> Engine<P> {
                 self.begun += 1;
                 Ok(true)
             }
-            Beginning::Unfit | Beginning::Together(_) => Ok(false),
+            Beginning::Unfit | Beginning::Together(_) | Beginning::Wants(_) => Ok(false),
         }
     }
 
@@ -188,7 +188,7 @@ impl<P: Party> Engine<P> {
         requires idle { self.old.work ≡ Work.Idle }
         requires gates { self.old.begun ≤ length self.old.gates.items }
         requires sound { IsSoundRun P.me self.old running }
-        ensures same { OnOk result (engine_outcome P.me self.new ≡ outcome_of P.me self.old.links (work_left P.me self.old (Work.Between running))) }
+        ensures same { OnOk result ((more : List ℕ) → engine_outcome P.me (filled self.new more) ≡ outcome_of P.me self.old.links (work_left P.me (filled self.old more) (Work.Between running))) }
         ensures falls { OnOk result (measure self.new self.new.work < measure self.old (Work.Between running)) }
         ensures sound { IsSound P.me self.new }
         ensures kept { OnOk result (KeepsGates self.old self.new) }
@@ -234,8 +234,8 @@ impl<P: Party> Engine<P> {
         requires idle { self.old.work ≡ Work.Idle }
         requires gates { self.old.begun ≤ length self.old.gates.items }
         requires sound { IsSoundRun P.me self.old running }
-        ensures same { OnOk result (engine_outcome P.me self.new ≡ outcome_of P.me self.old.links (work_left P.me self.old (Work.Within running block))) }
-        ensures stands { IfOk result (λ at. IfSome at (λ at. EngineStands P.me (Stand.Waits at.0 at.1) self.new)) }
+        ensures same { OnOk result ((more : List ℕ) → engine_outcome P.me (filled self.new more) ≡ outcome_of P.me self.old.links (work_left P.me (filled self.old more) (Work.Within running block))) }
+        ensures stands { IfOk result (λ at. IfSome at (λ at. StandsAlways P.me (Stand.Waits at.0 at.1) self.new)) }
         ensures falls { IfOk result (λ at. at ≡ None → measure self.new self.new.work < measure self.old (Work.Within running block)) }
         ensures sound { IsSound P.me self.new }
         ensures kept { OnOk result (KeepsGates self.old self.new) }
@@ -265,7 +265,7 @@ impl<P: Party> Engine<P> {
     #[inline(never)]
     fn finish(&mut self) -> Result<Stand, AllocError>
         requires sound { IsSound P.me self.old }
-        ensures same { OnOk result (engine_outcome P.me self.new ≡ engine_outcome P.me self.old) }
+        ensures same { OnOk result (DoesTheSame P.me self.old self.new) }
         ensures stands { IfOk result (λ stand. RunStands P.me stand self.new) }
         ensures sound { IsSound P.me self.new }
         ensures kept { OnOk result (KeepsGates self.old self.new) }
@@ -287,19 +287,20 @@ impl<P: Party> Engine<P> {
         }
     }
 
-    /// The oldest gate begins that hasn't. A gate that sends nothing is through at once.
+    /// The oldest gate begins that hasn't; where more words are wanting than were supplied, it doesn't, and they are counted. A gate that sends
+    /// nothing is through at once.
     #[inline(never)]
-    fn begin_next(&mut self) -> Result<(), AllocError>
+    fn begin_next(&mut self) -> Result<Option<u128>, AllocError>
         requires idle { self.old.work ≡ Work.Idle }
         requires more { self.old.begun < length self.old.gates.items }
         requires sound { IsSound P.me self.old }
-        ensures same { OnOk result (engine_outcome P.me self.new ≡ engine_outcome P.me self.old) }
-        ensures falls { OnOk result (length (gates_left P.me self.new) < length (gates_left P.me self.old)) }
+        ensures same { OnOk result (DoesTheSame P.me self.old self.new) }
+        ensures wants { IfOk result (λ wants. IfSome wants (λ count. StandsAlways P.me (Stand.Wants count) self.new)) }
+        ensures falls { IfOk result (λ wants. wants ≡ None → length (gates_left P.me self.new) < length (gates_left P.me self.old)) }
         ensures sound { IsSound P.me self.new }
         ensures kept { OnOk result (Keeps self.old self.new) }
     {
         let gate = &self.gates[self.begun];
-        self.begun += 1;
         match begins(
             P::number(),
             &self.dealt,
@@ -307,12 +308,18 @@ impl<P: Party> Engine<P> {
             self.tape.left(),
             gate,
         ) {
-            Beginning::Unfit => put(&mut self.work, Work::Halt),
+            Beginning::Wants(count) => return Ok(Some(count)),
+            Beginning::Unfit => {
+                self.begun += 1;
+                put(&mut self.work, Work::Halt);
+            }
             Beginning::Alone => {
                 let share = local_share(self.alloc, P::number(), &self.dealt, &self.values, gate)?;
+                self.begun += 1;
                 self.values.push(share)?;
             }
             Beginning::Together(gate) => {
+                self.begun += 1;
                 let made = Made::new(self.alloc, gate.exchange);
                 let running = Running {
                     gate,
@@ -322,31 +329,33 @@ impl<P: Party> Engine<P> {
                 put(&mut self.work, Work::Between(running));
             }
         }
-        Ok(())
+        Ok(None)
     }
 
-    /// The oldest gate begins that hasn't; false where there is none.
-    fn begin_gate(&mut self) -> Result<bool, AllocError>
+    /// The oldest gate begins that hasn't; else it is told where the miner stands: there is none, or words are wanting for it.
+    fn begin_gate(&mut self) -> Result<Option<Stand>, AllocError>
         requires idle { self.old.work ≡ Work.Idle }
         requires sound { IsSound P.me self.old }
-        ensures same { OnOk result (engine_outcome P.me self.new ≡ engine_outcome P.me self.old) }
-        ensures through { IfOk result (λ more. more ≡ false → EngineStands P.me Stand.Through self.new) }
-        ensures falls { IfOk result (λ more. more ≡ true → length (gates_left P.me self.new) < length (gates_left P.me self.old)) }
+        ensures same { OnOk result (DoesTheSame P.me self.old self.new) }
+        ensures stands { IfOk result (λ at. IfSome at (λ stand. StandsAlways P.me stand self.new)) }
+        ensures falls { IfOk result (λ at. at ≡ None → length (gates_left P.me self.new) < length (gates_left P.me self.old)) }
         ensures sound { IsSound P.me self.new }
         ensures kept { OnOk result (Keeps self.old self.new) }
     {
         if self.begun >= self.gates.len() {
-            return Ok(false);
+            return Ok(Some(Stand::Through));
         }
-        self.begin_next()?;
-        Ok(true)
+        match self.begin_next()? {
+            Some(count) => Ok(Some(Stand::Wants(count))),
+            None => Ok(None),
+        }
     }
 
-    /// All gates, as far as the messages lead.
+    /// All gates, as far as the messages and the words that were supplied lead.
     pub fn advance(&mut self) -> Result<Stand, AllocError>
         requires sound { IsSound P.me self.old }
-        ensures same { OnOk result (engine_outcome P.me self.new ≡ engine_outcome P.me self.old) }
-        ensures stands { IfOk result (λ stand. EngineStands P.me stand self.new) }
+        ensures same { OnOk result (DoesTheSame P.me self.old self.new) }
+        ensures stands { IfOk result (λ stand. StandsAlways P.me stand self.new) }
         ensures sound { IsSound P.me self.new }
         ensures kept { OnOk result (Keeps self.old self.new) }
     {
@@ -355,11 +364,11 @@ impl<P: Party> Engine<P> {
                 let stand = self.finish()?;
                 match stand {
                     Stand::Through => {}
-                    Stand::Waits(..) | Stand::Stuck => return Ok(stand),
+                    Stand::Waits(..) | Stand::Stuck | Stand::Wants(_) => return Ok(stand),
                 }
             }
-            if !self.begin_gate()? {
-                return Ok(Stand::Through);
+            if let Some(stand) = self.begin_gate()? {
+                return Ok(stand);
             }
         }
     }

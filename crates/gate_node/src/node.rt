@@ -1,12 +1,13 @@
-ghost use Rattle.std.specs.Prelude.{◌≡◌, ◌≤◌, ℕ, IsTrue, true, false, [], length, IfOk, OnOk, OnErr};
+ghost use Rattle.std.specs.Prelude.{◌≡◌, ◌≤◌, ℕ, IsTrue, true, false, List, [], length, IfOk, OnOk, OnErr};
 ghost use Rattle.std.specs.Ordering.{nat_cmp};
 ghost use Rattle.std.specs.BTreeSet.{contains};
 ghost use Rattle.gates.specs.Clear.{value};
 ghost use Rattle.gates.specs.Held.{kept_only};
-ghost use Rattle.proto_core.specs.Strand.{Ends, then_do};
+ghost use Rattle.proto_core.specs.Strand.{then_do};
 ghost use Rattle.block_steps.specs.Outcomes.{came_from_previous, came_from_next};
-ghost use Rattle.gate_node.specs.OwnGates.{Whole, then_gates};
-ghost use Rattle.gate_node.specs.Nodes.{engine_left, engine_outcome, EngineStands, Keeps, HasStored, IsAhead, IsSameButGates, IsSameButValues, with_links};
+ghost use Rattle.gate_node.specs.OwnGates.{then_gates};
+ghost use Rattle.gate_node.specs.Nodes.{engine_left, StandsAlways, Keeps, HasStored, IsAhead, IsSameButGates, IsSameButValues, with_links};
+ghost use Rattle.gate_node.specs.Nodes.{filled, DoesTheSame, HasTheSameLeft, ComesTo};
 
 use crate::engine::{Engine, Work};
 use crate::stand::Stand;
@@ -19,6 +20,9 @@ use std::collections::BTreeSet;
 use std::marker::Model;
 
 /// A miner that runs gates on its own shares. Contracts see what it has, and by `engine_left` what is left for it to do.
+///
+/// Its tape may be supplied little by little. What is promised holds for whatever words come after those that were supplied (`filled`); where
+/// none come, it holds for these.
 ///
 /// After an error, which comes only where memory is wanting, it is of no further use, where nothing else is said: no more is
 /// known of it.
@@ -45,12 +49,12 @@ impl<P: Party> Model for GateNode<P> {
 }
 
 impl<P: Party> GateNode<P> {
-    /// A miner with its shares of what was dealt, and its tape; there is no gate, and no message came.
+    /// A miner with its shares of what was dealt, and the first words of its tape; there is no gate, and no message came.
     pub fn new(alloc: Global, dealt: Values, tape: Vec<u64>) -> Self
         ensures dealt { result.dealt ≡ dealt }
         ensures values { result.values ≡ [] }
         ensures tape { result.tape ≡ (tape.items, tape.items) }
-        ensures left { engine_left P.me result ≡ Ends (Whole [] tape.items) }
+        ensures left { (more : List ℕ) → ComesTo P.me [] result more }
         ensures from_previous { result.links.from_previous ≡ ([], []) }
         ensures from_next { result.links.from_next ≡ ([], []) }
         ensures to_next { result.links.to_next ≡ [] }
@@ -71,11 +75,19 @@ impl<P: Party> GateNode<P> {
         }
     }
 
+    /// Further words of its tape; with no memory left all is as before.
+    pub fn supply(&mut self, words: &[u64]) -> Result<(), AllocError>
+        ensures ok { OnOk result (self.new ≡ filled self.old words.now) }
+        ensures err { OnErr result (self.new ≡ self.old) }
+    {
+        self.engine.tape.supply(words)
+    }
+
     /// Further gates, behind those before; with no memory left nothing else is to be done than before. Gates that have begun are let go once
     /// all have.
     pub fn add(&mut self, gates: Vec<Gate>) -> Result<(), AllocError>
-        ensures left { OnOk result (engine_left P.me self.new ≡ then_do (engine_left P.me self.old) (then_gates P.me self.old.dealt gates.items)) }
-        ensures err { OnErr result (engine_left P.me self.new ≡ engine_left P.me self.old) }
+        ensures left { OnOk result ((more : List ℕ) → engine_left P.me (filled self.new more) ≡ then_do (engine_left P.me (filled self.old more)) (then_gates P.me self.old.dealt gates.items)) }
+        ensures err { OnErr result (HasTheSameLeft P.me self.old self.new) }
         ensures kept { IsSameButGates self.old self.new }
     {
         let mut gates = gates;
@@ -87,8 +99,7 @@ impl<P: Party> GateNode<P> {
     /// Lets go its shares of all values but those of these numbers, where all gates are through: a value that was let go has no words from
     /// then on.
     pub fn keep_only(&mut self, numbers: &BTreeSet<u64>)
-        requires through { engine_left P.me self.old ≡ Ends (Whole self.old.values self.old.tape.1) }
-        ensures through { engine_left P.me self.new ≡ Ends (Whole self.new.values self.new.tape.1) }
+        ensures through { (more : List ℕ) → ComesTo P.me self.old.values self.old more → ComesTo P.me self.new.values self.new more }
         ensures let_go { self.old.work ≡ Work.Idle → length self.old.gates.items ≤ self.old.begun → self.new.values ≡ kept_only numbers.now self.old.values }
         ensures as_many { length self.new.values ≡ length self.old.values }
         ensures kept { (k : ℕ) → IsTrue (contains nat_cmp numbers.now k) → value self.new.values k ≡ value self.old.values k }
@@ -123,11 +134,11 @@ impl<P: Party> GateNode<P> {
         self.engine.links.receive_from_next(message)
     }
 
-    /// Does all that the messages lead to, and answers where it then stands. What it has done, and does with the messages that
-    /// are there, is the same before and behind.
+    /// Does all that the messages and the words that were supplied lead to, and answers where it then stands. What it has done, and does with
+    /// the messages that are there, is the same before and after.
     pub fn advance(&mut self) -> Result<Stand, AllocError>
-        ensures same { OnOk result (engine_outcome P.me self.new ≡ engine_outcome P.me self.old) }
-        ensures stands { IfOk result (λ stand. EngineStands P.me stand self.new) }
+        ensures same { OnOk result (DoesTheSame P.me self.old self.new) }
+        ensures stands { IfOk result (λ stand. StandsAlways P.me stand self.new) }
         ensures kept { OnOk result (Keeps self.old self.new) }
     {
         self.engine.advance()

@@ -7,6 +7,8 @@ pub enum Stand {
     Through,
     /// For a message of this link: none is there, or the oldest one is refused, for this cause.
     Waits(Link, Option<BadMessage>),
-    /// A gate doesn't suit the values before it, or the tape is too short for it.
+    /// A gate doesn't suit the values before it.
     Stuck,
+    /// For so many words more of its tape, and no fewer: the next gate draws more than were supplied.
+    Wants(u128),
 }

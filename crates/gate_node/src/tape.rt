@@ -1,9 +1,11 @@
 // A miner's random words.
-ghost use Rattle.std.specs.Prelude.{◌≡◌, ◌≤◌, length, drop};
+ghost use Rattle.std.specs.Prelude.{◌≡◌, ◌≤◌, ◌++◌, length, drop, OnOk, OnErr};
 
+use std::alloc::AllocError;
 use std::marker::Model;
 
-/// A miner's tape, and how many of its words were drawn. Contracts see all words, and beside them those that were not drawn.
+/// The words of a miner's tape that were supplied, and how many of them were drawn. Contracts see all that were supplied, and beside them
+/// those that were not drawn.
 #[derive(Drop)]
 pub(crate) struct Tape {
     words: Vec<u64>,
@@ -26,6 +28,15 @@ impl Tape {
         ensures { result ≡ (words.items, words.items) }
     {
         Tape { words, drawn: 0 }
+    }
+
+    /// Further words; with no memory left all is as before.
+    #[tactic(auto, using(crate::proofs::Tapes::tape_steps))]
+    pub fn supply(&mut self, words: &[u64]) -> Result<(), AllocError>
+        ensures ok { OnOk result ((self.new.0 ≡ self.old.0 ++ words.now) × (self.new.1 ≡ self.old.1 ++ words.now)) }
+        ensures err { OnErr result (self.new ≡ self.old) }
+    {
+        self.words.extend_from_slice(words)
     }
 
     /// The words that were not drawn.

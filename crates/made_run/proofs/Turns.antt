@@ -15,8 +15,9 @@ use Rattle.gate_node.specs.declared.engine.Engine.{Engine}
 use Rattle.gate_node.specs.declared.stand.Stand.{Stand}
 use Rattle.gate_node.specs.declared.stand.Stand.TheVariants as stand
 use Rattle.gate_node.specs.OwnGates.{Halted, Whole, Stuck, own_gates, then_gates}
-use Rattle.gate_node.specs.Nodes.{engine_left, engine_outcome, EngineStands, IsSameButGates}
+use Rattle.gate_node.specs.Nodes.{engine_left, engine_outcome, filled, DoesTheSame, EngineStands, StandsAlways, settled, IsSameButGates}
 use Rattle.gate_node.proofs.Always.{EndsAlways}
+use Rattle.gate_node.proofs.Supplied.{filled-none, same-here, stands-here}
 use Rattle.made_run.specs.Simulators.{EndsOn, IsThrough}
 
 -- ---- where it stands is its end
@@ -53,21 +54,25 @@ module _ {P : Type 0} (i : Number) (e : Engine P) (links : Links) (s : Strand Ha
       absurd (subst (λ t. StandsAt i e.links cause t) is at.0)
   stands-through stand.Stuck same at ends =
       not-stuck all tape (sym (ap (λ t. (run t (mail_left i e.links)).left) at) ∙ ap (λ o. o.left) same ∙ ends.left)
+  stands-through (stand.Wants count) same at ends = absurd at
 
 -- one gate more, behind those that are through
 module _ {P : Type 0} (i : Number) (before added after : Engine P) (gate : Gate) (gates : List Gate) where
   pub one-through :
       (at : Stand) → engine_left i before ≡ Ends (Whole before.values before.tape.1) → gates ≡ gate ∷ [] →
-      engine_left i added ≡ then_do (engine_left i before) (then_gates i before.dealt gates) → IsSameButGates before added →
-      engine_outcome i after ≡ engine_outcome i added → EngineStands i at after → (all : Values) (tape : List ℕ) →
+      ((more : List ℕ) → engine_left i (filled added more) ≡ then_do (engine_left i (filled before more)) (then_gates i before.dealt gates)) →
+      IsSameButGates before added → DoesTheSame i added after → StandsAlways i at after → (all : Values) (tape : List ℕ) →
       EndsOn (own_gates i before.dealt (gate ∷ []) before.values before.tape.1) (mail_left i before.links) (Whole all tape) → IsThrough i all tape after
   one-through at rests are left kept same stands all tape ends =
-      stands-through i after before.links (own_gates i before.dealt (gate ∷ []) before.values before.tape.1) all tape at
-      (same
+      stands-through i after before.links (own_gates i before.dealt (gate ∷ []) before.values before.tape.1) all tape (settled at)
+      (same-here i added after same
       ∙ ap (λ l. outcome_of i l (engine_left i added)) kept.links
       ∙ ap (outcome_of i before.links)
-      (left ∙ ap (λ s. then_do s (then_gates i before.dealt gates)) rests ∙ ap (λ g. own_gates i before.dealt g before.values before.tape.1) are))
-      stands ends
+      (ap (engine_left i) (sym (filled-none added)) ∙ left []
+      ∙ ap (λ v. then_do (engine_left i v) (then_gates i before.dealt gates)) (filled-none before)
+      ∙ ap (λ s. then_do s (then_gates i before.dealt gates)) rests
+      ∙ ap (λ g. own_gates i before.dealt g before.values before.tape.1) are))
+      (stands-here after i at stands) ends
 
 -- ---- what always holds of an end holds of this one
 

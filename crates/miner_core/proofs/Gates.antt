@@ -43,6 +43,9 @@ module _ {P : Type 0} (i : Number) (e : Engine P) (n : gates.Engine P) where
   left_is : n.dealt ≡ e.node.dealt → engine_left i with_node ≡ then_do (node.engine_left i n) (behind_node i e e.at)
   left_is dealt = then-all (node.engine_left i n) (behind_node i with_node e.at) (behind_node i e e.at) (behind_same dealt e.at)
 
+  pub left_same : node.engine_left i n ≡ node.engine_left i e.node → n.dealt ≡ e.node.dealt → engine_left i with_node ≡ engine_left i e
+  left_same same dealt = left_is dealt ∙ ap (λ s. then_do s (behind_node i e e.at)) same
+
   pub node_same : node.engine_outcome i n ≡ node.engine_outcome i e.node → n.dealt ≡ e.node.dealt → engine_outcome i with_node ≡ engine_outcome i e
   node_same same dealt =
       let l = n.links in

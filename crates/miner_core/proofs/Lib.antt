@@ -1,4 +1,5 @@
 pub mod Quiet
+pub mod Settled
 pub mod Turns
 pub mod Forgetting
 pub mod Begins

@@ -18,9 +18,9 @@ use Rattle.block_steps.proofs.Behind.{still-is}
 use Rattle.gate_node.specs.OwnGates.{Stuck, own_gate, own_draws, can_run, own_gates}
 use Rattle.gate_node.specs.Nodes as node
 use Rattle.gate_node.specs.declared.engine.Engine as gates
-use Rattle.gate_node.specs.declared.stand.Stand.{Stand}
-use Rattle.gate_node.specs.declared.stand.Stand.TheVariants.{Through, Waits as AtWait, Stuck as AtStuck}
-use Rattle.miner_core.specs.Engines.{IsQuiet}
+use Rattle.miner_core.specs.declared.rest.Rest.{Rest}
+use Rattle.miner_core.specs.declared.rest.Rest.TheVariants.{Through, Waits as AtWait, Stuck as AtStuck}
+use Rattle.miner_core.specs.Engines.{gates_stand, IsQuiet}
 
 -- ---- own gates
 
@@ -78,7 +78,7 @@ quiet_kept i l l2 s s2 same still h =
 
 -- behind a call that goes as far as the messages lead
 pub node_quiet :
-    {P : Type 0} (i : Number) (n n2 : gates.Engine P) (at : Stand) → node.engine_outcome i n2 ≡ node.engine_outcome i n → node.EngineStands i at n2 →
+    {P : Type 0} (i : Number) (n n2 : gates.Engine P) (at : Rest) → node.engine_outcome i n2 ≡ node.engine_outcome i n → node.EngineStands i (gates_stand at) n2 →
     IsQuiet i n → IsQuiet i n2
 node_quiet i n n2 Through same h quiet = subst (λ s. QuietAt s (mail_left i n2.links)) (sym h) (λ more. refl)
 node_quiet i n n2 AtStuck same h quiet = subst (λ s. QuietAt s (mail_left i n2.links)) (sym h) (λ more. refl)

@@ -12,11 +12,11 @@ use Rattle.block_steps.specs.declared.links.Links.{Links}
 use Rattle.block_steps.specs.Outcomes.{Outcome, StandsAt}
 use Rattle.gate_node.specs.OwnGates.{Halted}
 use Rattle.gate_node.specs.Nodes as node
-use Rattle.gate_node.specs.declared.stand.Stand.{Stand}
-use Rattle.gate_node.specs.declared.stand.Stand.TheVariants.{Through, Waits as AtWait, Stuck as AtStuck}
 use Rattle.miner_core.specs.declared.engine.At.{At}
 use Rattle.miner_core.specs.declared.engine.At.TheVariants as at
 use Rattle.miner_core.specs.declared.engine.Engine.{Engine}
+use Rattle.miner_core.specs.declared.rest.Rest.{Rest}
+use Rattle.miner_core.specs.declared.rest.Rest.TheVariants.{Through, Waits as AtWait, Stuck as AtStuck}
 use Rattle.code_machine.specs.Besides.{with_gates}
 use Rattle.own_code.specs.EarlierGates.{place_with_gates}
 use Rattle.own_code.specs.OwnCode.{Ended, Reached}
@@ -51,12 +51,12 @@ module _ {P : Type 0} (i : Number) where
       record { stage = ap (λ q. q.stage) here; ended = ap (λ q. q.ended) here }
   over_at e at.Short vs tape h p values is = absurd cc
 
-  stage_at : (e : Engine P) (s : Stand) → Rests i s e → (p : Place) (values : Values) →
+  stage_at : (e : Engine P) (s : Rest) → Rests i s e → (p : Place) (values : Values) →
       forgetting (engine_left i e) ≡ forgetting (Ends (Reached (Stopped p) values)) → IsThere e e.at p
   stage_at e Through h p values is =
       over_at e e.at e.node.values e.node.tape.1 (h.over refl) p values (sym (ap (λ s. forgetting (then_do s (behind_node i e e.at))) h.node) ∙ is)
   stage_at e AtStuck h p values is = let wrong = sym (ap forgetting (stuck_ends i e h)) ∙ is in absurd cc
   stage_at e (AtWait link cause) h p values is = absurd (no_end i e.node.links cause (behind_node i e e.at) (node.engine_left i e.node) h.node.0 _ is)
 
-  pub stop_at : (e : Engine P) (stand : Stand) (s : Story) → Follows i e s → Rests i stand e → AtStop i s (IsThere e e.at)
-  stop_at e stand s f h p values is = stage_at e stand h p values (ap (λ (o : Outcome Ended). o.left) f.same ∙ ap forgetting is)
+  pub stop_at : (e : Engine P) (rest : Rest) (s : Story) → Follows i e s → Rests i rest e → AtStop i s (IsThere e e.at)
+  stop_at e rest s f h p values is = stage_at e rest h p values (ap (λ (o : Outcome Ended). o.left) f.same ∙ ap forgetting is)

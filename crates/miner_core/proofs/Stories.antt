@@ -29,11 +29,11 @@ use Rattle.gate_node.specs.Nodes as node
 use Rattle.gate_node.specs.declared.engine.Engine as gates
 use Rattle.gate_node.specs.declared.engine.Work.{Work}
 use Rattle.gate_node.specs.declared.engine.Work.TheVariants.{Idle, Between, Within, Halt}
-use Rattle.gate_node.specs.declared.stand.Stand.{Stand}
-use Rattle.gate_node.specs.declared.stand.Stand.TheVariants.{Through, Waits as AtWait, Stuck as AtStuck}
 use Rattle.miner_core.specs.declared.engine.At.{At}
 use Rattle.miner_core.specs.declared.engine.At.TheVariants as at
 use Rattle.miner_core.specs.declared.engine.Engine.{Engine}
+use Rattle.miner_core.specs.declared.rest.Rest.{Rest}
+use Rattle.miner_core.specs.declared.rest.Rest.TheVariants.{Through, Waits as AtWait, Stuck as AtStuck}
 use Rattle.miner_core.specs.declared.task.Task.{Task}
 use Rattle.own_code.specs.OwnCode.{Ended, Reached, Unfit, own_code}
 use Rattle.miner_core.specs.Views.{notice_seen, task_world, task_code}
@@ -121,7 +121,7 @@ module _ {P : Type 0} (i : Number) where
   pub stuck_ends : (e : Engine P) → Rests i AtStuck e → engine_left i e ≡ Ends Unfit
   stuck_ends e h = ap (λ s. then_do s (behind_node i e e.at)) h.node
 
-  rests_still : (e : Engine P) (s : Stand) → Rests i s e → IsStill i e.node.links (engine_left i e)
+  rests_still : (e : Engine P) (s : Rest) → Rests i s e → IsStill i e.node.links (engine_left i e)
   rests_still e Through h = subst (λ v. IsStill i e.node.links v) (sym (through_ends e h).1) refl
   rests_still e AtStuck h = subst (λ v. IsStill i e.node.links v) (sym (stuck_ends e h)) refl
   rests_still e (AtWait link cause) h = still-then i e.node.links cause (node.engine_left i e.node) (behind_node i e e.at) h.node.0
@@ -129,7 +129,7 @@ module _ {P : Type 0} (i : Number) where
   abbrev of_lists : (e : Engine P) → (n p : List (List ℕ)) → (o : List ℕ) → Outcome Ended
   of_lists e n p o = record { to_next = n; to_previous = p; opened = o; left = engine_left i e; unread = mail_left i e.node.links }
 
-  standing_is : (e : Engine P) (s : Stand) → Rests i s e → standing i e ≡ engine_outcome i e
+  standing_is : (e : Engine P) (s : Rest) → Rests i s e → standing i e ≡ engine_outcome i e
   standing_is e s h =
       let l = e.node.links in
       sym (ap (outcome i l.to_next l.to_previous l.opened.items) (rests_still e s h)
@@ -137,11 +137,11 @@ module _ {P : Type 0} (i : Number) where
       ∙ ap (λ v. of_lists e l.to_next v (l.opened.items ++ [])) (append-none l.to_previous)
       ∙ ap (λ v. of_lists e l.to_next l.to_previous v) (append-none l.opened.items))
 
-  told_is : (e : Engine P) (s : Stand) → Rests i s e → map notice_seen e.notices.items ≡ engine_told i e
+  told_is : (e : Engine P) (s : Rest) → Rests i s e → map notice_seen e.notices.items ≡ engine_told i e
   told_is e s h =
       sym (ap (λ r. map notice_seen e.notices.items ++ told_in r.acts) (rests_still e s h) ∙ append-none (map notice_seen e.notices.items))
 
-  pub follows : (e e2 : Engine P) (s : Story) (at : Stand) → Leads i e s → shown (engine_outcome i e2) ≡ shown (engine_outcome i e) →
+  pub follows : (e e2 : Engine P) (s : Story) (at : Rest) → Leads i e s → shown (engine_outcome i e2) ≡ shown (engine_outcome i e) →
       engine_told i e2 ≡ engine_told i e → Rests i at e2 → IsSound i e2 → Follows i e2 s
   follows e e2 s at leads same told rests sound =
       record {

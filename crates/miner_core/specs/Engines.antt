@@ -17,6 +17,8 @@ use Rattle.gate_node.specs.Nodes as node
 use Rattle.gate_node.specs.declared.engine.Engine as gates
 use Rattle.gate_node.specs.declared.stand.Stand as at_gates
 use Rattle.gate_node.specs.declared.stand.Stand.TheVariants as stand
+use Rattle.miner_core.specs.declared.rest.Rest.{Rest}
+use Rattle.miner_core.specs.declared.rest.Rest.TheVariants as rest
 use Rattle.code_turns.specs.Views.{place_in, went_to}
 use Rattle.code_turns.specs.declared.outcome.Turned.{Turned}
 use Rattle.code_turns.specs.declared.outcome.Turned.TheVariants as turned
@@ -41,6 +43,14 @@ forgetting s = then_do s (λ e. Ends (forgotten e))
 
 abbrev pub shown : Outcome Ended → Outcome Ended
 shown o = record o { left = forgetting o.left }
+
+-- ---- where it rests
+
+-- where its gates stand then, with the whole tape
+abbrev pub gates_stand : Rest → at_gates.Stand
+gates_stand rest.Through = stand.Through
+gates_stand (rest.Waits link cause) = stand.Waits link cause
+gates_stand rest.Stuck = stand.Stuck
 
 -- ---- what is left
 
@@ -100,10 +110,10 @@ module _ {P : Type 0} (i : Number) where
   IsOver e (at.Over ending) = Unit {0}
   IsOver e at.Short = Unit {0}
 
-  -- where it stands when it can do no more
-  pub record Rests (s : at_gates.Stand) (e : Engine P) : Type 0 where
-    pub node : node.EngineStands i s e.node
-    pub over : s ≡ stand.Through → IsOver e e.at
+  -- where it rests when it can do no more
+  pub record Rests (r : Rest) (e : Engine P) : Type 0 where
+    pub node : node.EngineStands i (gates_stand r) e.node
+    pub over : r ≡ rest.Through → IsOver e e.at
 
 -- what came stays, and so does what it was made with
 pub record Keeps {P : Type 0} (before after : Engine P) : Type 0 where

@@ -1,7 +1,7 @@
 // An engine at its start, a message that comes, and where it stands.
 ghost use Rattle.std.specs.Prelude.{◌≡◌, ◌≢◌, ℕ, true, false, IfOk, OnOk};
 ghost use Rattle.proto_core.specs.Standing.{AtItsEnd, standing_with};
-ghost use Rattle.gate_node.specs.declared.stand.Stand.TheVariants.{Through};
+ghost use Rattle.miner_core.specs.declared.rest.Rest.TheVariants.{Through};
 ghost use Rattle.block_steps.specs.Outcomes.{mail_left};
 ghost use Rattle.miner_core.specs.Engines.{engine_left, ended_by, Rests};
 ghost use Rattle.miner_core.specs.Story.{Story, Follows, Leads, story_of, received, start_of, HasEnded, IsAnswerOf};
@@ -9,9 +9,10 @@ ghost use Rattle.miner_core.specs.Story.{Story, Follows, Leads, story_of, receiv
 use crate::answer::{End, MinerErr, Step};
 use crate::engine::{At, Engine};
 use crate::letting_go::Letting;
+use crate::rest::Rest;
 use crate::task::Task;
 use code_machine::{most_steps, start};
-use gate_node::{GateNode, Stand};
+use gate_node::GateNode;
 use gates::Values;
 use proto_core::{Link, Msg, Party};
 use sc_text::Ending;
@@ -60,27 +61,27 @@ impl<P: Party> Engine<P> {
     }
 
     /// A message comes, and all is done that the messages lead to; where it then stands.
-    pub fn deliver(&mut self, link: Link, message: &Msg) -> Result<Stand, AllocError>
+    pub fn deliver(&mut self, link: Link, message: &Msg) -> Result<Rest, AllocError>
         requires follows { (s : Story) × Follows P.me self.old s }
         ensures follows { OnOk result ((s : Story) → Follows P.me self.old s → Follows P.me self.new (received P.me s link message.now)) }
         ensures story { OnOk result ((budget : ℕ) → story_of self.new budget ≡ received P.me (story_of self.old budget) link message.now) }
-        ensures stands { IfOk result (λ stand. Rests P.me stand self.new) }
+        ensures stands { IfOk result (λ rest. Rests P.me rest self.new) }
     {
         self.receive(link, message)?;
-        let stand = self.advance()?;
-        Ok(stand)
+        let rest = self.advance()?;
+        Ok(rest)
     }
 
     /// Whether it has ended, where it stands so.
-    pub fn is_ended(&self, stand: Stand) -> bool
-        requires { Rests P.me stand self.now }
+    pub fn is_ended(&self, rest: Rest) -> bool
+        requires { Rests P.me rest self.now }
         ensures ended { result ≡ true → standing_with (engine_left P.me self.now) (mail_left P.me self.now.node.links) ≡ AtItsEnd }
         ensures going { result ≡ false → standing_with (engine_left P.me self.now) (mail_left P.me self.now.node.links) ≢ AtItsEnd }
     {
-        match stand {
-            Stand::Waits(..) => false,
-            Stand::Through => true,
-            Stand::Stuck => true,
+        match rest {
+            Rest::Waits(..) => false,
+            Rest::Through => true,
+            Rest::Stuck => true,
         }
     }
 
@@ -107,17 +108,17 @@ impl<P: Party> Engine<P> {
     }
 
     /// What is answered, where it stands so.
-    pub fn answer(&self, stand: Stand) -> Result<Step, MinerErr>
-        requires { Rests P.me stand self.now }
+    pub fn answer(&self, rest: Rest) -> Result<Step, MinerErr>
+        requires { Rests P.me rest self.now }
         ensures { IsAnswerOf (engine_left P.me self.now) (mail_left P.me self.now.node.links) result }
     {
-        match stand {
-            Stand::Through => {
+        match rest {
+            Rest::Through => {
                 let end = self.end();
                 Ok(Step::Ended(end))
             }
-            Stand::Stuck => Ok(Step::Ended(End::Unfit)),
-            Stand::Waits(link, cause) => match cause {
+            Rest::Stuck => Ok(Step::Ended(End::Unfit)),
+            Rest::Waits(link, cause) => match cause {
                 None => Ok(Step::Waits(link)),
                 Some(cause) => Err(MinerErr::BadMessage { link, cause }),
             },

@@ -3,15 +3,16 @@ ghost use Rattle.gate_node.specs.Nodes as node;
 ghost use Rattle.code_turns.specs.declared.outcome.Turned.TheVariants.{Short};
 ghost use Rattle.miner_core.specs.declared.engine.At.TheVariants.{Ready, Again};
 ghost use Rattle.miner_core.specs.Engines.{engine_left, engine_outcome, engine_told, shown, IsSound, IsThrough, IsOver, Rests, Keeps, KeepsLinks, GoesOn};
-ghost use Rattle.miner_core.specs.Engines.{acting, led_to, measure};
+ghost use Rattle.miner_core.specs.Engines.{acting, led_to, measure, gates_stand};
 
 use crate::letting_go::Letting;
 use crate::notice::{Notice, tell};
+use crate::rest::{Rest, rest_at};
 use crate::stepping::{gates_from, step_told};
 use crate::task::Task;
 use code_machine::{Machine, marked, rewind};
 use code_turns::{Speech, Told, Turned, last_words, next_speech, told_yet};
-use gate_node::{GateNode, Stand};
+use gate_node::GateNode;
 use proto_core::Party;
 use sc_text::Ending;
 use std::alloc::{AllocError, Global};
@@ -246,7 +247,7 @@ impl<P: Party> Engine<P> {
 
     /// Does all that the messages lead to, and answers where it then stands. What it has done, tells, and does with the messages that
     /// are there, is the same before and behind.
-    pub fn advance(&mut self) -> Result<Stand, AllocError>
+    pub fn advance(&mut self) -> Result<Rest, AllocError>
         requires sound { IsSound P.me self.old }
         ensures same { OnOk result (shown (engine_outcome P.me self.new) ≡ shown (engine_outcome P.me self.old)) }
         ensures told { OnOk result (engine_told P.me self.new ≡ engine_told P.me self.old) }
@@ -255,30 +256,31 @@ impl<P: Party> Engine<P> {
         ensures kept { OnOk result (Keeps self.old self.new) }
     {
         loop {
-            let stand = self.gates()?;
-            match stand {
-                Stand::Through => {}
-                Stand::Waits(..) => return Ok(stand),
-                Stand::Stuck => return Ok(stand),
+            let rest = self.gates()?;
+            match rest {
+                Rest::Through => {}
+                Rest::Waits(..) => return Ok(rest),
+                Rest::Stuck => return Ok(rest),
             }
             let more = self.turn()?;
             if !more {
-                return Ok(stand);
+                return Ok(rest);
             }
         }
     }
 
     /// The gates that have begun, as far as the messages lead.
-    fn gates(&mut self) -> Result<Stand, AllocError>
+    fn gates(&mut self) -> Result<Rest, AllocError>
         requires sound { IsSound P.me self.old }
         ensures same { OnOk result (engine_outcome P.me self.new ≡ engine_outcome P.me self.old) }
         ensures told { OnOk result (engine_told P.me self.new ≡ engine_told P.me self.old) }
-        ensures stands { IfOk result (λ s. node.EngineStands P.me s self.new.node) }
+        ensures stands { IfOk result (λ s. node.EngineStands P.me (gates_stand s) self.new.node) }
         ensures sound { OnOk result (IsSound P.me self.new) }
         ensures kept { OnOk result (Keeps self.old self.new) }
         ensures beside { measure self.new ≡ measure self.old }
     {
         let stand = self.node.advance()?;
-        Ok(stand)
+        let rest = rest_at(stand);
+        Ok(rest)
     }
 }

@@ -12,6 +12,7 @@ mod laws;
 mod letting_go;
 mod miner;
 mod notice;
+mod rest;
 mod stepping;
 mod task;
 

@@ -11,8 +11,8 @@ ghost use Rattle.miner_core.specs.declared.answer.MinerErr.TheVariants.{Memory, 
 use crate::answer::{MinerErr, Step};
 use crate::engine::Engine;
 use crate::notice::Notice;
+use crate::rest::Rest;
 use crate::task::Task;
-use gate_node::Stand;
 use gates::Values;
 use proto_core::{Link, Messages, Msg, Number, Party};
 use sc_text::Ending;
@@ -26,7 +26,7 @@ use value_steps::Drawn;
 /// Once memory was wanting, it is of no further use: each delivery answers so.
 pub struct Miner<P: Party> {
     engine: Engine<P>,
-    stand: Stand,
+    rest: Rest,
     budget: u64,
     lost: bool,
 }
@@ -36,7 +36,7 @@ impl<P: Party> Drop for Miner<P> {
     fn drop(self) {
         let Miner {
             engine: _,
-            stand: _,
+            rest: _,
             budget: _,
             lost: _,
         } = self;
@@ -52,7 +52,7 @@ impl<P: Party> Model for Miner<P> {
 
     ghost view = { λ m. record (story_of m.engine m.budget) { lost = m.lost } };
 
-    ghost invariant = { λ m. m.lost ≡ false → Follows P.me m.engine (story_of m.engine m.budget) × Rests P.me m.stand m.engine };
+    ghost invariant = { λ m. m.lost ≡ false → Follows P.me m.engine (story_of m.engine m.budget) × Rests P.me m.rest m.engine };
 }
 
 // How many of these words are this miner's.
@@ -87,10 +87,10 @@ impl<P: Party> Miner<P> {
         }) }
     {
         let mut engine = Engine::new(alloc, task, dealt, tape, budget)?;
-        let stand = engine.advance()?;
+        let rest = engine.advance()?;
         Ok(Miner {
             engine,
-            stand,
+            rest,
             budget,
             lost: false,
         })
@@ -111,13 +111,13 @@ impl<P: Party> Miner<P> {
         if self.lost {
             return Err(MinerErr::Memory);
         }
-        if self.engine.is_ended(self.stand) {
+        if self.engine.is_ended(self.rest) {
             return Err(MinerErr::NotAwaited { link });
         }
         match self.engine.deliver(link, message) {
-            Ok(stand) => {
-                self.stand = stand;
-                self.engine.answer(stand)
+            Ok(rest) => {
+                self.rest = rest;
+                self.engine.answer(rest)
             }
             Err(_) => {
                 self.lost = true;
@@ -134,7 +134,7 @@ impl<P: Party> Miner<P> {
         if self.lost {
             return Err(MinerErr::Memory);
         }
-        self.engine.answer(self.stand)
+        self.engine.answer(self.rest)
     }
 
     /// How the run has ended, of a miner that has ended where the run does.

@@ -1,7 +1,10 @@
-use Rattle.std.proofs.Common.{◌+◌, drop, refl, sym, ◌∙◌, ap, subst}
+use Rattle.std.proofs.Common.{◌+◌, [], drop, refl, sym, ◌∙◌, ap, subst}
 use Rattle.std.proofs.lemmas.List.{drop_all}
+use Rattle.proto_core.specs.Strand.{Ends}
 use Rattle.joint_run.specs.Three.{each_of}
+use Rattle.gate_node.specs.OwnGates.{Whole}
 use Rattle.gate_node.proofs.Blocks.{drop-front}
+use Rattle.gate_node.proofs.Supplied.{comes-here}
 use Rattle.made_run.proofs.GateByGate.{Goes, goes-begin, suits-now, reach-now, goes-on, all-made}
 use Rattle.made_run.proofs.made.made_for.Goals as goal
 
@@ -10,7 +13,8 @@ loop-gate-init g c =
     let i = g.P.Party.me in
     goes-begin i c.args.own c.args.gates.now c.args.opened.now (each_of c.args.tapes)
     (record { node = c.new.result; mails = c.new-2.result; opened = c.args.opened; tapes = c.args.tapes })
-    c.in_ok-tape.tape.items c.new.ensures.left c.new.ensures.values c.new.ensures.tape c.new.ensures.from_previous c.new.ensures.from_next c.new.ensures.dealt
+    c.in_ok-tape.tape.items
+    (comes-here c.new.result i [] (c.new.ensures.left []) ∙ ap (λ t. Ends (Whole [] t.1)) c.new.ensures.tape) c.new.ensures.values c.new.ensures.tape c.new.ensures.from_previous c.new.ensures.from_next c.new.ensures.dealt
     (c.in_ok-tape.ensures ∙ c.of.ensures ∙ ap (each_of c.args.tapes) c.number.ensures) refl refl c.new-2.ensures.previous c.new-2.ensures.next
     c.requires.suit c.requires.reach
 

@@ -1,15 +1,44 @@
-use Rattle.std.proofs.Common.{◌≡◌, ◌≤◌, ◌<◌, ◌+◌, ◌-◌, ◌++◌, length, drop, true, sym, ◌∙◌, ap, subst, arith}
+use Rattle.std.proofs.Common.{◌≡◌, ◌≤◌, ◌<◌, ◌+◌, ◌-◌, [], ◌∷◌, ◌++◌, length, drop, nat_le, true, sym, ◌∙◌, ap, subst, arith}
 use Rattle.protocol_model.specs.Gates.{sizes_of}
 use Rattle.gates.specs.Clear.{value}
+use Rattle.shared_gates.specs.LocalGates.{local_share}
 use Rattle.joint_run.specs.Exchanges.{protocol_of}
 use Rattle.joint_run.specs.Steps.{second_value}
 use Rattle.block_steps.specs.Outcomes.{outcome_of}
 use Rattle.gate_node.specs.OwnGates.{can_run, own_gates}
-use Rattle.gate_node.specs.Nodes.{blocks_then, work_left}
+use Rattle.gate_node.specs.Nodes.{blocks_then, first_can_run, work_left, filled}
 use Rattle.gate_node.specs.declared.engine.Work.TheVariants.{Between}
-use Rattle.gate_node.proofs.Turns.{put-to-work, sound-work}
-use Rattle.gate_node.proofs.Blocks.{drop-front, gate-begins, can-suits, can-reach, second-sized, draws-are}
+use Rattle.gate_node.proofs.Turns.{put-to-work, sound-work, runs-alone}
+use Rattle.gate_node.proofs.Blocks.{drop-front, gate-begins, can-suits, can-reach, can-more, second-sized, draws-are}
 use Rattle.gate_node.proofs.engine.Engine.begin_next.Goals as goal
+
+pub returns-in-Wants-clause-wants : goal.returns-in-Wants-clause-wants
+returns-in-Wants-clause-wants g c =
+    let i = g.P.Party.me in
+    let e = c.args.self.now in
+    let gate = c.index-gate.result.now in
+    λ more.
+    let exactly = subst (λ k. can_run k e.dealt e.values (e.tape.1 ++ more) gate ≡ nat_le c.in-Wants.count (length more)) c.number.ensures
+    (subst (λ t. can_run c.number.result e.dealt e.values (t ++ more) gate ≡ nat_le c.in-Wants.count (length more)) c.left.ensures (c.in-Wants.ensures.1 more)) in
+    record {
+      some = c.in-Wants.ensures.0;
+      idle = c.requires.idle;
+      exactly = ap (first_can_run i e.dealt e.values (e.tape.1 ++ more)) (drop-front e.begun e.gates.items gate c.requires.more (sym c.index-gate.ensures)) ∙ exactly;
+    }
+
+pub returns-in_ok-push-in-Alone-clause-same : goal.returns-in_ok-push-in-Alone-clause-same
+returns-in_ok-push-in-Alone-clause-same g c =
+    let i = g.P.Party.me in
+    let e = c.args.self.now in
+    let gate = c.index-gate.result.now in
+    let can : can_run i e.dealt e.values e.tape.1 gate ≡ true =
+    subst (λ k. can_run k e.dealt e.values e.tape.1 gate ≡ true) c.number.ensures
+    (subst (λ t. can_run c.number.result e.dealt e.values t gate ≡ true) c.left.ensures c.in-Alone.ensures.0) in
+    let share = c.in_ok-share-in-Alone.ensures ∙ ap (λ k. local_share k e.dealt e.values gate) c.number-in-Alone.ensures in
+    λ more.
+    ap (outcome_of i e.links)
+    (runs-alone i e gate c.push.new.self c.requires.idle c.requires.more (sym c.index-gate.ensures) can c.in-Alone.ensures.1
+    (c.in_ok-push-in-Alone.ensures.ok ∙ ap (λ w. e.values ++ w ∷ []) share) more)
 
 pub returns-in-Together-clause-same : goal.returns-in-Together-clause-same
 returns-in-Together-clause-same g c =
@@ -23,13 +52,14 @@ returns-in-Together-clause-same g c =
     subst (λ k. can_run k e.dealt e.values e.tape.1 gate ≡ true) c.number.ensures
     (subst (λ t. can_run c.number.result e.dealt e.values t gate ≡ true) c.left.ensures c.in-Together.ensures.0) in
     let some : e.begun < length e.gates.items = c.requires.more in
-    put-to-work i (record e { begun = e.begun + 1; work = c.put-in-Together.new.place })
+    λ more.
+    put-to-work i (filled (record e { begun = e.begun + 1; work = c.put-in-Together.new.place }) more)
     (Between (record { gate = x; begun = 0; made = c.new-made.result })) c.put-in-Together.ensures
-    ∙ sym (ap (λ w. outcome_of i e.links (work_left i e w)) c.requires.idle
-    ∙ ap (λ l. outcome_of i e.links (own_gates i e.dealt l e.values e.tape.1)) (drop-front e.begun e.gates.items gate some (sym c.index-gate.ensures))
-    ∙ ap (outcome_of i e.links) (gate-begins i e.dealt e.values e.tape.1 gate rest x c.in-Together.ensures.1 can)
+    ∙ sym (ap (λ w. outcome_of i e.links (work_left i (filled e more) w)) c.requires.idle
+    ∙ ap (λ l. outcome_of i e.links (own_gates i e.dealt l e.values (e.tape.1 ++ more))) (drop-front e.begun e.gates.items gate some (sym c.index-gate.ensures))
+    ∙ ap (outcome_of i e.links) (gate-begins i e.dealt e.values (e.tape.1 ++ more) gate rest x c.in-Together.ensures.1 (can-more i e.dealt e.values e.tape.1 gate can more))
     ∙ ap (λ m. outcome_of i e.links
-    (blocks_then p i 0 (value e.values x.u) (second_value e.values x.v) e.tape.1 m (λ made left. own_gates i e.dealt rest (e.values ++ made) left)))
+    (blocks_then p i 0 (value e.values x.u) (second_value e.values x.v) (e.tape.1 ++ more) m (λ made left. own_gates i e.dealt rest (e.values ++ made) left)))
     (sym c.new-made.ensures))
 
 pub returns-in-Together-clause-sound : goal.returns-in-Together-clause-sound

@@ -2,7 +2,7 @@ use Rattle.std.proofs.Common.{◌≡◌, ap, ◌∙◌, subst, Ok, Err, OnErr}
 use Rattle.std.specs.Prelude.{Result}
 use Rattle.proto_core.specs.Strand.{then_do}
 use Rattle.gate_node.specs.OwnGates.{then_gates}
-use Rattle.gate_node.specs.Nodes.{engine_left, work_left}
+use Rattle.gate_node.specs.Nodes.{engine_left, work_left, filled}
 use Rattle.gate_node.proofs.Turns.{work-more, work-same, engine-kept}
 use Rattle.gate_node.proofs.node.GateNode.add.Goals as goal
 
@@ -12,10 +12,11 @@ returns-clause-left g c =
     let e = c.self.inside.engine in
     let f = c.let_go_gates.new.self in
     let h = record f { gates = c.append.new.self } in
-    subst (λ v. work_left i h f.work ≡ then_do (engine_left i v) (then_gates i v.dealt c.args.gates.items)) c.self.view_is
-    (work-more i c.args.gates.items f h c.in_ok-append.ensures.items c.let_go_gates.ensures.within f.work
-    ∙ ap (λ s. then_do s (then_gates i f.dealt c.args.gates.items)) (engine-kept i e f c.let_go_gates.ensures.left c.let_go_gates.ensures.same)
-    ∙ ap (λ v. then_do (engine_left i e) (then_gates i v.dealt c.args.gates.items)) c.let_go_gates.ensures.same)
+    λ more.
+    subst (λ v. work_left i (filled h more) f.work ≡ then_do (engine_left i (filled v more)) (then_gates i v.dealt c.args.gates.items)) c.self.view_is
+    (work-more i c.args.gates.items (filled f more) h c.in_ok-append.ensures.items c.let_go_gates.ensures.within f.work
+    ∙ ap (λ s. then_do s (then_gates i f.dealt c.args.gates.items)) (engine-kept i e f c.let_go_gates.ensures.left c.let_go_gates.ensures.same more)
+    ∙ ap (λ v. then_do (engine_left i (filled e more)) (then_gates i v.dealt c.args.gates.items)) c.let_go_gates.ensures.same)
 
 on_err-of : {T E P : Type 0} (r : Result T E) → P → OnErr r P
 on_err-of (Ok x) p = tt
@@ -28,6 +29,7 @@ returns-in_err-append-clause-err g c =
     let f = c.let_go_gates.new.self in
     let h = record f { gates = c.append.new.self } in
     on_err-of c.from_residual.result
-    (subst (λ v. work_left i h f.work ≡ engine_left i v) c.self.view_is
-    (work-same i f h c.in_err-append.ensures.items f.work
-    ∙ engine-kept i e f c.let_go_gates.ensures.left c.let_go_gates.ensures.same))
+    (λ more.
+    subst (λ v. work_left i (filled h more) f.work ≡ engine_left i (filled v more)) c.self.view_is
+    (work-same i (filled f more) h c.in_err-append.ensures.items f.work
+    ∙ engine-kept i e f c.let_go_gates.ensures.left c.let_go_gates.ensures.same more))

@@ -7,10 +7,10 @@ advance-requires g c = record { sound = (c.in_ok-receive.ensures.leads c.require
 
 pub returns-clause-follows : goal.returns-clause-follows
 returns-clause-follows g c =
-    let a = c.in_ok-stand.ensures in
+    let a = c.in_ok-rest.ensures in
     λ s f.
-    follows g.P.Party.me c.receive.new.self c.advance.new.self _ c.in_ok-stand.stand (c.in_ok-receive.ensures.leads s f) a.same a.told a.stands a.sound
+    follows g.P.Party.me c.receive.new.self c.advance.new.self _ c.in_ok-rest.rest (c.in_ok-receive.ensures.leads s f) a.same a.told a.stands a.sound
 
 pub returns-clause-story : goal.returns-clause-story
 returns-clause-story g c =
-    λ budget. story_kept c.receive.new.self c.advance.new.self budget c.in_ok-stand.ensures.kept ∙ c.in_ok-receive.ensures.story budget
+    λ budget. story_kept c.receive.new.self c.advance.new.self budget c.in_ok-rest.ensures.kept ∙ c.in_ok-receive.ensures.story budget

@@ -1,6 +1,6 @@
 use Rattle.std.proofs.Common.{subst}
 use Rattle.gate_node.specs.Nodes as node
-use Rattle.miner_core.specs.Engines.{Rests, behind_node}
+use Rattle.miner_core.specs.Engines.{Rests, behind_node, gates_stand}
 use Rattle.miner_core.proofs.Stories.{goes, end_is, through_ends, stuck_ends}
 use Rattle.miner_core.proofs.engine.Engine.is_ended.Goals as goal
 
@@ -9,7 +9,7 @@ returns-in-Waits-clause-going g c =
     λ no.
     let i = g.P.Party.me in
     let e = c.args.self.now in
-    let h = subst (λ s. node.EngineStands i s e.node) c.in-Waits.is c.requires.node in
+    let h = subst (λ s. node.EngineStands i (gates_stand s) e.node) c.in-Waits.is c.requires.node in
     goes i e.node.links c.in-Waits.field-0 (behind_node i e e.at) c.in-Waits.field-1 (node.engine_left i e.node) h
 
 pub returns-in-Through-clause-ended : goal.returns-in-Through-clause-ended

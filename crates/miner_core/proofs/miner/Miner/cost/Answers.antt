@@ -7,6 +7,6 @@ pub returns : goal.returns
 returns g c = λ going p values is.
     let e = c.self.inside.engine in
     let h = c.self.invariant (ap (λ s. s.lost) c.self.view_is ∙ going) in
-    let there = stop_at g.P.Party.me e c.self.inside.stand (story_of e c.self.inside.budget) h.0 h.1 p values
+    let there = stop_at g.P.Party.me e c.self.inside.rest (story_of e c.self.inside.budget) h.0 h.1 p values
     (ap (λ (s : Story). (node g.P.Party.me s).left) c.self.view_is ∙ is) in
     c.saturating_sub.ensures ∙ ap (λ s. c.self.inside.budget - s.left) (sym there.stage) ∙ ap (λ (s : Story). s.budget - p.stage.left) c.self.view_is

@@ -10,7 +10,7 @@ pub returns : goal.returns
 returns g c = λ going p values is.
     let e = c.self.inside.engine in
     let h = c.self.invariant (ap (λ s. s.lost) c.self.view_is ∙ going) in
-    let there = stop_at g.P.Party.me e c.self.inside.stand (story_of e c.self.inside.budget) h.0 h.1 p values
+    let there = stop_at g.P.Party.me e c.self.inside.rest (story_of e c.self.inside.budget) h.0 h.1 p values
     (ap (λ (s : Story). (node g.P.Party.me s).left) c.self.view_is ∙ is) in
     c.drawn_of.ensures ∙ ap (λ i. drawn_by (drawn_seen e.stage.drawn) (miner_of i)) c.number.ensures
     ∙ ap (λ s. drawn_by s.drawn (miner_of g.P.Party.me)) (sym there.stage)

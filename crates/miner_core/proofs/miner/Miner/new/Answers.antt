@@ -8,10 +8,10 @@ invariant_of-result g c =
     λ h.
     let i = g.P.Party.me in
     let s = start_of c.args.task c.args.dealt c.args.tape.items c.args.budget in
-    let a = c.in_ok-stand.ensures in
+    let a = c.in_ok-rest.ensures in
     let e = c.in_ok-engine.engine in
     let same = story_kept e c.advance.new.self c.args.budget a.kept ∙ c.in_ok-engine.ensures.story in (
       subst (λ s. Follows i c.advance.new.self s) (sym same)
-          (follows i e c.advance.new.self s c.in_ok-stand.stand c.in_ok-engine.ensures.leads a.same a.told a.stands a.sound),
+          (follows i e c.advance.new.self s c.in_ok-rest.rest c.in_ok-engine.ensures.leads a.same a.told a.stands a.sound),
       a.stands,
     )

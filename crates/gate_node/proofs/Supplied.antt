@@ -1,0 +1,91 @@
+-- Words that are supplied little by little, and where none come any more.
+use Rattle.std.proofs.Common.{◌≡◌, List, [], ◌++◌, ℕ, ◌+◌, ◌-◌, ◌<◌, ◌∷◌, false, drop, length, length-append, length-drop, append_assoc, sym, ◌∙◌, ap, subst, arith}
+use Rattle.std.proofs.lemmas.Bool.{lt-leb}
+use Rattle.std.proofs.Math.Seq.{drop-append_seam}
+use Rattle.proto_core.specs.declared.party.Number.{Number}
+use Rattle.proto_core.specs.Strand.{Ends}
+use Rattle.proto_core.proofs.Beginnings.{append-none}
+use Rattle.gates.specs.declared.gate.Gate.{Gate}
+use Rattle.gates.specs.Clear.{Values}
+use Rattle.gate_node.specs.declared.engine.Engine.{Engine}
+use Rattle.gate_node.specs.declared.stand.Stand.{Stand}
+use Rattle.gate_node.specs.declared.stand.Stand.TheVariants as stand
+use Rattle.gate_node.specs.OwnGates.{Whole, Stuck, own_gates}
+use Rattle.gate_node.specs.Nodes.{engine_left, engine_outcome, EngineStands, StandsWith, StandsAlways, settled, gates_left, work_left, first_can_run, ComesTo, DoesTheSame, HasTheSameLeft, filled, IsTapeOf, with_tape}
+use Rattle.gate_node.proofs.Blocks.{gate-stuck}
+
+module _ {P : Type 0} (e : Engine P) where
+  pub filled-none : filled e [] ≡ e
+  filled-none = ap (λ l. record e { tape = (l, e.tape.1 ++ []) }) (append-none e.tape.0) ∙ ap (λ l. record e { tape = (e.tape.0, l) }) (append-none e.tape.1)
+
+  pub filled-filled : (words more : List ℕ) → filled (filled e words) more ≡ filled e (words ++ more)
+  filled-filled words more =
+      ap (λ l. record e { tape = (l, (e.tape.1 ++ words) ++ more) }) (append_assoc e.tape.0 words more)
+      ∙ ap (λ l. record e { tape = (e.tape.0 ++ (words ++ more), l) }) (append_assoc e.tape.1 words more)
+
+  module _ (i : Number) where
+    pub comes-here : (values : Values) → ComesTo i values e [] → engine_left i e ≡ Ends (Whole values e.tape.1)
+    comes-here values h = ap (engine_left i) (sym filled-none) ∙ h ∙ ap (λ t. Ends (Whole values t)) (append-none e.tape.1)
+
+    own-stuck : (tape : List ℕ) (gates : List Gate) → first_can_run i e.dealt e.values tape gates ≡ false → own_gates i e.dealt gates e.values tape ≡ Ends Stuck
+    own-stuck tape [] cannot = absurd cc
+    own-stuck tape (gate ∷ gates) cannot = gate-stuck i e.dealt e.values tape gate gates cannot
+
+    -- where it wants words, with fewer it is stuck
+    pub wants-fewer : (count : ℕ) (more : List ℕ) → StandsWith i (stand.Wants count) e more → length more < count → engine_left i (filled e more) ≡ Ends Stuck
+    wants-fewer count more h fewer =
+        ap (work_left i (filled e more)) h.idle ∙ own-stuck (e.tape.1 ++ more) (gates_left i e) (h.exactly ∙ lt-leb _ _ fewer)
+
+    pub stands-here : (at : Stand) → StandsAlways i at e → EngineStands i (settled at) e
+    stands-here stand.Through h = subst (EngineStands i stand.Through) filled-none (h [])
+    stands-here (stand.Waits link cause) h = subst (EngineStands i (stand.Waits link cause)) filled-none (h [])
+    stands-here stand.Stuck h = subst (EngineStands i stand.Stuck) filled-none (h [])
+    stands-here (stand.Wants count) h = subst (EngineStands i stand.Stuck) filled-none (wants-fewer count [] (h []) (h []).some)
+
+-- what is the same whatever words come is the same where none come
+module _ {P : Type 0} (i : Number) (before after : Engine P) where
+  pub same-here : DoesTheSame i before after → engine_outcome i after ≡ engine_outcome i before
+  same-here h = ap (engine_outcome i) (sym (filled-none after)) ∙ h [] ∙ ap (engine_outcome i) (filled-none before)
+
+  pub left-here : HasTheSameLeft i before after → engine_left i after ≡ engine_left i before
+  left-here h = ap (engine_left i) (sym (filled-none after)) ∙ h [] ∙ ap (engine_left i) (filled-none before)
+
+-- what holds whatever words come holds of each whole tape; and a supply changes nothing of that
+module _ {P : Type 0} (i : Number) where
+  pub same-whole :
+      (before after : Engine P) → DoesTheSame i before after → after.tape.0 ≡ before.tape.0 → (tape : List ℕ) →
+      engine_outcome i (with_tape after tape) ≡ engine_outcome i (with_tape before tape)
+  same-whole before after same kept tape =
+      ap (λ l. engine_outcome i (filled after (drop (length l) tape))) kept ∙ same (drop (length before.tape.0) tape)
+
+  pub wants-too-many :
+      (e : Engine P) (count ahead : ℕ) (tape : List ℕ) → StandsAlways i (stand.Wants count) e → IsTapeOf e.tape.0 ahead tape → ahead < count →
+      engine_left i (with_tape e tape) ≡ Ends Stuck
+  wants-too-many e count ahead tape wants of fewer =
+      let l : length (drop (length e.tape.0) tape) ≡ length tape - length e.tape.0 = length-drop (length e.tape.0) tape in
+      let counted = of.counted in
+      wants-fewer e i count (drop (length e.tape.0) tape) (wants (drop (length e.tape.0) tape)) (omega (arith, l, counted, fewer))
+
+-- words that go over are those at the front of what is behind
+module _ (supplied words tape : List ℕ) where
+  abbrev rest : List ℕ
+  rest = drop (length (supplied ++ words)) tape
+
+  module _ (is : tape ≡ (supplied ++ words) ++ rest) where
+    all-is : tape ≡ supplied ++ (words ++ rest)
+    all-is = is ∙ append_assoc supplied words rest
+
+    pub behind-is : drop (length supplied) tape ≡ words ++ rest
+    behind-is = ap (drop (length supplied)) all-is ∙ drop-append_seam supplied (words ++ rest)
+
+  pub tape-before : (ahead left : ℕ) → length words + left ≡ ahead → IsTapeOf (supplied ++ words) left tape → IsTapeOf supplied ahead tape
+  tape-before ahead left moved of =
+      let counted = of.counted in
+      let l : length (supplied ++ words) ≡ length supplied + length words = length-append supplied words in
+      record { begins = all-is of.begins ∙ ap (λ r. supplied ++ r) (sym (behind-is of.begins)); counted = omega (arith, counted, l, moved) }
+
+pub supplied-whole :
+    {P : Type 0} (e : Engine P) (words tape : List ℕ) → tape ≡ (e.tape.0 ++ words) ++ drop (length (e.tape.0 ++ words)) tape →
+    with_tape (filled e words) tape ≡ with_tape e tape
+supplied-whole e words tape is =
+    filled-filled e words (drop (length (e.tape.0 ++ words)) tape) ∙ ap (filled e) (sym (behind-is e.tape.0 words tape is))
