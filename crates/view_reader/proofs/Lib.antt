@@ -1,6 +1,6 @@
 mod Collected
 mod Texts
-mod OpenedRead
+pub mod OpenedRead
 mod OpenedLaws
 mod Limits
 mod EndWords

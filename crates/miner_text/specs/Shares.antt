@@ -1,0 +1,8 @@
+-- A miner's share of a value that is published to the client.
+use Rattle.std.specs.Prelude.{ℕ, List}
+use Rattle.secrec_ast.specs.declared.expression.DataType.{DataType}
+
+pub record ResultShare : Type 0 where
+  pub name : List ℕ
+  pub element : DataType
+  pub words : List ℕ

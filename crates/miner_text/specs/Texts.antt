@@ -1,0 +1,29 @@
+-- Lines that a text can have.
+use Rattle.std.specs.Prelude.{◌≡◌, ◌<◌, ◌^◌, true, List, [], ◌∷◌}
+use Rattle.sc_text.specs.declared.event.Event.{Event}
+use Rattle.sc_text.specs.declared.event.Event.TheVariants.{Open, Publish}
+use Rattle.sc_text.specs.declared.end.End.{End}
+use Rattle.sc_text.specs.Name.{is_name}
+use Rattle.view_text.specs.View.{Words, AreElements, IsEnding}
+use Rattle.miner_text.specs.Shares.{ResultShare}
+use Rattle.miner_text.specs.declared.line.MinerLine.{MinerLine}
+use Rattle.miner_text.specs.declared.line.MinerLine.TheVariants as lines
+
+-- names, words of 64 bits, and numbers as large as an end may have
+abbrev pub IsEvent : Event → Type 0
+IsEvent (Open es) = AreElements es
+IsEvent (Publish name es) = (is_name name ≡ true) × AreElements es
+
+abbrev pub IsShare : ResultShare → Type 0
+IsShare s = (is_name s.name ≡ true) × Words s.words
+
+abbrev pub IsEnd : End → Type 0
+IsEnd end = IsEnding end.how × (end.cost < 2 ^ 64)
+
+-- events and shares in any order, then the end alone
+abbrev pub IsText : List MinerLine → Type 0
+IsText [] = ⊥
+IsText (lines.Told event ∷ ls) = IsEvent event × IsText ls
+IsText (lines.Share share ∷ ls) = IsShare share × IsText ls
+IsText (lines.Ended end ∷ []) = IsEnd end
+IsText (lines.Ended end ∷ l ∷ ls) = ⊥

@@ -1,0 +1,6 @@
+mod Calls
+mod Waits
+mod Judging
+mod Launched
+mod Places
+mod Passing

@@ -1,0 +1,93 @@
+-- Lines of three texts, place by place.
+use Rattle.std.proofs.Common.{◌≡◌, ℕ, zero, suc, ◌+◌, ◌<◌, ◌≤◌, List, [], ◌∷◌, ◌++◌, length, drop, get_or, refl, sym, ◌∙◌, ap, add-one, append_assoc}
+use Rattle.std.specs.Prelude.{Option, Some, None, Result, Ok, Err}
+use Rattle.std.proofs.lemmas.List.{drop_more, drop_all}
+use Rattle.sc_text.specs.declared.end.End.{End}
+use Rattle.miner_text.specs.declared.line.MinerLine.{MinerLine}
+use Rattle.trio.specs.Joining.{Joined, Difference, first_difference, joined_line, words_in, next, rest, end_of}
+use Rattle.trio.specs.Joining.{longer, in_front, unless, joined_from, joined_of}
+
+pub line_there : (ls : List MinerLine) (place : ℕ) (d : MinerLine) → place < length ls → Some (get_or ls place d) ≡ next (drop place ls)
+line_there ls place d h = ap next (sym (drop_more ls place d h))
+
+pub no_line_there : (ls : List MinerLine) (place : ℕ) → length ls ≤ place → None ≡ next (drop place ls)
+no_line_there ls place h = ap next (sym (drop_all place ls h))
+
+rest_drop : (ls : List MinerLine) (place : ℕ) → rest (drop place ls) ≡ drop (suc place) ls
+rest_drop [] zero = refl
+rest_drop [] (suc place) = refl
+rest_drop (l ∷ ls) zero = refl
+rest_drop (l ∷ ls) (suc place) = rest_drop ls place
+
+rest_behind : (ls : List MinerLine) (place : ℕ) → rest (drop place ls) ≡ drop (place + 1) ls
+rest_behind ls place = rest_drop ls place ∙ ap (λ k. drop k ls) (sym (add-one place))
+
+longer_more : (xs ys : List ℕ) (r : Result Joined Difference) → longer xs (longer ys r) ≡ longer (xs ++ ys) r
+longer_more xs ys (Ok j) = ap (λ text. Ok (record { text = text; end = j.end })) (sym (append_assoc xs ys j.text))
+longer_more xs ys (Err d) = refl
+
+pub longer_none : (r : Result Joined Difference) → r ≡ longer [] r
+longer_none (Ok j) = refl
+longer_none (Err d) = refl
+
+module _ (first second third : List MinerLine) (place : ℕ) (text : List ℕ) where
+  abbrev pub Left : Type 0
+  Left = joined_of first second third ≡ longer text (joined_from (place + 1) (drop place first) (drop place second) (drop place third))
+
+  abbrev two : Option MinerLine
+  two = next (drop place second)
+
+  abbrev three : Option MinerLine
+  three = next (drop place third)
+
+  abbrev more : Result Joined Difference
+  more = joined_from (place + 1 + 1) (drop (place + 1) first) (drop (place + 1) second) (drop (place + 1) third)
+
+  abbrev line_of : MinerLine → List ℕ
+  line_of l = joined_line l (words_in two) (words_in three)
+
+  at_line : (d : MinerLine) → place < length first → Left →
+      joined_of first second third
+      ≡ longer text (unless (first_difference (place + 1) (get_or first place d) two three)
+      (in_front (end_of (get_or first place d)) (line_of (get_or first place d)) more))
+  at_line d lt e =
+      let l = get_or first place d in
+      e
+      ∙ ap (λ ls. longer text (joined_from (place + 1) ls (drop place second) (drop place third))) (drop_more first place d lt)
+      ∙ ap (λ ls. longer text (unless (first_difference (place + 1) l two three)
+      (in_front (end_of l) (line_of l) (joined_from (place + 1 + 1) (drop (place + 1) first) ls (rest (drop place third)))))) (rest_behind second place)
+      ∙ ap (λ ls. longer text (unless (first_difference (place + 1) l two three)
+      (in_front (end_of l) (line_of l) (joined_from (place + 1 + 1) (drop (place + 1) first) (drop (place + 1) second) ls)))) (rest_behind third place)
+
+  pub differ_there : (d : MinerLine) (found : Difference) → place < length first → Left →
+      Some found ≡ first_difference (place + 1) (get_or first place d) two three → joined_of first second third ≡ Err found
+  differ_there d found lt e h =
+      at_line d lt e
+      ∙ ap (λ o. longer text (unless o (in_front (end_of (get_or first place d)) (line_of (get_or first place d)) more))) (sym h)
+
+  alike_there : (d : MinerLine) → place < length first → Left → None ≡ first_difference (place + 1) (get_or first place d) two three →
+      joined_of first second third ≡ longer text (in_front (end_of (get_or first place d)) (line_of (get_or first place d)) more)
+  alike_there d lt e h =
+      at_line d lt e
+      ∙ ap (λ o. longer text (unless o (in_front (end_of (get_or first place d)) (line_of (get_or first place d)) more))) (sym h)
+
+  pub ends_there : (d : MinerLine) (new : List ℕ) (end : End) → place < length first → Left →
+      None ≡ first_difference (place + 1) (get_or first place d) two three → new ≡ text ++ line_of (get_or first place d) →
+      Some end ≡ end_of (get_or first place d) → joined_of first second third ≡ Ok (record { text = new; end = end })
+  ends_there d new end lt e h is last =
+      alike_there d lt e h
+      ∙ ap (λ o. longer text (in_front o (line_of (get_or first place d)) more)) (sym last)
+      ∙ ap (λ bytes. Ok (record { text = bytes; end = end })) (sym is)
+
+  pub goes_on_there : (d : MinerLine) (new : List ℕ) → place < length first → Left →
+      None ≡ first_difference (place + 1) (get_or first place d) two three → new ≡ text ++ line_of (get_or first place d) →
+      None ≡ end_of (get_or first place d) → joined_of first second third ≡ longer new more
+  goes_on_there d new lt e h is inner =
+      alike_there d lt e h
+      ∙ ap (λ o. longer text (in_front o (line_of (get_or first place d)) more)) (sym inner)
+      ∙ longer_more text (line_of (get_or first place d)) more
+      ∙ ap (λ bytes. longer bytes more) (sym is)
+
+  pub used_up : length first ≤ place → Left → joined_of first second third ≡ Err (record { line = place + 1; first = []; second = [] })
+  used_up le e =
+      e ∙ ap (λ ls. longer text (joined_from (place + 1) ls (drop place second) (drop place third))) (drop_all place first le)

@@ -1,0 +1,65 @@
+-- Worked texts that are put together.
+use Rattle.std.specs.Prelude.{◌≡◌, List, [], ◌∷◌, codes, refl, Ok, Err}
+use Rattle.std.specs.Fmt.{digits}
+use Rattle.secrec_ast.specs.declared.expression.DataType.TheVariants.{Uint64}
+use Rattle.secrec_ast.specs.declared.expression.DataType.TheVariants as datatype
+use Rattle.sc_text.specs.Elements.{element_text, elements_text}
+use Rattle.sc_text.specs.End.{ending_text, end_line}
+use Rattle.sc_text.specs.Event.{event_line}
+use Rattle.sc_text.specs.declared.elements.Element.TheVariants.{Word}
+use Rattle.sc_text.specs.declared.end.End.{End}
+use Rattle.sc_text.specs.declared.end.Ending.TheVariants.{Done}
+use Rattle.sc_text.specs.declared.event.Event.TheVariants.{Open}
+use Rattle.miner_text.specs.Lines.{share_line, line_text}
+use Rattle.miner_text.specs.declared.line.MinerLine.{MinerLine}
+use Rattle.miner_text.specs.declared.line.MinerLine.TheVariants as lines
+use Rattle.trio.specs.Joining.{joined_of}
+
+abbrev pub done : End
+done = record { how = Done; cost = 7 }
+
+abbrev pub with_end : MinerLine → List MinerLine
+with_end line = line ∷ lines.Ended done ∷ []
+
+-- the product of 6 and 7, of which the third miner has the whole
+pub product : joined_of (with_end (lines.Share (record { name = codes "c"; element = Uint64; words = 0 ∷ [] })))
+    (with_end (lines.Share (record { name = codes "c"; element = Uint64; words = 0 ∷ [] })))
+    (with_end (lines.Share (record { name = codes "c"; element = Uint64; words = 42 ∷ [] })))
+    ≡ Ok (record { text = codes "publish c 42\nend done cost 7\n"; end = done })
+unfolding line_text share_line event_line elements_text element_text end_line ending_text digits
+product = refl
+
+-- numbers wrap, and of truth values bit 0 of the three xored counts
+pub wrapped : joined_of (with_end (lines.Share (record { name = codes "c"; element = Uint64; words = 18446744073709551615 ∷ [] })))
+    (with_end (lines.Share (record { name = codes "c"; element = Uint64; words = 1 ∷ [] })))
+    (with_end (lines.Share (record { name = codes "c"; element = Uint64; words = 5 ∷ [] })))
+    ≡ Ok (record { text = codes "publish c 5\nend done cost 7\n"; end = done })
+unfolding line_text share_line event_line elements_text element_text end_line ending_text digits
+wrapped = refl
+
+pub truths : joined_of (with_end (lines.Share (record { name = codes "b"; element = datatype.Bool; words = 7 ∷ 1 ∷ [] })))
+    (with_end (lines.Share (record { name = codes "b"; element = datatype.Bool; words = 4 ∷ 1 ∷ [] })))
+    (with_end (lines.Share (record { name = codes "b"; element = datatype.Bool; words = 2 ∷ 2 ∷ [] })))
+    ≡ Ok (record { text = codes "publish b true false\nend done cost 7\n"; end = done })
+unfolding line_text share_line event_line elements_text element_text end_line ending_text digits
+truths = refl
+
+-- the second text has another opening; the third one would differ in it, too
+pub opened_apart : joined_of (with_end (lines.Told (Open (Word 42 ∷ [])))) (with_end (lines.Told (Open (Word 41 ∷ [])))) (lines.Ended done ∷ [])
+    ≡ Err (record { line = 1; first = codes "open 42\n"; second = codes "open 41\n" })
+unfolding line_text share_line event_line elements_text element_text end_line ending_text digits
+opened_apart = refl
+
+-- a text of the end alone
+pub third_is_short : joined_of (with_end (lines.Told (Open (Word 42 ∷ [])))) (with_end (lines.Told (Open (Word 42 ∷ [])))) (lines.Ended done ∷ [])
+    ≡ Err (record { line = 1; first = codes "open 42\n"; second = codes "end done cost 7\n" })
+unfolding line_text share_line event_line elements_text element_text end_line ending_text digits
+third_is_short = refl
+
+-- as many words must be there
+pub fewer_words : joined_of (with_end (lines.Share (record { name = codes "c"; element = Uint64; words = 1 ∷ [] })))
+    (with_end (lines.Share (record { name = codes "c"; element = Uint64; words = [] })))
+    (with_end (lines.Share (record { name = codes "c"; element = Uint64; words = 1 ∷ [] })))
+    ≡ Err (record { line = 1; first = codes "share c uint64 1\n"; second = codes "share c uint64\n" })
+unfolding line_text share_line event_line elements_text element_text end_line ending_text digits
+fewer_words = refl

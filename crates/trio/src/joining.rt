@@ -1,0 +1,112 @@
+// Three texts that are put together.
+ghost use Rattle.std.specs.Prelude.{◌≡◌, ◌++◌, OnOk, IfOk, drop, option_map, string_bytes};
+ghost use Rattle.trio.specs.Joining.{elements_added, end_of, joined_line, next, words_in, joined_of};
+ghost use Rattle.trio.specs.Answers.{IsJoin};
+
+use crate::comparing::{first_difference, share_of};
+use crate::difference::Difference;
+use crate::join_err::JoinErr;
+use crate::joined::Joined;
+use miner_text::{MinerLine, ResultShare};
+use sc_text::{Elements, End, Event};
+use std::alloc::{AllocError, Global};
+use told_events::all_added_up;
+use vector_ops::elements;
+
+/// The words of a line that is a share; else none.
+fn words_in(line: Option<&MinerLine>) -> &[u64]
+    ensures { result.now ≡ words_in (option_map (λ l. l.now) line.entry) }
+{
+    match line {
+        Some(line) => match share_of(line) {
+            Some(share) => share.words(),
+            None => &[],
+        },
+        None => &[],
+    }
+}
+
+/// The elements of the value of which three miners have these shares.
+fn elements_added(
+    alloc: Global,
+    share: &ResultShare,
+    second: &[u64],
+    third: &[u64],
+) -> Result<Elements, AllocError>
+    ensures { IfOk result (λ e. e ≡ elements_added share.now second.now third.now) }
+{
+    let words = all_added_up(alloc, share.element(), share.words(), second, third)?;
+    elements(alloc, share.element(), &words)
+}
+
+/// Puts the line behind those that are there which three miners make together: a share becomes the value that is published.
+fn push_joined(
+    alloc: Global,
+    text: &mut String,
+    line: &MinerLine,
+    second: &[u64],
+    third: &[u64],
+) -> Result<(), AllocError>
+    ensures { OnOk result (string_bytes text.new ≡ string_bytes text.old ++ joined_line line.now second.now third.now) }
+{
+    if let Some(share) = share_of(line) {
+        let name = share.name().copy(alloc)?;
+        let elements = elements_added(alloc, share, second, third)?;
+        let event = Event::Publish(name, elements);
+        write!(text, "{event}")?;
+    } else {
+        write!(text, "{line}")?;
+    }
+    Ok(())
+}
+
+/// How the run ended, where the line tells it.
+fn end_of(line: &MinerLine) -> Option<End>
+    ensures { result ≡ end_of line.now }
+{
+    match line {
+        MinerLine::Ended(end) => Some(*end),
+        MinerLine::Told(_) | MinerLine::Share(_) => None,
+    }
+}
+
+/// The line at this place, if there is one.
+#[tactic(auto, using(crate::proofs::Places::line_there, crate::proofs::Places::no_line_there))]
+fn line_at(lines: &[MinerLine], place: usize) -> Option<&MinerLine>
+    ensures { option_map (λ l. l.now) result ≡ next (drop place lines.now) }
+{
+    if place < lines.len() {
+        Some(&lines[place])
+    } else {
+        None
+    }
+}
+
+/// Puts the texts of three miners together, line by line: the three lines must be alike, but for the words of shares, of which there
+/// must be as many. Shares of numbers are added up, and of truth values bit 0 of the three xored is taken.
+///
+/// `Disagree` tells the first line in which two texts differ, of miners 1 and 2, or else of 1 and 3.
+pub fn join(
+    alloc: Global,
+    first: &[MinerLine],
+    second: &[MinerLine],
+    third: &[MinerLine],
+) -> Result<Joined, JoinErr>
+    ensures { IsJoin (joined_of first.now second.now third.now) result }
+{
+    let mut text = String::new(alloc);
+    for place in 0..first.len() {
+        let line = &first[place];
+        let (two, three) = (line_at(second, place), line_at(third, place));
+        if let Some(found) = first_difference(alloc, place as u64 + 1, line, two, three)? {
+            return Err(JoinErr::Disagree(found));
+        }
+        push_joined(alloc, &mut text, line, words_in(two), words_in(three))?;
+        if let Some(end) = end_of(line) {
+            return Ok(Joined::new(text, end));
+        }
+    }
+    let line = first.len() as u64 + 1;
+    let nothing = Difference::new(line, Vec::new(alloc), Vec::new(alloc));
+    Err(JoinErr::Disagree(nothing))
+}
