@@ -14,6 +14,7 @@ from files import (
 from joint import Direction, JointRun, SimulatedMiner, map_tapes
 from network import Outcome, default_delivery, listed_delivery, shuffled_delivery
 from refusals import CallRefused
+from shares import gathered, read_share
 from tree import Data
 from verdict import Verdict, judge
 from words import Usage, Words, read_words
@@ -63,6 +64,7 @@ class Caller:
         commands = {
             "check": self.check, "compile": self.compile, "eval": self.eval, "need": self.need, "run": self.run, "map": self.map,
             "simulate": self.simulate, "twin": self.twin, "deal": self.deal, "load": self.load,
+            "gather": self.gather,
         }
         try:
             asked = read_words(words)
@@ -217,6 +219,11 @@ class Caller:
         written: Written = [(f"{prefix}.{miner}", write_share(inputs, dealt, lengths, miner)) for miner in (1, 2, 3)]
         written += [(f"{prefix}.t{miner}", write_own_tape(tapes[miner])) for miner in (1, 2, 3)]
         return Answer(written=written)
+
+    def gather(self, words: Words) -> Answer:
+        """A miner's share files, end to end."""
+        shares = [read_share(self.read(path), words.number("me")) for path in words.listed]
+        return Answer(written=[(words["to"], gathered(shares))])
 
     def load(self, words: Words) -> Answer:
         inputs = load_inputs(words.number("number"))

@@ -21,6 +21,7 @@ RANDOM = {
     "random-words": (call_words.at_random, call_words.play),
     "random-inputs": (file_calls.changed(faulty_files.changed_entries, GOOD_FILES["i.json"]), file_calls.play_input),
     "random-publics": (file_calls.changed(faulty_files.changed_entries, GOOD_FILES["public"]), file_calls.play_public),
+    "random-shares": (file_calls.changed(faulty_files.changed_entries, GOOD_FILES["first.2"]), file_calls.play_share),
     "random-tapes": (file_calls.changed(faulty_files.changed_tapes, GOOD_FILES["t"]), file_calls.play_tapes),
     "random-opened": (file_calls.changed(faulty_files.changed_lines, b"open 1 true\nopen\nopen 20\n"), file_calls.play_opened),
     "random-schedules": (file_calls.changed(faulty_files.changed_lines, GOOD_FILES["s"]), file_calls.play_schedule),

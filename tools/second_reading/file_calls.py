@@ -65,6 +65,13 @@ def play_schedule(data: bytes, source: random.Random, folder: Folder):
     folder.call(*line_of(source.choice(("run", "simulate"))).having("schedule", "x").words())
 
 
+def play_share(data: bytes, source: random.Random, folder: Folder):
+    """A share file, alone and beside a good one."""
+    folder.put("x", data)
+    folder.call("gather", "--me", source.choice("1222"), "--to", "g", "x")
+    folder.call("gather", "--me", "2", "--to", "g", *source.choice((("x", "second.2"), ("second.2", "x"), ("x", "x"), ("first.2", "x"))))
+
+
 # Several faults at once
 
 LONG_PROGRAM = b"void main() { " + b'publish("x", 1); ' * 1365 + b"}"

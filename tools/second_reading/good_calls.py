@@ -50,10 +50,11 @@ LINES = (
     Line("twin", ("3", "p.sc"), (("input", "i.json"), ("second", "j.json"), ("tape", "t"), ("to", "u"), ("budget", "100"))),
     Line("deal", (), (("input", "i.json"), ("tape", "t"), ("to", "d"))),
     Line("load", (), (("number", "2"),)),
+    Line("gather", ("first.2", "second.2"), (("me", "2"), ("to", "g"))),
 )
 WRITTEN = {
     "compile": ("code",), "run": ("views", "record"), "map": ("sim", "public", "opened"), "simulate": ("view",), "twin": ("to",),
-    "deal": ("to",),
+    "deal": ("to",), "gather": ("to",),
 }
 FILE_OPTIONS = ("input", "second", "public", "opened", "tape", "sim", "schedule")
 
@@ -80,6 +81,10 @@ def made_files() -> dict[str, bytes]:
                   ["run", *given, "--shuffle", SEED, "--record", "s"]):
         answer = caller.call(words)
         files.update({path: data for path, data in answer.written if data is not None})
+    files["other.json"] = write_inputs([replace(entry, name=f"other_{entry.name}") for entry in inputs(20, (1, 1))])
+    for given, prefix in (("i.json", "first"), ("other.json", "second")):
+        dealt = Caller(files, set()).call(["deal", "--input", given, "--tape", "t", "--to", prefix])
+        files.update({path: data for path, data in dealt.written if path in ("first.1", "first.2", "second.2")})
     return files
 
 

@@ -11,11 +11,13 @@ TAPE_WORDS_LIMIT = 1 << 24
 
 @dataclass(frozen=True)
 class Form:
-    """The places of a command in their order, the options that it must have, and those that it may have."""
+    """The places of a command in their order, the options that it must have, those that it may have, and whether behind its places stand
+    one word or more."""
 
     places: tuple[str, ...]
     required: tuple[str, ...] = ()
     optional: tuple[str, ...] = ()
+    has_list: bool = False
 
     @property
     def options(self) -> tuple[str, ...]:
@@ -33,8 +35,9 @@ FORMS = {
     "twin": Form(("miner", "program"), ("input", "second", "tape", "to"), ("budget",)),
     "deal": Form((), ("input", "tape", "to")),
     "load": Form((), ("number",)),
+    "gather": Form((), ("me", "to"), has_list=True),
 }
-NUMBERS = {"miner": (1, 3), "budget": (0, WORD_LIMIT), "number": (0, WORD_LIMIT), "words": (0, TAPE_WORDS_LIMIT)}
+NUMBERS = {"miner": (1, 3), "me": (1, 3), "budget": (0, WORD_LIMIT), "number": (0, WORD_LIMIT), "words": (0, TAPE_WORDS_LIMIT)}
 SEEDS = ("seed", "shuffle")
 SEED_FORM = re.compile(r"[0-9a-f]{64}")
 DIGITS = re.compile(r"[0-9]+")
@@ -58,6 +61,7 @@ class Words:
 
     command: str
     values: dict[str, str]
+    listed: tuple[str, ...] = ()
 
     def __getitem__(self, name: str) -> str:
         return self.values[name]
@@ -81,15 +85,19 @@ def value_behind(rest: Iterator[str]) -> str:
     return word
 
 
-def placed(form: Form, words: list[str]) -> dict[str, str]:
-    """The values of places and options; options stand anywhere up to `--`, each once."""
+def placed(form: Form, words: list[str]) -> tuple[dict[str, str], tuple[str, ...]]:
+    """The values of places and options, and the words behind the places; options stand anywhere up to `--`, each once."""
     values: dict[str, str] = {}
+    listed: list[str] = []
     places, rest, ended = list(form.places), iter(words), False
     for word in rest:
         if ended or not is_option(word):
-            if not places:
+            if places:
+                values[places.pop(0)] = word
+            elif form.has_list:
+                listed.append(word)
+            else:
                 raise Usage
-            values[places.pop(0)] = word
         elif word == "--":
             ended = True
         else:
@@ -97,9 +105,9 @@ def placed(form: Form, words: list[str]) -> dict[str, str]:
             if not word.startswith("--") or name not in form.options or name in values:
                 raise Usage
             values[name] = value if attached else value_behind(rest)
-    if places or any(name not in values for name in form.required):
+    if places or form.has_list != bool(listed) or any(name not in values for name in form.required):
         raise Usage
-    return values
+    return values, tuple(listed)
 
 
 def tested(words: Words):
@@ -121,6 +129,6 @@ def read_words(words: list[str]) -> Words:
         raise Usage
     if not words or words[0] not in FORMS:
         raise Usage
-    found = Words(words[0], placed(FORMS[words[0]], words[1:]))
+    found = Words(words[0], *placed(FORMS[words[0]], words[1:]))
     tested(found)
     return found

@@ -3,4 +3,5 @@ pub mod Laws
 pub mod Matched
 pub mod NumberLemmas
 pub mod Options
+pub mod Others
 pub mod Seeds

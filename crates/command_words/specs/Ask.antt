@@ -1,7 +1,7 @@
 -- What words ask for.
-use Rattle.std.specs.Prelude.{ℕ, List, [], ◌∷◌, codes, Option, Some, None, nat_le, if◌then◌else◌, unwrap_or, option_and_then, option_map}
+use Rattle.std.specs.Prelude.{ℕ, List, [], ◌∷◌, codes, drop, Option, Some, None, nat_le, if◌then◌else◌, unwrap_or, option_and_then, option_map}
 use Rattle.std.specs.Str.{bytes_eq}
-use Rattle.clap.specs.Words.{Kinds, Row, Text, fault_of, first_of, subcommand_of}
+use Rattle.clap.specs.Words.{Kinds, Row, Text, all_of, fault_of, first_of, subcommand_of}
 use Rattle.proto_core.specs.declared.party.Number.{Number}
 use Rattle.command_words.specs.Numbers.{number_of, miner_of, seed_of}
 use Rattle.command_words.specs.Shapes.{secrec_app}
@@ -82,6 +82,14 @@ pub record TwinAsk : Type 0 where
 pub record LoadAsk : Type 0 where
   pub number : ℕ
 
+pub record GatherAsk : Type 0 where
+  pub miner : Number
+  -- the share files that owners dealt the miner
+  pub first : Text
+  pub more : List Text
+  -- where the share file of all is written
+  pub to : Text
+
 -- a command, without where its words lie in memory
 pub data Ask : Type 0 where
   run : RunAsk → Ask
@@ -94,6 +102,7 @@ pub data Ask : Type 0 where
   simulate : SimulateAsk → Ask
   twin : TwinAsk → Ask
   load : LoadAsk → Ask
+  gather : GatherAsk → Ask
 
 infixl 10 ◌>>=◌
 abbrev pub ◌>>=◌ : {A B : Type 0} → Option A → (A → Option B) → Option B
@@ -111,6 +120,10 @@ most_words = 16777216
 -- the value of an argument that `clap` requires
 unfoldable pub required_of : Text → List Row → Text
 required_of id rows = unwrap_or (first_of id rows) []
+
+-- the values behind the first one of an argument that may have several
+unfoldable pub others_of : Text → List Row → List Text
+others_of id rows = drop 1 (unwrap_or (all_of id rows) [])
 
 -- a number, or the default where it is left out
 unfoldable pub number_or : ℕ → Option Text → Option ℕ
@@ -224,6 +237,16 @@ load_of rows = do
   number ← number_of (required_of (codes "number") rows)
   Some (record { number = number })
 
+unfoldable pub gather_of : List Row → Option GatherAsk
+gather_of rows = do
+  miner ← miner_of (required_of (codes "me") rows)
+  Some (record {
+    miner = miner;
+    first = required_of (codes "share") rows;
+    more = others_of (codes "share") rows;
+    to = required_of (codes "to") rows;
+  })
+
 -- the command of this name, with what `clap` matched behind its name
 unfoldable pub named : Text → List Row → Option Ask
 named name rows =
@@ -237,6 +260,7 @@ named name rows =
     else if bytes_eq name (codes "simulate") then option_map simulate (simulate_of rows)
     else if bytes_eq name (codes "twin") then option_map twin (twin_of rows)
     else if bytes_eq name (codes "load") then option_map load (load_of rows)
+    else if bytes_eq name (codes "gather") then option_map gather (gather_of rows)
     else None
 
 -- this, where nothing refuses the words

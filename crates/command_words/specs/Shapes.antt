@@ -1,5 +1,6 @@
 -- The `clap` command that reads the words, as `clap`'s own definitions see it.
 use Rattle.std.specs.Prelude.{Some, Bool, true, false, codes, fold, List, [], ◌∷◌}
+use Rattle.clap.specs.Lexer.{usize_max}
 use Rattle.clap.specs.Words.{App, Rule, Text, new_app, new_rule, with_rule, with_subcommand}
 
 -- a word at a place of its own, which must be there
@@ -9,6 +10,10 @@ word_rule id = record (new_rule id) { required = true }
 -- `--id VALUE`, which must be there or may be left out
 unfoldable pub option_rule : Bool → Text → Rule
 option_rule required id = record (new_rule id) { long = Some id; required = required }
+
+-- one word or more at a place, of which the first must be there
+unfoldable pub words_rule : Text → Rule
+words_rule id = record (new_rule id) { required = true; range = Some (record { start_inclusive = 1; end_inclusive = usize_max }) }
 
 -- a command with one more option
 abbrev pub with_option : Bool → App → Text → App
@@ -75,6 +80,13 @@ twin_app = view_app (codes "twin") (codes "input" ∷ codes "second" ∷ codes "
 unfoldable pub load_app : App
 load_app = command_app (codes "load") [] (codes "number" ∷ []) []
 
+unfoldable pub gather_required : List Text
+gather_required = codes "me" ∷ codes "to" ∷ []
+
+-- gather --me I --to F SHARE..
+unfoldable pub gather_app : App
+gather_app = with_rule (command_app (codes "gather") [] gather_required []) (words_rule (codes "share"))
+
 -- no command yet: the words begin after the program's name, and `help` is no command
 unfoldable pub bare_app : App
 bare_app = record (new_app (codes "secrec")) { top = record (new_app (codes "secrec")).top { no_binary_name = true; disable_help_subcommand = true } }
@@ -99,6 +111,10 @@ program_app = with_subcommand checking_app compile_app.top
 unfoldable pub viewing_app : App
 viewing_app = with_subcommand (with_subcommand (with_subcommand program_app map_app.top) simulate_app.top) twin_app.top
 
+-- and the one that runs a workload
+unfoldable pub loading_app : App
+loading_app = with_subcommand viewing_app load_app.top
+
 -- all commands
 unfoldable pub secrec_app : App
-secrec_app = with_subcommand viewing_app load_app.top
+secrec_app = with_subcommand loading_app gather_app.top

@@ -7,9 +7,11 @@ use Rattle.hex.proofs.OnLiterals.{hex_on_literals}
 use Rattle.command_words.specs.Ask.{Ask, Source, run, deal, check, compile, eval, need, map_tape, simulate, twin, load, file, seeded, in_turn}
 use Rattle.command_words.specs.Ask.{scheduled, shuffled, words_of, named_in, named, matched}
 use Rattle.command_words.specs.Ask.{run_of, deal_of, check_of, compile_of, eval_of, map_of, simulate_of, twin_of, load_of, source_of, seeded_source}
+use Rattle.command_words.specs.Ask.{gather, gather_of, others_of}
 use Rattle.command_words.specs.Ask.{order_of, number_or, required_of}
 use Rattle.command_words.specs.Numbers.{number_of, miner_of, seed_of}
 use Rattle.proto_core.specs.declared.party.Number.TheVariants.{One, Two, Three}
+use Rattle.command_words.specs.Shapes.{gather_app, gather_required, loading_app, words_rule}
 use Rattle.command_words.specs.Shapes.{secrec_app, viewing_app, program_app, checking_app, clear_app, input_app, run_app, deal_app, check_app}
 use Rattle.command_words.specs.Shapes.{compile_app, evaluation_app, view_app, map_app, simulate_app, twin_app}
 use Rattle.command_words.specs.Shapes.{load_app, command_app, bare_app, run_options, eval_options, map_required, simulate_options, with_options}
@@ -20,7 +22,7 @@ unfoldable pub words_on_literals : ⊤
 unfolding clap_on_literals hex_on_literals secrec_app viewing_app program_app checking_app clear_app input_app run_app deal_app check_app compile_app
     evaluation_app view_app map_app simulate_app twin_app load_app command_app bare_app run_options eval_options map_required simulate_options
     with_options word_rule option_rule words_of named_in named matched run_of deal_of check_of compile_of eval_of map_of simulate_of twin_of load_of
-    source_of seeded_source order_of number_or required_of number_of miner_of seed_of
+    source_of seeded_source order_of number_or required_of number_of miner_of seed_of gather_app gather_required loading_app words_rule gather_of others_of
 words_on_literals = tt
 
 -- run p.sc --input i, and then these words
@@ -288,6 +290,24 @@ load_words = refl
 load_of_large : words_of (codes "load" ∷ codes "--number" ∷ codes "18446744073709551616" ∷ []) ≡ None
 unfolding words_on_literals
 load_of_large = refl
+
+gather_words : words_of (codes "gather" ∷ codes "--me" ∷ codes "2" ∷ codes "a" ∷ codes "b" ∷ codes "--to=f" ∷ codes "c" ∷ [])
+    ≡ Some (gather (record { miner = Two; first = codes "a"; more = codes "b" ∷ codes "c" ∷ []; to = codes "f" }))
+unfolding words_on_literals
+gather_words = refl
+
+gather_of_one : words_of (codes "gather" ∷ codes "--to" ∷ codes "f" ∷ codes "--me=1" ∷ codes "a" ∷ [])
+    ≡ Some (gather (record { miner = One; first = codes "a"; more = []; to = codes "f" }))
+unfolding words_on_literals
+gather_of_one = refl
+
+gather_of_none : words_of (codes "gather" ∷ codes "--to" ∷ codes "f" ∷ codes "--me=1" ∷ []) ≡ None
+unfolding words_on_literals
+gather_of_none = refl
+
+gather_for_nobody : words_of (codes "gather" ∷ codes "--to" ∷ codes "f" ∷ codes "a" ∷ []) ≡ None
+unfolding words_on_literals
+gather_for_nobody = refl
 
 no_words : words_of [] ≡ None
 unfolding words_on_literals

@@ -18,12 +18,13 @@ use Rattle.command_words.specs.declared.command.MapWords.{MapWords}
 use Rattle.command_words.specs.declared.command.SimulateWords.{SimulateWords}
 use Rattle.command_words.specs.declared.command.TwinWords.{TwinWords}
 use Rattle.command_words.specs.declared.command.LoadWords.{LoadWords}
+use Rattle.command_words.specs.declared.command.GatherWords.{GatherWords}
 use Rattle.command_words.specs.declared.command.Command.{Command}
 use Rattle.command_words.specs.declared.command.Command.TheVariants as commands
 use Rattle.command_words.specs.declared.command.WordsErr.{WordsErr}
 use Rattle.command_words.specs.declared.command.WordsErr.TheVariants.{Usage, Memory}
 use Rattle.command_words.specs.Ask.{Ask, CheckAsk, CompileAsk, DealAsk, EvalAsk, Order, RunAsk, Source, check, compile, deal, eval, file, in_turn, need, run}
-use Rattle.command_words.specs.Ask.{LoadAsk, MapAsk, SimulateAsk, TwinAsk, load, map_tape, scheduled, seeded, shuffled, simulate, twin}
+use Rattle.command_words.specs.Ask.{GatherAsk, gather, LoadAsk, MapAsk, SimulateAsk, TwinAsk, load, map_tape, scheduled, seeded, shuffled, simulate, twin}
 
 abbrev pub source_ask : TapeSource → Source
 source_ask (sources.File path) = file (string_bytes path)
@@ -95,6 +96,14 @@ twin_ask w = record {
 abbrev pub load_ask : LoadWords → LoadAsk
 load_ask w = record { number = w.number }
 
+abbrev pub gather_ask : GatherWords → GatherAsk
+gather_ask w = record {
+  miner = w.miner;
+  first = string_bytes w.first;
+  more = map string_bytes w.more.items;
+  to = string_bytes w.to;
+}
+
 abbrev pub ask_of : Command → Ask
 ask_of (commands.Run w) = run (run_ask w)
 ask_of (commands.Deal w) = deal (deal_ask w)
@@ -106,6 +115,7 @@ ask_of (commands.Map w) = map_tape (map_ask w)
 ask_of (commands.Simulate w) = simulate (simulate_ask w)
 ask_of (commands.Twin w) = twin (twin_ask w)
 ask_of (commands.Load w) = load (load_ask w)
+ask_of (commands.Gather w) = gather (gather_ask w)
 
 -- the answer, seen by `view`, is the value that is wanted; Usage says that there is none, and Memory says nothing
 abbrev pub Reads : {X Y : Type 0} → (X → Y) → Option Y → Result X WordsErr → Type 0

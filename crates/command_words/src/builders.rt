@@ -1,5 +1,6 @@
 //! The `clap` command that reads the words.
 ghost use Rattle.std.specs.Prelude.{◌≡◌, IfOk, map};
+ghost use Rattle.command_words.specs.Shapes.{gather_app, gather_required, loading_app, words_rule};
 ghost use Rattle.command_words.specs.Shapes.{word_rule, option_rule, run_options, run_app, deal_app, check_app, compile_app, eval_options};
 ghost use Rattle.command_words.specs.Shapes.{evaluation_app, view_app, map_required, map_app, simulate_options, simulate_app, twin_app, load_app};
 ghost use Rattle.command_words.specs.Shapes.{with_options, bare_app, input_app, clear_app, checking_app, program_app, viewing_app, secrec_app};
@@ -26,6 +27,25 @@ fn with_word<'a>(
     ensures { (a : App) → IfOk command.entry (Builds a) → IfOk result (Builds (with_rule a (word_rule id.entry.now))) }
 {
     command?.arg(word(alloc, id))
+}
+
+// One word or more at a place; the first must be there.
+#[tactic(auto, unfolding(crate::specs::Shapes::words_rule))]
+fn words<'a>(alloc: Global, id: &'a str) -> Arg<'a>
+    ensures { IsLocal (words_rule id.entry.now) result }
+{
+    Arg::new(alloc, id).required(true).num_args(1..)
+}
+
+// The command with a list of words more.
+fn with_words<'a>(
+    alloc: Global,
+    command: Result<Command<'a>, AllocError>,
+    id: &'a str,
+) -> Result<Command<'a>, AllocError>
+    ensures { (a : App) → IfOk command.entry (Builds a) → IfOk result (Builds (with_rule a (words_rule id.entry.now))) }
+{
+    command?.arg(words(alloc, id))
 }
 
 // `--id VALUE`.
@@ -202,6 +222,28 @@ fn load_command<'a>(alloc: Global) -> Result<Command<'a>, AllocError>
     )
 }
 
+static GATHER_REQUIRED: [&str; 2] = ["me", "to"];
+
+// The options of `gather`.
+#[tactic(auto, unfolding(crate::specs::Shapes::gather_required))]
+fn gather_required() -> &'static [&'static str]
+    ensures { map (λ s. s.now) result.now ≡ gather_required }
+{
+    GATHER_REQUIRED.as_slice()
+}
+
+fn gather_command<'a>(alloc: Global) -> Result<Command<'a>, AllocError>
+    ensures { IfOk result (λ c. Builds gather_app c) }
+{
+    let command = with_options(
+        alloc,
+        Ok(Command::new(alloc, "gather")),
+        true,
+        gather_required(),
+    );
+    with_words(alloc, command, "share")
+}
+
 // The command with one more command behind it; without memory for either there is none.
 fn with_command<'a>(
     command: Result<Command<'a>, AllocError>,
@@ -263,9 +305,16 @@ fn viewing_commands<'a>(alloc: Global) -> Result<Command<'a>, AllocError>
     with_command(simulated, twin_command(alloc))
 }
 
+// Those, and the one that runs a workload.
+fn loading_commands<'a>(alloc: Global) -> Result<Command<'a>, AllocError>
+    ensures { IfOk result (λ c. Builds loading_app c) }
+{
+    with_command(viewing_commands(alloc), load_command(alloc))
+}
+
 /// The whole command.
 pub(crate) fn secrec_command<'a>(alloc: Global) -> Result<Command<'a>, AllocError>
     ensures { IfOk result (λ c. Builds secrec_app c) }
 {
-    with_command(viewing_commands(alloc), load_command(alloc))
+    with_command(loading_commands(alloc), gather_command(alloc))
 }

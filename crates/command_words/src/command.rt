@@ -145,6 +145,16 @@ pub struct LoadWords {
     pub number: u64,
 }
 
+/// The words of `gather`: the miner, the paths of the share files that owners dealt it, of which there is at least one, and the path to which
+/// the share file of all is written.
+#[derive(Drop)]
+pub struct GatherWords {
+    pub miner: Number,
+    pub first: String,
+    pub more: Vec<String>,
+    pub to: String,
+}
+
 /// A command, with its words.
 pub enum Command {
     Check(CheckWords),
@@ -157,6 +167,7 @@ pub enum Command {
     Simulate(SimulateWords),
     Twin(TwinWords),
     Load(LoadWords),
+    Gather(GatherWords),
 }
 
 // Written out, so that an early exit calls this once.
@@ -172,7 +183,8 @@ impl Drop for Command {
             | Command::Map(_)
             | Command::Simulate(_)
             | Command::Twin(_)
-            | Command::Load(_) => {}
+            | Command::Load(_)
+            | Command::Gather(_) => {}
         }
     }
 }

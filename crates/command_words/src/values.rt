@@ -1,15 +1,16 @@
 //! What a command's words give, once `clap` has matched them.
-ghost use Rattle.std.specs.Prelude.{◌≡◌, option_map, IfOk, string_bytes, codes};
+ghost use Rattle.std.specs.Prelude.{◌≡◌, drop, map, option_map, IfOk, string_bytes, codes};
 ghost use Rattle.clap.specs.Words.{found_of, first_of, rows_of};
 ghost use Rattle.command_words.specs.Ask.{required_of, default_budget, number_or, seeded_source, source_of, order_of, run_of, deal_of, check_of};
+ghost use Rattle.command_words.specs.Ask.{gather, gather_of, others_of};
 ghost use Rattle.command_words.specs.Ask.{compile_of, eval_of, map_of, simulate_of, twin_of, load_of, named};
 ghost use Rattle.command_words.specs.Ask.{run, deal, check, compile, eval, need, map_tape, simulate, twin, load};
 ghost use Rattle.command_words.specs.Numbers.{miner_of};
 ghost use Rattle.command_words.specs.Views.{Reads, text_in, source_ask, order_ask, eval_ask, ask_of};
 
 use crate::command::{
-    CheckWords, Command, CompileWords, DealWords, DeliveryOrder, EvalWords, LoadWords, MapWords,
-    RunWords, SimulateWords, TapeSource, TwinWords, WordsErr,
+    CheckWords, Command, CompileWords, DealWords, DeliveryOrder, EvalWords, GatherWords, LoadWords,
+    MapWords, RunWords, SimulateWords, TapeSource, TwinWords, WordsErr,
 };
 use crate::numbers::{miner, number, seed};
 use crate::tape_seed::TapeSeed;
@@ -28,6 +29,35 @@ fn value<'a>(matches: &ArgMatches<'a>, id: &str) -> Option<&'a str>
     ensures { text_in result ≡ first_of id.now (rows_of (found_of matches.now)) }
 {
     matches.get_str(id)
+}
+
+// Texts in memory of their own.
+fn own_texts(alloc: Global, texts: &[&str]) -> Result<Vec<String>, AllocError>
+    ensures { IfOk result (λ own. map string_bytes own.items ≡ map (λ s. s.now) texts.now) }
+{
+    let mut own = Vec::with_capacity(alloc, texts.len())?;
+    for text in texts {
+        own.push(String::from_str(alloc, text)?)?;
+    }
+    Ok(own)
+}
+
+// The texts behind the first one.
+#[tactic(auto, using(crate::proofs::Others::rest_taken))]
+fn after_first<'s, 'a>(texts: &'s [&'a str]) -> &'s [&'a str]
+    ensures { result.now ≡ drop 1 texts.now }
+{
+    if texts.is_empty() { texts } else { &texts[1..] }
+}
+
+// The values of `id` behind the first one.
+fn others(alloc: Global, matches: &ArgMatches, id: &str) -> Result<Vec<String>, AllocError>
+    ensures { IfOk result (λ own. map string_bytes own.items ≡ others_of id.now (rows_of (found_of matches.now))) }
+{
+    match matches.get_strs(id) {
+        None => Ok(Vec::new(alloc)),
+        Some(all) => own_texts(alloc, after_first(all)),
+    }
 }
 
 // The value of `id`, which `clap` requires.
@@ -335,6 +365,25 @@ fn read_load(matches: &ArgMatches) -> Result<Command, WordsErr>
     }
 }
 
+// `gather`, with its words.
+#[tactic(auto, unfolding(crate::specs::Ask::gather_of, crate::specs::Ask::required_of))]
+fn read_gather(alloc: Global, matches: &ArgMatches) -> Result<Command, WordsErr>
+    ensures { Reads ask_of (option_map gather (gather_of (rows_of (found_of matches.now)))) result }
+{
+    let Some(miner) = miner(value(matches, "me").unwrap_or("")) else {
+        return Err(WordsErr::Usage);
+    };
+    let to = required(alloc, matches, "to")?;
+    let first = required(alloc, matches, "share")?;
+    let more = others(alloc, matches, "share")?;
+    Ok(Command::Gather(GatherWords {
+        miner,
+        first,
+        more,
+        to,
+    }))
+}
+
 /// The command of this name, with what `clap` matched behind its name.
 #[tactic(auto, unfolding(crate::specs::Ask::named))]
 pub(crate) fn named(alloc: Global, name: &str, matches: &ArgMatches) -> Result<Command, WordsErr>
@@ -369,6 +418,9 @@ pub(crate) fn named(alloc: Global, name: &str, matches: &ArgMatches) -> Result<C
     }
     if name == "load" {
         return read_load(matches);
+    }
+    if name == "gather" {
+        return read_gather(alloc, matches);
     }
     Err(WordsErr::Usage)
 }

@@ -23,7 +23,10 @@ use Rattle.program_commands.specs.Judging.{JudgedAt}
 use Rattle.program_commands.specs.Programs.{accepted, bad_program, tree_at}
 use Rattle.schedule_file.specs.Reading.{links_of}
 use Rattle.program_commands.specs.Reading.{bad_input, bad_opened, bad_schedule, bad_tape, delivery_at, inputs_at, opened_at, public_at, read_or}
-use Rattle.program_commands.specs.Reading.{schedule_file_at, tape_file_at, tapes_at}
+use Rattle.program_commands.specs.Reading.{schedule_file_at, share_at, tape_file_at, tapes_at}
+use Rattle.input_share.specs.Reading.{read_share_of}
+use Rattle.proto_core.specs.Parties.{count_of as number_of}
+use Rattle.proto_core.specs.declared.party.Number.{Number}
 use Rattle.program_commands.specs.Held.{HoldsProgram, HoldsBadProgram}
 
 -- of two steps the first is refused, or both are done
@@ -179,6 +182,11 @@ inputs_refused files path c is = read_refused files path bad_input inputs_read_o
 pub public_refused : (files : Contents) (path : List ℕ) (c : Cause) → public_at files path ≡ Err c → ReadRefused files path bad_input read_public_of c
 unfolding public_at
 public_refused files path c is = read_refused files path bad_input read_public_of c is
+
+pub share_refused : (files : Contents) (miner : Number) (path : List ℕ) (c : Cause) → share_at files miner path ≡ Err c
+    → ReadRefused files path bad_input (read_share_of (number_of miner)) c
+unfolding share_at
+share_refused files miner path c is = read_refused files path bad_input (read_share_of (number_of miner)) c is
 
 pub opened_refused : (files : Contents) (path : List ℕ) (c : Cause) → opened_at files path ≡ Err c → ReadRefused files path bad_opened opened_of c
 unfolding opened_at

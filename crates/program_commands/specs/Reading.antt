@@ -4,7 +4,11 @@ use Rattle.outside.specs.Files.{Contents}
 use Rattle.command_frame.specs.declared.status.Status.TheVariants.{Input, Schedule, TapeFile}
 use Rattle.command_frame.specs.Answer.{Cause, ◌>>=◌, bytes_at}
 use Rattle.command_words.specs.Ask.{Order, Source, file, in_turn, scheduled, seeded, shuffled}
+use Rattle.input_share.specs.Reading.{read_share_of}
+use Rattle.input_share.specs.ShareFile.{MinerFile}
+use Rattle.proto_core.specs.Parties.{count_of as number_of}
 use Rattle.proto_core.specs.declared.link.Link.{Link}
+use Rattle.proto_core.specs.declared.party.Number.{Number}
 use Rattle.protocol_model.specs.Network.{Delivery, Default, Listed, Shuffled}
 use Rattle.schedule_file.specs.Reading.{links_of}
 use Rattle.sc_text.specs.declared.fault.Fault.{Fault}
@@ -79,6 +83,10 @@ inputs_at files path = bytes_at files path >>= λ bytes. read_or bad_input (inpu
 -- the public part of inputs is refused as inputs are
 unfoldable pub public_at : Contents → List ℕ → Result (List PublicEntry) Cause
 public_at files path = bytes_at files path >>= λ bytes. read_or bad_input (read_public_of bytes)
+
+-- the share file of a miner, whose number it tells, is refused as inputs are
+unfoldable pub share_at : Contents → Number → List ℕ → Result MinerFile Cause
+share_at files miner path = bytes_at files path >>= λ bytes. read_or bad_input (read_share_of (number_of miner) bytes)
 
 -- the refusal of a file of opened values, by the number of its first wrong line
 unfoldable pub bad_opened : ℕ → Cause

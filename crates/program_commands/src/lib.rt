@@ -22,5 +22,7 @@ pub use ends::ending_status;
 pub use eval::{plan_eval, plan_need};
 pub use orders::read_delivery;
 pub use programs::{read_typed, typed_of_text};
-pub use readers::{read_inputs, read_opened_file, read_public_file, read_tape_file, read_tapes};
+pub use readers::{
+    read_inputs, read_opened_file, read_public_file, read_share_file, read_tape_file, read_tapes,
+};
 pub use writes::add_write;

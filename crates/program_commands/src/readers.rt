@@ -7,16 +7,18 @@ ghost use Rattle.command_words.specs.Views.{source_ask};
 ghost use Rattle.sc_text.specs.Fault.{fault_line};
 ghost use Rattle.command_frame.specs.declared.status.Status.TheVariants.{Input};
 ghost use Rattle.sc_text.specs.declared.fault.Fault.TheVariants.{Input as InputFile};
+ghost use Rattle.input_share.specs.Reading.{AreWritable};
 ghost use Rattle.value_file.specs.Input.{AreInputs};
 ghost use Rattle.value_file.specs.PublicFile.{IsWritable};
 ghost use Rattle.value_file.specs.declared.read_err.ReadErr.{ReadErr};
 ghost use Rattle.program_commands.specs.Reading.{bad_input, bad_opened, bad_tape, bad_schedule, field_fault, top_fault};
-ghost use Rattle.program_commands.specs.Reading.{entry_field, inputs_at, opened_at, public_at, source_paths, tape_file_at, tapes_at, schedule_file_at};
+ghost use Rattle.program_commands.specs.Reading.{entry_field, inputs_at, opened_at, public_at, share_at, source_paths, tape_file_at, tapes_at, schedule_file_at};
 
 use command_frame::{Status, Stop, read_file, refused};
 use command_words::TapeSource;
+use input_share::{ShareFile, read_share};
 use outside::Files;
-use proto_core::Link;
+use proto_core::{Link, Number};
 use sc_text::{EntryField, Fault, InputFault};
 use std::alloc::Global;
 use tape_file::{Tapes, from_seed};
@@ -122,6 +124,27 @@ pub fn read_public_file<F: Files>(
     let bytes = read_file(alloc, files, path)?;
     match value_file::read_public(alloc, &bytes) {
         Ok(part) => Ok(part),
+        Err(error) => Err(read_stop(alloc, error)),
+    }
+}
+
+/// The share file of this miner at this path.
+#[tactic(auto, unfolding(crate::specs::Reading::share_at, crate::specs::Reading::bad_input))]
+pub fn read_share_file<F: Files>(
+    alloc: Global,
+    files: &mut F,
+    miner: Number,
+    path: &str,
+) -> Result<ShareFile, Stop>
+    ensures files { OnlyRead (F.state files.old) (F.state files.new) }
+    ensures answer { Gives (λ share. share) (F.state files.old) (F.state files.new) result
+        (share_at (F.state files.old).contents miner path.now) }
+    ensures form { IfOk result (λ share. AreWritable share.entries) }
+    ensures names { IfErr result (StopNames (path.now ∷ [])) }
+{
+    let bytes = read_file(alloc, files, path)?;
+    match read_share(alloc, &bytes, miner.as_u8()) {
+        Ok(share) => Ok(share),
         Err(error) => Err(read_stop(alloc, error)),
     }
 }

@@ -1,6 +1,6 @@
 // A call of the program over objects in memory.
 use outside::{MemFiles, MemLinks, MemSink, MemSpawner};
-use row_files::{Kind, Object, Outcome, Row, SlowSink, peer_of};
+use row_files::{Kind, Object, Outcome, Row, SlowLinks, SlowSink, peer_of};
 use run_engine::secrec;
 use std::alloc::{AllocError, Global};
 
@@ -25,8 +25,9 @@ fn place(
 pub fn call(alloc: Global, row: &Row) -> Result<Outcome, AllocError> {
     let most = if row.slow { 1 } else { 7 };
     let mut files = MemFiles::new(alloc, row.fails(alloc, Object::Files)?);
-    let mut links = MemLinks::new(alloc, row.fails(alloc, Object::Links)?);
-    place(alloc, row, &mut files, &mut links)?;
+    let mut held = MemLinks::new(alloc, row.fails(alloc, Object::Links)?);
+    place(alloc, row, &mut files, &mut held)?;
+    let mut links = SlowLinks { links: held, most };
     let statuses = row.children.to_vec(alloc)?;
     let mut children = MemSpawner::new(alloc, statuses, row.fails(alloc, Object::Children)?);
     let mut out = SlowSink {
@@ -51,7 +52,7 @@ pub fn call(alloc: Global, row: &Row) -> Result<Outcome, AllocError> {
         files,
         out: out.sink,
         err: err.sink,
-        links,
+        links: links.links,
         children,
     })
 }

@@ -1,5 +1,6 @@
 mod Deals
 pub mod Evals
+pub mod Gathers
 pub mod Headline
 pub mod MapRefusals
 pub mod Loads

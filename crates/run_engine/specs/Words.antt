@@ -2,12 +2,13 @@
 use Rattle.std.specs.Prelude.{◌≡◌, ℕ, List, [], Bool, false, Err}
 use Rattle.std.specs.Option.{option_map_or}
 use Rattle.command_frame.specs.Answer.{Answer, usage}
-use Rattle.command_words.specs.Ask.{Ask, run, deal, check, compile, eval, need, map_tape, simulate, twin, words_of, load}
+use Rattle.command_words.specs.Ask.{Ask, run, deal, check, compile, eval, need, map_tape, simulate, twin, words_of, load, gather}
 use Rattle.program_commands.specs.Check.{check_of, check_paths}
 use Rattle.program_commands.specs.Compile.{compile_of, compile_paths, compiled_paths}
 use Rattle.program_commands.specs.Deal.{deal_of, deal_paths, written_paths}
 use Rattle.program_commands.specs.Eval.{eval_of, needs_of, eval_paths}
 use Rattle.program_commands.specs.Judging.{Finding, FoundAt, Question, nothing, its_program}
+use Rattle.gather_command.specs.Gather.{gather_of, gather_paths, gathered_paths}
 use Rattle.run_engine.specs.Told.{Outside, Told, told_of}
 use Rattle.tape_commands.specs.Map.{map_of, map_paths, mapped_paths}
 use Rattle.miner_commands.specs.Load.{load_of}
@@ -27,6 +28,7 @@ answer_to (map_tape ask) told = map_of told.found ask told.outside.files
 answer_to (simulate ask) told = simulate_of told.found ask told.outside.files
 answer_to (twin ask) told = twin_of told.found ask told.outside.files
 answer_to (load ask) told = load_of ask
+answer_to (gather ask) told = gather_of ask told.outside.files
 
 -- what it asks of a program; what that of a workload is doesn't hang on any file
 unfoldable pub question_of : Ask → Question
@@ -40,6 +42,7 @@ question_of (map_tape ask) = its_program ask.program
 question_of (simulate ask) = its_program ask.program
 question_of (twin ask) = its_program ask.program
 question_of (load ask) = nothing
+question_of (gather ask) = nothing
 
 -- the paths that a command reads
 unfoldable pub reads_of : Ask → List (List ℕ)
@@ -53,6 +56,7 @@ reads_of (map_tape ask) = map_paths ask
 reads_of (simulate ask) = simulate_paths ask
 reads_of (twin ask) = twin_paths ask
 reads_of (load ask) = []
+reads_of (gather ask) = gather_paths ask
 
 -- the paths that it writes
 unfoldable pub writes_of : Ask → List (List ℕ)
@@ -66,6 +70,7 @@ writes_of (map_tape ask) = mapped_paths ask
 writes_of (simulate ask) = simulated_paths ask.view
 writes_of (twin ask) = twinned_paths ask.to
 writes_of (load ask) = []
+writes_of (gather ask) = gathered_paths ask.to
 
 -- whether it reaches other miners, and whether it starts other programs: none does
 abbrev pub uses_links : Ask → Bool

@@ -10,7 +10,7 @@ ghost use Rattle.command_frame.specs.Stops.{memory_line};
 ghost use Rattle.command_frame.specs.Whole.{CarriedOut, FileTold, HasFailed, IsAnswered, IsCut, IsMissed, OnlyWritten, OutFaulted};
 ghost use Rattle.command_frame.specs.declared.status.Status.{Status};
 ghost use Rattle.command_words.specs.Ask.{CheckAsk, CompileAsk, EvalAsk, RunAsk, DealAsk, MapAsk, SimulateAsk, TwinAsk, check, compile, eval, need};
-ghost use Rattle.command_words.specs.Ask.{run, deal, map_tape, simulate, twin, words_of, LoadAsk, load};
+ghost use Rattle.command_words.specs.Ask.{run, deal, map_tape, simulate, twin, words_of, GatherAsk, LoadAsk, gather, load};
 ghost use Rattle.command_words.specs.Views.{ask_of, texts};
 ghost use Rattle.tape_file.specs.Tapes.{FourTapes};
 ghost use Rattle.typed_tree.specs.Programs.{TypedProgramTree};
@@ -33,6 +33,8 @@ ghost use Rattle.run_engine.specs.MapPromises.{HoldsMap, MapEffect, MapRefused};
 ghost use Rattle.run_engine.specs.Obeying.{Acted, Obeyed, Planned};
 ghost use Rattle.run_engine.specs.Promises.{AllSteady, CheckEffect, CompileEffect, DealEffect, EvalEffect, RunEffect, Keeps, is_done, LoadEffect};
 ghost use Rattle.program_commands.specs.Held.{DealRefused, EvalRefused, ProgramRefused, HoldsTyped};
+ghost use Rattle.gather_command.specs.Held.{GatherEffect, GatherRefused, HoldsDealt, WritesOneDealing};
+ghost use Rattle.gathered_shares.specs.Owners.{Lengths, Owner};
 ghost use Rattle.run_engine.specs.Runs.{IsNotTaken, RunRefused};
 ghost use Rattle.run_engine.specs.SimulatePromises.{HoldsOfRun, IsOfRun, SimulateEffect, SimulateRefused};
 ghost use Rattle.run_engine.specs.TwinPromises.{AreTaken, HoldsTwin, TwinEffect, TwinRefused};
@@ -42,6 +44,7 @@ ghost use Rattle.run_engine.specs.Words.{read_by, written_by, reach_miners, star
 
 use command_frame::{Plan, Status, Stop, ended_status, finish_plan, say};
 use command_words::{Command, WordsErr, read};
+use gather_command::plan_gather;
 use miner_commands::{plan_load, plan_run};
 use outside::{Files, Links, Sink, Spawner};
 use program_commands::{plan_check, plan_compile, plan_deal, plan_eval, plan_need};
@@ -64,6 +67,7 @@ fn plan<F: Files>(alloc: Global, files: &mut F, command: &Command) -> Result<Pla
         Command::Simulate(words) => plan_simulate(alloc, files, words),
         Command::Twin(words) => plan_twin(alloc, files, words),
         Command::Load(words) => plan_load(alloc, words),
+        Command::Gather(words) => plan_gather(alloc, files, words),
     }
 }
 
@@ -264,6 +268,18 @@ pub fn secrec<F: Files, O: Sink, E: Sink, L: Links, C: Spawner>(
     ensures deals { (ask : DealAsk) → words_of (texts words.now) ≡ Some (deal ask) → (F.state files.old).told ≡ true →
         Keeps (DealEffect ask (F.state files.old).contents) (DealRefused ask (F.state files.old).contents) is_done
         (F.state files.old) (F.state files.new) (O.state out.old) (O.state out.new) result }
+
+    // `gather` writes a miner's share files of several owners as one: their entries end to end, and the lengths of their tapes as those of
+    // one dealing. Files of which two inputs have one name, or whose lengths don't go together, are a refusal of it.
+    ensures gathers { (ask : GatherAsk) → words_of (texts words.now) ≡ Some (gather ask) → (F.state files.old).told ≡ true →
+        Keeps (GatherEffect ask (F.state files.old).contents) (GatherRefused ask (F.state files.old).contents) is_done
+        (F.state files.old) (F.state files.new) (O.state out.old) (O.state out.new) result }
+
+    // Where the files hold what owners dealt the miner, each its own inputs from a dealer's tape of its own, that file is what one dealer
+    // deals it of all their inputs, from one tape: the words that the owners use, in order, and then those that they leave.
+    ensures gathered_is_one_dealing { (ask : GatherAsk) (miners : Lengths) (owner : Owner) (owners : List Owner) →
+        words_of (texts words.now) ≡ Some (gather ask) → HoldsDealt ask (F.state files.old).contents miners owner owners →
+        WritesOneDealing ask (F.state files.old).contents miners owner owners }
 
     // `map` writes the tapes that the miner's view of the run is made of, the public part of the inputs, and what is opened, however
     // the run ends.

@@ -66,6 +66,12 @@ returns-in-Deal g c =
     rw c.in-Deal.is (planned _ _ _ _ c.plan_deal.ensures.files c.plan_deal.ensures.anyhow (λ coming status found at. c.plan_deal.ensures.answer)
     (λ t tells. found_nothing (g.F.Files.state c.args.files.now).contents) c.plan_deal.ensures.names)
 
+pub returns-in-Gather : goal.returns-in-Gather
+unfolding answer_to question_of reads_of writes_of
+returns-in-Gather g c =
+    rw c.in-Gather.is (planned _ _ _ _ c.plan_gather.ensures.files c.plan_gather.ensures.anyhow (λ coming status found at. c.plan_gather.ensures.answer)
+    (λ t tells. found_nothing (g.F.Files.state c.args.files.now).contents) c.plan_gather.ensures.names)
+
 pub returns-in-Load : goal.returns-in-Load
 returns-in-Load g c =
     rw c.in-Load.is (load_planned _ (g.F.Files.state c.args.files.now) _ c.plan_load.ensures.effect c.plan_load.ensures.memory c.plan_load.ensures.names)

@@ -9,6 +9,8 @@ use Rattle.run_engine.proofs.Promises.{check_keeps, compile_keeps, deal_keeps, e
 use Rattle.run_engine.proofs.Runs.{has_answer, no_command}
 use Rattle.run_engine.proofs.Tops.{over, printed_so, stops_told, telling}
 use Rattle.run_engine.proofs.ViewLaws.{maps_correspond, simulated_so, twins_see_it}
+use Rattle.run_engine.proofs.Gathers.{gather_keeps}
+use Rattle.gather_command.proofs.Refusals.{writes_one_dealing}
 use Rattle.run_engine.proofs.ViewPromises.{map_keeps, simulate_keeps, twin_keeps}
 use Rattle.run_engine.proofs.top.secrec.Goals as goal
 
@@ -159,6 +161,14 @@ pub returns-clause-deals : goal.returns-clause-deals
 returns-clause-deals g c = λ ask asks t.
     deal_keeps _ _ _ _ _ _ _ _ _ _ (returns-clause-answered g c t) (λ answer a. returns-clause-answer_carried_out g c answer a t)
     (λ answer a steady. returns-clause-complete g c answer a steady t) ask asks
+
+pub returns-clause-gathers : goal.returns-clause-gathers
+returns-clause-gathers g c = λ ask asks t.
+    gather_keeps _ _ _ _ _ _ _ _ _ _ (returns-clause-answered g c t) (λ answer a. returns-clause-answer_carried_out g c answer a t)
+    (λ answer a steady. returns-clause-complete g c answer a steady t) ask asks
+
+pub returns-clause-gathered_is_one_dealing : goal.returns-clause-gathered_is_one_dealing
+returns-clause-gathered_is_one_dealing g c = λ ask miners owner owners asks holds. writes_one_dealing ask _ miners owner owners holds
 
 pub returns-clause-maps : goal.returns-clause-maps
 returns-clause-maps g c = λ ask asks t.
