@@ -1,0 +1,12 @@
+import stdlib;
+import shared3p;
+domain clinic shared3p;
+
+// The mean wait of the urgent patients.
+void main() {
+    clinic uint64[[1]] wait = argument("wait");
+    clinic bool[[1]] urgent = argument("urgent");
+
+    uint64 count = declassify(sum((uint64) urgent));
+    publish("mean", declassify(sum((uint64) urgent * wait)) / count);
+}

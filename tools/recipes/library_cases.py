@@ -1,0 +1,209 @@
+"""What each program of examples/library is asked for and must tell: inputs for n people, and the results by Python's own means."""
+from __future__ import annotations
+
+import random
+import statistics
+from collections.abc import Callable
+from dataclasses import dataclass
+from fractions import Fraction
+from math import ceil, floor
+
+WORDS = 1 << 64
+Value = int | bool | list[int] | list[bool]
+Told = list[tuple[str, Value]]
+
+
+@dataclass(frozen=True)
+class Entry:
+    """One entry of an input file."""
+
+    name: str
+    private: bool
+    value: Value
+
+    def as_json(self) -> dict[str, object]:
+        first = self.value[0] if isinstance(self.value, list) and self.value else self.value
+        kind = "bool" if isinstance(first, bool) else "uint64"
+        return {"name": self.name, "domain": "private" if self.private else "public", "type": kind, "value": self.value}
+
+
+class Given:
+    """The inputs of a case, by name."""
+
+    def __init__(self, entries: list[Entry]):
+        self.entries = entries
+        for entry in entries:
+            setattr(self, entry.name, entry.value)
+
+
+def private(name: str, value: Value) -> Entry:
+    return Entry(name, True, value)
+
+
+def public(name: str, value: Value) -> Entry:
+    return Entry(name, False, value)
+
+
+def pay(chance: random.Random, n: int) -> Entry:
+    """With some that are equal."""
+    return private("pay", [chance.randrange(900, 900 + 3 * n + 5) for _ in range(n)])
+
+
+def signed(number: int) -> int:
+    """A word for a number with a sign."""
+    return number % WORDS
+
+
+def number_of(word: int) -> int:
+    return word - WORDS if word >= WORDS // 2 else word
+
+
+def sign_lines(number: int) -> Told:
+    return [("below_zero", number < 0), ("amount", abs(number))]
+
+
+def cut(number: Fraction) -> int:
+    """Cut off towards zero."""
+    return floor(number) if number >= 0 else ceil(number)
+
+
+def ranks(numbers: list[int]) -> list[int]:
+    order = sorted(range(len(numbers)), key=lambda place: (numbers[place], place))
+    found = [0] * len(numbers)
+    for rank, place in enumerate(order):
+        found[place] = rank
+    return found
+
+
+@dataclass(frozen=True)
+class Recipe:
+    """Made inputs for n people, and what is published of them."""
+
+    inputs: Callable[[random.Random, int], list[Entry]]
+    told: Callable[[Given], Told]
+
+
+def slice_told(given: Given) -> Told:
+    numbers = given.pay
+    return [("slice", numbers[given.__dict__["from"]:given.to]), ("reversed", numbers[::-1]), ("every_second", numbers[::2])]
+
+
+def choose_inputs(chance: random.Random, n: int) -> list[Entry]:
+    return [
+        pay(chance, n), private("raised", [chance.randrange(5000) for _ in range(n)]),
+        private("agreed", [chance.random() < 0.5 for _ in range(n)]), private("place", chance.randrange(n)),
+    ]
+
+
+def choose_told(given: Given) -> Told:
+    each = [new if yes else old for yes, new, old in zip(given.agreed, given.raised, given.pay, strict=True)]
+    stored = list(given.pay)
+    stored[given.place] = 1
+    return [("first", each[0]), ("each", each), ("element", given.pay[given.place]), ("stored", stored)]
+
+
+def histogram_told(given: Given) -> Told:
+    bounds = [0, *given.edges, WORDS]
+    between = [sum(low <= one < high for one in given.pay) for low, high in zip(bounds, bounds[1:])]
+    return [("regions", [given.region.count(code) for code in range(given.regions)]), ("pay", between)]
+
+
+def join_inputs(chance: random.Random, n: int) -> list[Entry]:
+    people = chance.sample(range(100, 100 + 2 * n), n)
+    others = chance.sample(range(100, 100 + 2 * n), n)
+    return [private("employed", people), private("insured", others), pay(chance, n)]
+
+
+def join_told(given: Given) -> Told:
+    table = dict(zip(given.employed, given.pay, strict=True))
+    found = [table[key] for key in given.insured if key in table]
+    return [("in_both", len(found)), ("pay_of_insured", sum(found))]
+
+
+def region_inputs(chance: random.Random, n: int) -> list[Entry]:
+    return [private("region", [chance.randrange(4) for _ in range(n - 1)] + [2]), pay(chance, n)]
+
+
+def mean_told(given: Given) -> Told:
+    there = [one for one, place in zip(given.pay, given.region, strict=True) if place == given.wanted]
+    told: Told = [("mean", floor(statistics.mean(map(Fraction, given.pay)))), ("enough", len(there) >= given.fewest)]
+    return told + [("mean_there", floor(statistics.mean(map(Fraction, there))))] * (len(there) >= given.fewest)
+
+
+def variance_told(given: Given) -> Told:
+    exact = [Fraction(one) for one in given.pay]
+    return [("mean", floor(statistics.mean(exact))), ("variance", floor(statistics.pvariance(exact)))]
+
+
+def top_told(given: Given) -> Told:
+    return [("top", sorted([0] * given.k + given.pay)[-given.k:])]
+
+
+def quantiles_told(given: Given) -> Told:
+    order = sorted(given.pay)
+    return [("quantile", order[ceil(Fraction(len(order) * percent, 100)) - 1]) for percent in given.percents]
+
+
+def signs_inputs(chance: random.Random, n: int) -> list[Entry]:
+    change = [signed(chance.randrange(-40_000, 40_000)) for _ in range(n)]
+    return [private("change", change), private("weight", [chance.randrange(3_000) for _ in range(n)]), public("bound", 15_000)]
+
+
+def signs_told(given: Given) -> Told:
+    change = [number_of(word) for word in given.change]
+    total = sum(one * weight for one, weight in zip(change, given.weight, strict=True))
+    return [
+        ("below_zero", [one < 0 for one in change]), ("far", sum(abs(one) > given.bound for one in change)),
+        ("less", [one < weight for one, weight in zip(change, given.weight, strict=True)]),
+        *sign_lines(cut(Fraction(sum(change), len(change)))), *sign_lines(cut(Fraction(total, 1000))),
+    ]
+
+
+def empty_told(given: Given) -> Told:
+    there = [one for one, place in zip(given.pay, given.region, strict=True) if place == given.wanted]
+    return [("count", len(there)), ("mean", floor(statistics.mean(map(Fraction, there))))]
+
+
+RECIPES = {
+    "slice": Recipe(lambda chance, n: [pay(chance, n), public("from", n // 4), public("to", n // 2)], slice_told),
+    "greatest": Recipe(lambda chance, n: [pay(chance, n)], lambda given: [("greatest", max(given.pay)), ("least", min(given.pay))]),
+    "sort": Recipe(lambda chance, n: [pay(chance, n)], lambda given: [("sorted", sorted(given.pay))]),
+    "sort_any": Recipe(lambda chance, n: [pay(chance, n)], lambda given: [("sorted", sorted(given.pay))]),
+    "rank": Recipe(lambda chance, n: [pay(chance, n)], lambda given: [("ranks", ranks(given.pay))]),
+    "median": Recipe(
+        lambda chance, n: [pay(chance, n)],
+        lambda given: [("low_median", statistics.median_low(given.pay)), ("high_median", statistics.median_high(given.pay))],
+    ),
+    "quantiles": Recipe(lambda chance, n: [pay(chance, n), public("percents", [25, 50, 75, 90])], quantiles_told),
+    "halving": Recipe(
+        lambda chance, n: [pay(chance, n), public("bits", 17)], lambda given: [("low_median", statistics.median_low(given.pay))]
+    ),
+    "choose": Recipe(choose_inputs, choose_told),
+    "any_all": Recipe(
+        lambda chance, n: [pay(chance, n), public("limit", 900 + n)],
+        lambda given: [("any_above", any(one > given.limit for one in given.pay)), ("all_above", all(one > given.limit for one in given.pay))],
+    ),
+    "histogram": Recipe(
+        lambda chance, n: [*region_inputs(chance, n), public("regions", 4), public("edges", [900, 900 + n, 900 + 2 * n])], histogram_told
+    ),
+    "join": Recipe(join_inputs, join_told),
+    "mean": Recipe(lambda chance, n: [*region_inputs(chance, n), public("wanted", 2), public("fewest", 1)], mean_told),
+    "variance": Recipe(lambda chance, n: [pay(chance, n), public("most", 1_000_000)], variance_told),
+    "top": Recipe(lambda chance, n: [pay(chance, n), public("k", 3)], top_told),
+    "signs": Recipe(signs_inputs, signs_told),
+    "empty": Recipe(lambda chance, n: [*region_inputs(chance, n), public("wanted", 2)], empty_told),
+}
+
+
+def shown(value: Value) -> str:
+    """As a run shows it."""
+    elements = value if isinstance(value, list) else [value]
+    return "".join(" " + (str(one).lower() if isinstance(one, bool) else str(one)) for one in elements)
+
+
+def made(name: str, n: int, seed: int) -> tuple[dict[str, object], list[str]]:
+    """The input file of this recipe for n people, and the lines `publish` that its program must tell."""
+    recipe = RECIPES[name]
+    given = Given(recipe.inputs(random.Random(f"{name} {n} {seed}"), n))
+    lines = [f"publish {key}{shown(value)}" for key, value in recipe.told(given)]
+    return {"inputs": [entry.as_json() for entry in given.entries]}, lines
