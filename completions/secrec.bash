@@ -17,10 +17,10 @@ _secrec_used() {
   return 1
 }
 _secrec() {
-  local current=${COMP_WORDS[COMP_CWORD]} before=$((COMP_CWORD - 1)) options used=' ' left='' option program='' miner=none k
+  local current=${COMP_WORDS[COMP_CWORD]} before=$((COMP_CWORD - 1)) options used=' ' left='' option program='' miner=none list='' k
   COMPREPLY=()
   if [ "$COMP_CWORD" -eq 1 ]; then
-    _secrec_words 'check compile eval need run deal map simulate twin load'
+    _secrec_words 'check compile eval need run deal map simulate twin load gather help'
     return
   fi
   case ${COMP_WORDS[1]} in
@@ -33,6 +33,8 @@ _secrec() {
     simulate) options='--public --opened --sim --view --schedule --shuffle --budget' miner='' ;;
     twin) options='--input --second --tape --to --budget' miner='' ;;
     load) options='--number' program=none ;;
+    gather) options='--me --to' list=yes ;;
+    help) [ "$COMP_CWORD" -ne 2 ] || _secrec_words 'check compile eval need run deal map simulate twin load gather'; return ;;
     *) return ;;
   esac
   # (`--name=value` comes in three words)
@@ -41,6 +43,7 @@ _secrec() {
     --input | --second | --public) _secrec_files '*.json'; return ;;
     --code | --tape | --to | --schedule | --record | --views | --sim | --opened | --view) _secrec_files '*'; return ;;
     --seed | --words | --budget | --shuffle | --number) return ;;
+    --me) _secrec_words '1 2 3'; return ;;
   esac
   for ((k = 2; k < COMP_CWORD; k++)); do
     case ${COMP_WORDS[k]} in
@@ -63,7 +66,8 @@ _secrec() {
   case $current in
     -*) _secrec_words "$left" ;;
     *)
-      if [ -z "$miner" ]; then _secrec_words '1 2 3'
+      if [ -n "$list" ]; then _secrec_files '*'
+      elif [ -z "$miner" ]; then _secrec_words '1 2 3'
       elif [ -z "$program" ]; then _secrec_files '*.sc'
       else _secrec_words "$left"
       fi

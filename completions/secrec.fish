@@ -10,6 +10,8 @@ complete -c secrec -n __fish_use_subcommand -a map -d 'Write what the simulator 
 complete -c secrec -n __fish_use_subcommand -a simulate -d 'Write the view of a miner from that alone'
 complete -c secrec -n __fish_use_subcommand -a twin -d 'Write the tape that gives the view on another input'
 complete -c secrec -n __fish_use_subcommand -a load -d 'Run a program that a number makes'
+complete -c secrec -n __fish_use_subcommand -a gather -d 'Put the share files of several owners end to end'
+complete -c secrec -n __fish_use_subcommand -a help -d 'Show the words of a command'
 complete -c secrec -n '__fish_seen_subcommand_from map simulate twin' -a '1 2 3' -d 'Miner'
 complete -c secrec -n '__fish_seen_subcommand_from check compile eval need run map simulate twin' -k -a '(__fish_complete_suffix .sc)'
 complete -c secrec -n '__fish_seen_subcommand_from eval need run deal map twin' -l input -r -k -a '(__fish_complete_suffix .json)' -d 'The input file'
@@ -21,7 +23,7 @@ complete -c secrec -n '__fish_seen_subcommand_from run simulate; and not __fish_
 complete -c secrec -n '__fish_seen_subcommand_from run simulate; and not __fish_contains_opt schedule' -l shuffle -x -d '64 lower-case hexadecimal digits'
 complete -c secrec -n '__fish_seen_subcommand_from run' -l record -r -F -d 'Where the delivered links go'
 complete -c secrec -n '__fish_seen_subcommand_from run' -l views -r -F -d 'What the paths of the views begin with'
-complete -c secrec -n '__fish_seen_subcommand_from deal twin' -l to -r -F -d 'What the paths of the files begin with, or where the tape goes'
+complete -c secrec -n '__fish_seen_subcommand_from deal twin gather' -l to -r -F -d 'What the paths of the files begin with, or where the one file goes'
 complete -c secrec -n '__fish_seen_subcommand_from map simulate' -l sim -r -F -d 'The tape of the simulator'
 complete -c secrec -n '__fish_seen_subcommand_from map simulate' -l public -r -k -a '(__fish_complete_suffix .json)' -d 'The public part of the inputs'
 complete -c secrec -n '__fish_seen_subcommand_from map simulate' -l opened -r -F -d 'The lines of what is opened'
@@ -29,3 +31,5 @@ complete -c secrec -n '__fish_seen_subcommand_from simulate' -l view -r -F -d 'W
 complete -c secrec -n '__fish_seen_subcommand_from twin' -l second -r -k -a '(__fish_complete_suffix .json)' -d 'The other input file'
 complete -c secrec -n '__fish_seen_subcommand_from load' -l number -x -d 'What the load is made of'
 complete -c secrec -n '__fish_seen_subcommand_from compile' -l code -r -F -d 'Where the code goes'
+complete -c secrec -n '__fish_seen_subcommand_from gather' -l me -x -a '1 2 3' -d 'The miner'
+complete -c secrec -n '__fish_seen_subcommand_from gather' -F

@@ -39,7 +39,7 @@ lines_of_program() {
 files_of_program() {
   local crate
   for crate in $crates; do
-    find "crates/$crate" \( -name out -o -name must-fail \) -prune -o -type f -print0
+    find "crates/$crate" \( -name out -o -name must-fail \) -prune -o -type f ! -name README.md -print0
   done | LC_ALL=C sort -z
 }
 
@@ -96,6 +96,7 @@ make_build() {
   minutes=$((build_work / $(nproc)))
   [ "$minutes" -ge "$build_chain" ] || minutes=$build_chain
   echo "secrec: proving and building the program (its first use here, or a source has changed); $minutes to $((5 * minutes / 2)) minutes on $(nproc) processors" >&2
+  echo "secrec: for a first look within three minutes, at a program of which nothing is proved, call ./try in its place" >&2
   scratch=$(mktemp -d 2>/dev/null) || give_up "no folder for temporary files can be made in ${TMPDIR:-/tmp}"
   teller=
   trap '[ -z "$teller" ] || kill "$teller" 2>/dev/null; rm -rf "$scratch" "$build/new.$$"' EXIT
@@ -128,13 +129,19 @@ is_built() {
   ! command -v rt >/dev/null 2>&1 || [ "$(rt version 2>/dev/null)" = "$(cat "$build/$1/kit" 2>/dev/null)" ]
 }
 
-# Sets `program` to the path of the program, built where it has to be.
-find_program() {
-  local sum
+# Sets `sum` to the checksum of the sources, and `program` to where their program is, or will be.
+look_for_program() {
   build=$top/.build
   crates=$(crates_of_program)
   sum=$(sum_of_program) && [ -n "$sum" ] || give_up "the sources in $top could not be read"
+  program=$build/$sum/secrec
+}
+
+# Sets `program` to the path of the program, built where it has to be; with SECREC_NO_BUILD in the environment it must be there.
+find_program() {
+  look_for_program
   if ! is_built "$sum"; then
+    [ -z "${SECREC_NO_BUILD-}" ] || give_up "not built yet"
     command -v rt >/dev/null 2>&1 || give_up "not built yet, and the command rt of the Rattle kit, which proves and builds it, is not on the path"
     { mkdir -p "$build" && : >>"$build/lock"; } 2>/dev/null || give_up "not built yet, and $build cannot be written"
     exec 9>>"$build/lock"
@@ -145,5 +152,4 @@ find_program() {
     is_built "$sum" || make_build "$sum"
     exec 9>&-
   fi
-  program=$build/$sum/secrec
 }

@@ -1,0 +1,1 @@
+"""What the tools around the program `secrec` share."""
