@@ -11,6 +11,9 @@ import sys
 sys.dont_write_bytecode = True
 sys.setrecursionlimit(20_000)
 import code_file
+from clear import dealer_need
+from entries import read_inputs
+from files import read_tapes
 from miner_texts import joined
 from node import BadMessage, Node
 from peers import LinkFault, Peers, join
@@ -121,6 +124,10 @@ def trio(words: list[str]) -> tuple[str, int]:
     """Compiles, deals, starts three miners, waits for them, and puts their texts together."""
     (program,), options = options_of("trio", words)
     prefix = options["to"]
+    below("check", program)
+    need, have = dealer_need(read_inputs(read(options["input"]))), len(read_tapes(read(options["tape"]))[0])
+    if need > have:
+        return f"end tape 0 need {need} have {have} cost 0\n", 8
     below("compile", program, "--code", f"{prefix}.code")
     below("deal", "--input", options["input"], "--tape", options["tape"], "--to", prefix)
     children = []
