@@ -71,12 +71,21 @@ def ended(words, folder, patience, **how):
         return start(words, folder, **how).result(patience)
 
 
-def listening(ports, prefix=()):
-    """Which of these ports somebody listens at, in this network or where `prefix` leads."""
+def in_state(state, ports, prefix=()):
+    """Which of these ports have a socket in a state of the system's table, in this network or where `prefix` leads."""
     table = subprocess.run([*prefix, "cat", "/proc/net/tcp"], capture_output=True, text=True, check=True).stdout
     rows = [line.split() for line in table.splitlines()[1:]]
-    heard = {int(row[1].split(":")[1], 16) for row in rows if row[3] == "0A"}
-    return sorted(heard & set(ports))
+    return sorted({int(row[1].split(":")[1], 16) for row in rows if row[3] == state} & set(ports))
+
+
+def listening(ports, prefix=()):
+    """Which of these ports somebody listens at."""
+    return in_state("0A", ports, prefix)
+
+
+def joined(ports):
+    """Which of these ports have a stream."""
+    return in_state("01", ports)
 
 
 def wait_for(what, patience):
