@@ -42,8 +42,12 @@ def least(words):
 
 
 def case(name, text, elements, times, by_hand):
-    elements, times = (max(elements // divided, 1), times) if elements > 1 else (1, max(times // divided, 1))
-    value = "[" + ",".join(str(3 + 2 * k) for k in range(elements)) + "]" if elements > 1 or name != "products of scalars" else "3"
+    """A program on an array, or on a scalar where no elements are given; of an array the elements are divided, else the times."""
+    if elements is None:
+        elements, times, value = 1, max(times // divided, 1), "3"
+    else:
+        elements = max(elements // divided, 1)
+        value = "[" + ",".join(str(3 + 2 * k) for k in range(elements)) + "]"
     source = written(f"{work}/p.sc", text)
     given = written(f"{work}/i.json", '{"inputs":[{"name":"a","domain":"private","type":"uint64","value":%s},'
                     '{"name":"n","domain":"public","type":"uint64","value":%d}]}' % (value, times))
@@ -71,5 +75,5 @@ print("                                     run              trio               
 print("                        messages  seconds  of cpu  seconds  of cpu  messages/s  seconds  of cpu  messages/s   ratio")
 case("products of arrays", PRODUCTS, 65_536, 10, True)
 case("comparisons", COMPARISONS, 16_384, 1, False)
-case("products of scalars", SCALARS, 1, 20_000, True)
+case("products of scalars", SCALARS, None, 20_000, True)
 PY
