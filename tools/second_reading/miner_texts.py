@@ -20,10 +20,10 @@ BOUNDS = {"need": 1 << 128, "line": 1 << 32}
 
 def are_bounded(line: str) -> bool:
     words = line.split(" ")
-    bounds = [1 << 64] * len(words)
-    if words[0] == "end":
-        bounds = [1 << 64] + [BOUNDS.get(word, 1 << 64) for word in words[:-1]]
-    return all(not word.isdigit() or int(word) < bound for word, bound in zip(words, bounds))
+    if words[0] != "end":
+        # (a name may be of digits alone)
+        return all(not word.isdigit() or int(word) < 1 << 64 for word in words[1 if words[0] == "open" else 2 :])
+    return all(not word.isdigit() or int(word) < BOUNDS.get(before, 1 << 64) for before, word in zip(words, words[1:]))
 
 
 def lines_of(miner: int, data: bytes) -> list[str]:
@@ -59,9 +59,8 @@ def together(three: tuple[str, str, str]) -> str:
     return " ".join(["publish", found[0][1], *shown])
 
 
-def joined(texts: list[bytes]) -> tuple[str, int]:
+def joined(parts: list[list[str]]) -> tuple[str, int]:
     """The text that three make, and the status of its end."""
-    parts = [lines_of(miner, text) for miner, text in zip((1, 2, 3), texts)]
     made = []
     for number, three in enumerate(zip_longest(*parts, fillvalue=""), 1):
         first, second, third = map(without_words, three)

@@ -10,16 +10,16 @@ import sys
 
 sys.dont_write_bytecode = True
 sys.setrecursionlimit(20_000)
-import code_file
 from clear import dealer_need
 from entries import read_inputs
 from files import read_tapes
-from miner_texts import joined
+from miner_files import read_code, read_own_tape
+from miner_texts import joined, lines_of
 from node import BadMessage, Node
 from peers import LinkFault, Peers, join
 from refusals import CallRefused
 from shares import read_share
-from wire import BadFrame, hello_of, read_words
+from wire import BadFrame, hello_of
 
 DEFAULT_BUDGET = "1000000"
 OPTIONS = {
@@ -28,7 +28,6 @@ OPTIONS = {
     "join": (),
 }
 PLACES = {"miner": 1, "trio": 1, "join": 3}
-OWN_TAPE_LIMIT = 1 << 24
 
 
 def options_of(command: str, words: list[str]) -> tuple[list[str], dict[str, str]]:
@@ -63,37 +62,15 @@ def write(path: str, data: bytes):
         raise CallRefused(f"file {path}", 9) from None
 
 
-def own_tape(data: bytes, length: int) -> list[int]:
-    if len(data) < 8:
-        raise CallRefused(f"Q1 place {len(data)}", 5)
-    (said,) = read_words(data[:8])
-    if said > OWN_TAPE_LIMIT or said != length:
-        raise CallRefused("Q1 place 0", 5)
-    if len(data) != 8 + 8 * said:
-        raise CallRefused(f"Q1 place {min(len(data), 8 + 8 * said)}", 5)
-    return read_words(data[8:])
-
-
-def code_in(data: bytes) -> code_file.Code:
-    try:
-        code = code_file.decode(data)
-    except code_file.CodeFault as fault:
-        raise CallRefused(str(fault), 3) from None
-    wrong = code_file.Verifier(code).fault()
-    if wrong:
-        raise CallRefused(wrong, 3)
-    return code
-
-
 def miner(words: list[str]) -> tuple[str, int]:
     """One miner; its text is written to its file."""
     (path,), options = options_of("miner", words)
     me, budget = int(options["me"]), int(options["budget"])
     code = read(path)
-    decoded = code_in(code)
+    decoded = read_code(code)
     share = read(options["share"])
     given = read_share(share, me)
-    tape = own_tape(read(options["tape"]), given.lengths[me])
+    tape = read_own_tape(read(options["tape"]), given.lengths[me])
     try:
         peers = Peers(me, join(me, int(options["port"])))
         try:
@@ -138,12 +115,12 @@ def trio(words: list[str]) -> tuple[str, int]:
     for me, status in enumerate([child.wait() for child in children], 1):
         if status not in (0, 1, 7, 8):
             raise CallRefused(f"C3 miner {me} status {status}", 12)
-    return joined([read(f"{prefix}.o{me}") for me in "123"])
+    return joined([lines_of(int(me), read(f"{prefix}.o{me}")) for me in "123"])
 
 
 def join_texts(words: list[str]) -> tuple[str, int]:
     places, _ = options_of("join", words)
-    return joined([read(path) for path in places])
+    return joined([lines_of(me, read(path)) for me, path in enumerate(places, 1)])
 
 
 def main(words: list[str]) -> int:
