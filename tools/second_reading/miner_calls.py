@@ -14,20 +14,23 @@ MINER, TRIO = WAITING
 NAME = "n" * 64
 LARGEST, OVER = (1 << 64) - 1, 1 << 64
 ODD_LINES = (
-    "", " ", "open", "open ", "open  1", " open 1", "open 1 ", "open 01", "open 0", f"open {LARGEST}", f"open {OVER}", "open true", "open True", "open true 1",
-    "open -1", "open +1", "open 1.0", "opened 1", "Open 1", "open\t1", "open 1\r", "open \uff11", "publish", "publish ", "publish s", "publish s ", "publish  s",
-    "publish s true", "publish a-b 1", f"publish {NAME} 1", f"publish {NAME}n 1", f"publish {OVER} 1", "publish open 1", "publish s t", "share", "share t",
-    "share t uint64", "share t uint64 ", "share t uint64 5", "share t uint64 5 18", "share t uint64 5 18 1", "share t uint64 05 18", f"share t uint64 {LARGEST} 1",
-    f"share t uint64 {OVER} 1", "share t bool 5 18", "share t bool true", "share t uint 5 18", "share t int64 5", "share b bool 1", "share b bool 1 1", "share b",
-    f"share {NAME}n bool 1", "share a-b bool 1", "view 1", "in a 1", "drew 1", "got 12 1", "end", "end ", "end done", "end done cost", "end done cost 9", "end done cost 09",
-    f"end done cost {LARGEST}", f"end done cost {OVER}", "end done  cost 9", "end budget cost 0", "end budget", "end trap Div line 3 cost 4", "end trap div line 3 cost 4",
-    "end trap Depth line 4294967295 cost 4", "end trap Depth line 4294967296 cost 4", "end trap Large cost 4", "end trap Length line 0 cost 4", "end trap Sum line 3 cost 4",
-    "end tape 0 need 2 have 1 cost 0", "end tape 3 need 2 have 1 cost 5", "end tape 4 need 2 have 1 cost 5", f"end tape 1 need {(1 << 128) - 1} have 1 cost 5",
-    f"end tape 1 need {1 << 128} have 1 cost 5", f"end tape 1 need 2 have {OVER} cost 5", "end tape need 2 have 1 cost 5", "\u00e9", "open \x00", "# open 1",
+    "", " ", "open", "open ", "open  1", " open 1", "open 1 ", "open 01", "open 0", f"open {LARGEST}", f"open {OVER}", "open true",
+    "open True", "open true 1", "open -1", "open +1", "open 1.0", "opened 1", "Open 1", "open\t1", "open 1\r", "open \uff11", "publish",
+    "publish ", "publish s", "publish s ", "publish  s", "publish s true", "publish a-b 1", f"publish {NAME} 1", f"publish {NAME}n 1",
+    f"publish {OVER} 1", "publish open 1", "publish s t", "share", "share t", "share t uint64", "share t uint64 ", "share t uint64 5",
+    "share t uint64 5 18", "share t uint64 5 18 1", "share t uint64 05 18", f"share t uint64 {LARGEST} 1", f"share t uint64 {OVER} 1",
+    "share t bool 5 18", "share t bool true", "share t uint 5 18", "share t int64 5", "share b bool 1", "share b bool 1 1", "share b",
+    f"share {NAME}n bool 1", "share a-b bool 1", "view 1", "in a 1", "drew 1", "got 12 1", "end", "end ", "end done", "end done cost",
+    "end done cost 9", "end done cost 09", f"end done cost {LARGEST}", f"end done cost {OVER}", "end done  cost 9", "end budget cost 0",
+    "end budget", "end trap Div line 3 cost 4", "end trap div line 3 cost 4", "end trap Depth line 4294967295 cost 4",
+    "end trap Depth line 4294967296 cost 4", "end trap Large cost 4", "end trap Length line 0 cost 4", "end trap Sum line 3 cost 4",
+    "end tape 0 need 2 have 1 cost 0", "end tape 3 need 2 have 1 cost 5", "end tape 4 need 2 have 1 cost 5",
+    f"end tape 1 need {(1 << 128) - 1} have 1 cost 5", f"end tape 1 need {1 << 128} have 1 cost 5", f"end tape 1 need 2 have {OVER} cost 5",
+    "end tape need 2 have 1 cost 5", "\u00e9", "open \x00", "# open 1",
 )
 TEXT_TOKENS = (
-    b"\n", b" ", b"open 1\n", b"publish s ", b"share ", b"share t uint64 1 2\n", b"bool", b"uint64", b"end done cost 9\n", b"end trap Div line 3 cost 4\n", b"true", b"0",
-    b"1", b"18446744073709551616", b"\r", b"\xff", b"\x00",
+    b"\n", b" ", b"open 1\n", b"publish s ", b"share ", b"share t uint64 1 2\n", b"bool", b"uint64", b"end done cost 9\n",
+    b"end trap Div line 3 cost 4\n", b"true", b"0", b"1", b"18446744073709551616", b"\r", b"\xff", b"\x00",
 )
 CODE_TOKENS = (b"\x00", b"\x01", b"\x02", b"\xff", b"\xff\xff", b"SC3P", b"\x18", b"\x17\x00\x00", b"\x00\x00", b"\x01a", *(bytes([tag]) for tag in range(0x19)))
 OWN = GOOD_FILES["first.t2"]

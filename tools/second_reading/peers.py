@@ -4,7 +4,6 @@ from __future__ import annotations
 import socket
 import time
 
-from joint import next_of
 from wire import HEADER_SIZE, HELLO_SIZE, Hello, frame, read_header, read_hello, read_words
 
 HOST = "127.0.0.2"
@@ -61,7 +60,6 @@ class Peers:
 
     def __init__(self, me: int, streams: dict[int, socket.socket]):
         self.me, self.streams = me, streams
-        self.sent = dict.fromkeys(streams, 0)
 
     def write(self, peer: int, data: bytes):
         try:
@@ -95,7 +93,6 @@ class Peers:
         return None
 
     def send(self, peer: int, words: list[int]):
-        self.sent[peer] += 1
         self.write(peer, frame(words))
 
     def receive(self, peer: int) -> list[int]:
@@ -110,6 +107,3 @@ class Peers:
                 pass
             stream.close()
 
-
-def others(me: int) -> tuple[int, int]:
-    return tuple(sorted((next_of(me), next_of(next_of(me)))))
