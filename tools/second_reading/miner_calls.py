@@ -32,7 +32,9 @@ TEXT_TOKENS = (
     b"\n", b" ", b"open 1\n", b"publish s ", b"share ", b"share t uint64 1 2\n", b"bool", b"uint64", b"end done cost 9\n",
     b"end trap Div line 3 cost 4\n", b"true", b"0", b"1", b"18446744073709551616", b"\r", b"\xff", b"\x00",
 )
-CODE_TOKENS = (b"\x00", b"\x01", b"\x02", b"\xff", b"\xff\xff", b"SC3P", b"\x18", b"\x17\x00\x00", b"\x00\x00", b"\x01a", *(bytes([tag]) for tag in range(0x19)))
+CODE_TOKENS = (
+    b"\xff", b"\xff\xff", b"SC3P", b"\x17\x00\x00", b"\x00\x00", b"\x01a", *(bytes([tag]) for tag in range(0x19)),
+)
 OWN = GOOD_FILES["first.t2"]
 
 
