@@ -11,6 +11,8 @@ from files import (
     read_opened, read_schedule, read_tapes, write_opened, write_own_tape, write_public, write_schedule, write_share, write_tapes,
     write_view,
 )
+from miner_files import read_code, read_own_tape
+from miner_texts import joined, lines_of
 from joint import Direction, JointRun, SimulatedMiner, map_tapes
 from network import Outcome, default_delivery, listed_delivery, shuffled_delivery
 from refusals import CallRefused
@@ -30,6 +32,10 @@ LOAD_PROGRAM = (
 
 
 Written = list[tuple[str, bytes | None]]
+
+
+class NeedsPeers(Exception):
+    """What is read is good, so the call goes on over links or with children, of which nothing is known here."""
 
 
 @dataclass
@@ -64,7 +70,7 @@ class Caller:
         commands = {
             "check": self.check, "compile": self.compile, "eval": self.eval, "need": self.need, "run": self.run, "map": self.map,
             "simulate": self.simulate, "twin": self.twin, "deal": self.deal, "load": self.load,
-            "gather": self.gather,
+            "gather": self.gather, "join": self.join, "miner": self.miner, "trio": self.trio,
         }
         try:
             asked = read_words(words)
@@ -224,6 +230,27 @@ class Caller:
         """A miner's share files, end to end."""
         shares = [read_share(self.read(path), words.number("me")) for path in words.listed]
         return Answer(written=[(words["to"], gathered(shares))])
+
+    def join(self, words: Words) -> Answer:
+        """The texts of three miners, put together; each is read and checked before the next one."""
+        text, status = joined([lines_of(miner, self.read(words[name])) for miner, name in enumerate(("first", "second", "third"), 1)])
+        return Answer(status, text.encode())
+
+    def miner(self, words: Words) -> Answer:
+        """What it refuses before it joins its peers."""
+        read_code(self.read(words["code"]))
+        share = read_share(self.read(words["share"]), words.number("me"))
+        read_own_tape(self.read(words["tape"]), share.lengths[words.number("me")])
+        raise NeedsPeers
+
+    def trio(self, words: Words) -> Answer:
+        """What it refuses before it writes; with too few words for the dealer it writes nothing at all."""
+        self.program(words["program"])
+        inputs = read_inputs(self.read(words["input"]))
+        need, have = dealer_need(inputs), len(read_tapes(self.read(words["tape"]))[0])
+        if need > have:
+            return Answer(8, f"end tape 0 need {need} have {have} cost 0\n".encode())
+        raise NeedsPeers
 
     def load(self, words: Words) -> Answer:
         inputs = load_inputs(words.number("number"))

@@ -14,6 +14,7 @@ import call_words
 import code_calls
 import faulty_files
 import file_calls
+import miner_calls
 from comparison import Comparison, Play, sampled, with_deep_stack
 from good_calls import GOOD_FILES
 
@@ -26,6 +27,7 @@ RANDOM = {
     "random-opened": (file_calls.changed(faulty_files.changed_lines, b"open 1 true\nopen\nopen 20\n"), file_calls.play_opened),
     "random-schedules": (file_calls.changed(faulty_files.changed_lines, GOOD_FILES["s"]), file_calls.play_schedule),
     "random-orders": (file_calls.random_orders, file_calls.play_order),
+    **miner_calls.RANDOM,
 }
 DIRECTED = {
     **{part: (partial(call_words.by_hand, part), call_words.play) for part in call_words.PARTS},
@@ -37,6 +39,7 @@ DIRECTED = {
     "orders": (file_calls.combined, file_calls.play_combined),
     "writes": (file_calls.writing_cases, file_calls.play_writing),
     "streams": (file_calls.streams, file_calls.play_streams),
+    **miner_calls.DIRECTED,
 }
 CODES = {"random-codes": code_calls.at_random, "text-codes": code_calls.of_texts, "codes": code_calls.by_hand}
 GROUP = 10

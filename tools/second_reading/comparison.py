@@ -15,7 +15,7 @@ from itertools import islice
 from pathlib import Path
 from tempfile import TemporaryDirectory
 
-from commands import Answer, Caller
+from commands import Answer, Caller, NeedsPeers
 from words import FORMS
 
 FULL = "/dev/full"
@@ -120,6 +120,14 @@ class Folder:
         if faults:
             self.tell([*words, *(f"{stream}=full" for stream in full)], before, faults)
         return answer
+
+    def call_if_ended(self, *words: str):
+        """Calls both sides where the call ends without peers and children."""
+        try:
+            self.caller.call(list(words))
+        except NeedsPeers:
+            return
+        self.call(*words)
 
     def faults(self, words: list[str], answer: Answer, full: tuple[str, ...]) -> list[str]:
         """What the program does otherwise; the folder is left as the model says."""

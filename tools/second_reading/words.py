@@ -36,8 +36,11 @@ FORMS = {
     "deal": Form((), ("input", "tape", "to")),
     "load": Form((), ("number",)),
     "gather": Form((), ("me", "to"), has_list=True),
+    "join": Form(("first", "second", "third")),
+    "miner": Form(("code",), ("me", "share", "tape", "port", "out"), ("budget",)),
+    "trio": Form(("program",), ("input", "tape", "to", "port"), ("budget",)),
 }
-NUMBERS = {"miner": (1, 3), "me": (1, 3), "budget": (0, WORD_LIMIT), "number": (0, WORD_LIMIT), "words": (0, TAPE_WORDS_LIMIT)}
+NUMBERS = {"miner": (1, 3), "me": (1, 3), "port": (1, 65_533), "budget": (0, WORD_LIMIT), "number": (0, WORD_LIMIT), "words": (0, TAPE_WORDS_LIMIT)}
 SEEDS = ("seed", "shuffle")
 SEED_FORM = re.compile(r"[0-9a-f]{64}")
 DIGITS = re.compile(r"[0-9]+")

@@ -147,14 +147,15 @@ def follow(pipe, stream: int | None, kept: bytearray, screen: Screen):
                     stream = None
 
 
-def call(words: list[str], out: str = "pass", err: str = "pass", watched: bool | None = None, fds=(), what: str = "") -> Ended:
+def call(words: list[str], out: str = "pass", err: str = "pass", watched: bool | None = None, fds=(), what: str = "", starts: bool = False) -> Ended:
     """Calls a program and waits for it. A stream is left to it (`leave`), handed on and kept (`pass`), or kept whole (`keep`). Where `watched`, progress is
-    told on the error stream; else where that is a terminal. A signal that ends this process ends the program first."""
+    told on the error stream; else where that is a terminal. A signal that ends this process ends the program first, and what it started where it `starts`
+    programs of its own."""
     watched = os.isatty(2) if watched is None else watched
     pipes = {name: subprocess.PIPE for name, way in (("stdout", out), ("stderr", err)) if way != "leave"}
     screen, ended, kept = Screen(), threading.Event(), (bytearray(), bytearray())
     began = time.monotonic()
-    child = subprocess.Popen(words, pass_fds=fds, **pipes)
+    child = subprocess.Popen(words, pass_fds=fds, start_new_session=starts, **pipes)
     threads = []
     for pipe, way, stream in ((child.stdout, out, 1), (child.stderr, err, 2)):
         if pipe:
@@ -168,6 +169,8 @@ def call(words: list[str], out: str = "pass", err: str = "pass", watched: bool |
     try:
         _, code, usage = os.wait4(child.pid, 0)
     except BaseException:
+        if starts:
+            os.killpg(child.pid, signal.SIGTERM)
         child.terminate()
         child.wait()
         patience = CUT_OFF
