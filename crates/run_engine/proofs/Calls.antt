@@ -39,7 +39,7 @@ module _ (words : List (List ℕ)) (m m' : Moment) (r : Result Status Stop) (did
   reach = reach_in words
 
   abbrev outside : Outside
-  outside = outside_of m.sources
+  outside = outside_of m.sources m'.sources
 
   pub call_kept : Call words m m' (status_in r)
   call_kept = record {
@@ -51,9 +51,9 @@ module _ (words : List (List ℕ)) (m m' : Moment) (r : Result Status Stop) (did
     answer_carried_out = λ answer a t.
         carried_out (words_of words) reach answer m m' r (no_command words outside answer a) (did.acts answer a) said t;
     file_fault_counted = file_counted (words_of words) reach m m' r did.anyhow;
-    file_fault_told = file_told (words_of words) (paths_in words) reach (WordsAnswer words m.sources) m m' r did.anyhow did.stops said;
+    file_fault_told = file_told (words_of words) (paths_in words) reach (WordsAnswer words m.sources m'.sources) m m' r did.anyhow did.stops said;
     file_missing_if_steady = λ answer a is steady t.
-        file_missed (words_of words) (paths_in words) reach (WordsAnswer words m.sources) m m' answer r (did.acts answer a) did.stops said is steady t;
+        file_missed (words_of words) (paths_in words) reach (WordsAnswer words m.sources m'.sources) m m' answer r (did.acts answer a) did.stops said is steady t;
     write_fault_counted = write_counted (words_of words) reach m m' r did.anyhow;
     write_fault_said = write_said (words_of words) reach m m' r did.anyhow said;
     write_fault_cuts_text = λ answer a is. write_cuts (words_of words) reach answer m m' r (did.acts answer a) is;
@@ -66,7 +66,7 @@ module _ (words : List (List ℕ)) (m m' : Moment) (r : Result Status Stop) (did
     end_says_nothing = end_says_nothing m.err m'.err r said;
     refused_prints_nothing = refused_prints_nothing (words_of words) reach m m' r did.anyhow;
     files_only_as_answered = λ answer a.
-        only_answered (words_of words) reach answer m m' (paths_in words) (WordsAnswer words m.sources) a r (did.acts answer a) did.stops did.only;
+        only_answered (words_of words) reach answer m m' (paths_in words) (WordsAnswer words m.sources m'.sources) a r (did.acts answer a) did.stops did.only;
     files_only_as_named = did.only;
     links_fail_if_reached = λ is. (links_counted (words_of words) reach m m' r did.anyhow is).reached;
     no_peer_or_child_stops = record {

@@ -47,7 +47,7 @@ gather_refused_only words ask outside asks answer a refusal =
 
 module _ (words : List (List ℕ)) (m m' : Moment) (s : Status) (call : Call words m m' s) where
   abbrev outside : Outside
-  outside = outside_of m.sources
+  outside = outside_of m.sources m'.sources
 
   pub gather_keeps : (ask : GatherAsk) → Asks words m (gather ask)
       (Keeps (GatherEffect ask (contents_in m)) (GatherRefused ask (contents_in m)) is_done m m' s)

@@ -68,17 +68,18 @@ module _ (words : List (List ℕ)) (m m' : Moment) (s : Status) (call : Call wor
       → RefusesSchedule g m.err m'.err s
   refuses g given refused t steady =
       let cause : Cause = refused_with (refused_line (net_given g)) in
-      let answer : AnswersAtOnce words (outside_of m.sources) (Err cause) =
-      run_refused_by_net words g.ask (outside_of m.sources) g.program g.entries g.tapes g.delivery given.asks given.held refused in
+      let answer : AnswersAtOnce words (outside_of m.sources m'.sources) (Err cause) =
+      run_refused_by_net words g.ask (outside_of m.sources m'.sources) g.program g.entries g.tapes g.delivery given.asks given.held refused in
       let alone : files_alone ≡ reach_in words = sym (reach_by words (run g.ask) given.asks) in
       let told : AreTold (reach_in words) m.sources = subst (λ (r : Reach). AreTold r m.sources) alone (told_alone m.sources t) in
       elim (call.complete (at_once (Err cause)) answer (subst (λ (r : Reach). AreSteady r m) alone steady) told) [
         | inl is ↦
-            inl
-            (is,
-            said m m' s cause refl is
-            (subst (λ (r : Reach). CarriedOut m m' s (at_once (Err cause)) ⊎ HasFailed r m m' s) (sym alone)
-            (call.answer_carried_out (at_once (Err cause)) answer told)))
+            inl (
+              is,
+              said m m' s cause refl is
+                  (subst (λ (r : Reach). CarriedOut m m' s (at_once (Err cause)) ⊎ HasFailed r m m' s) (sym alone)
+                  (call.answer_carried_out (at_once (Err cause)) answer told)),
+            )
         | inr memory ↦ inr memory
       ]
 

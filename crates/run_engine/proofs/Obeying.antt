@@ -2,6 +2,7 @@
 use Rattle.std.proofs.Common.{◌≡◌, List, ℕ, true, Some, None, Ok, Err, Result, refl, ap, subst, sym, ◌∙◌, inl, inr}
 use Rattle.std.specs.Prelude.{IfErr, IfOk}
 use Rattle.std.specs.Result.{IsErrAnd}
+use Rattle.outside.specs.Causes.{Rose}
 use Rattle.outside.specs.Files.{FilesState}
 use Rattle.outside.specs.Sink.{SinkState}
 use Rattle.command_words.specs.Ask.{Ask, words_of}
@@ -9,13 +10,13 @@ use Rattle.command_frame.specs.declared.plan.Plan.{Plan}
 use Rattle.command_frame.specs.declared.status.Status.{Status}
 use Rattle.command_frame.specs.declared.stop.Stop.{Stop}
 use Rattle.command_frame.specs.declared.stop.Stop.TheVariants as stops
-use Rattle.command_frame.specs.Answer.{Course, at_once, effect_of, paths_in as paths_of_writes}
+use Rattle.command_frame.specs.Answer.{Answer, Course, at_once, effect_of, paths_in as paths_of_writes}
 use Rattle.command_frame.specs.Decides.{Decides, StopsDecidingAnyhow}
 use Rattle.command_frame.specs.Finish.{Finishes, OnlyAmong}
 use Rattle.command_frame.specs.Moments.{Moment, Reach, Sources}
-use Rattle.command_frame.specs.Reads.{Gives, KeepsTo, OnlyRead, PlanNames, StopsReading}
+use Rattle.command_frame.specs.Reads.{Gives, GivesOfPeers, GivesOfTexts, KeepsTo, OnlyRead, PlanNames, StopsReading, StopsReadingAmong}
 use Rattle.command_frame.specs.Whole.{Acts, ActsAnyhow, EndsAs, Paths, StopsAtFile}
-use Rattle.command_frame.proofs.Deciding.{decides_reading, nothing_written, reading_anyhow, reading_stops, same_sink, stops_anyhow, stops_as, unchanged}
+use Rattle.command_frame.proofs.Deciding.{among_anyhow, decides_peers, decides_reading, decides_texts, nothing_written, reading_anyhow, reading_stops, same_sink, stops_anyhow, stops_as, unchanged}
 use Rattle.command_frame.proofs.Finishing.{among_written, at_last, ends_anyhow, ends_as, moment, writing_stops}
 use Rattle.command_frame.proofs.Wholes.{acts_anyhow, acts_as, stops_so}
 use Rattle.program_commands.specs.Judging.{Finding, FoundAt, HasFinding, Tells}
@@ -40,28 +41,69 @@ anyhow_reading ask s s' (Err stop) anyhow = reading_anyhow (reach_of ask) s s' s
 names_reading : (ask : Ask) (s s' : Sources) (r : Result Plan Stop) → OnlyRead s.files s'.files → KeepsTo (reads_of ask) (writes_of ask) r
     → Names ask s s' r
 names_reading ask s s' (Ok plan) read keeps = keeps
-names_reading ask s s' (Err stop) read keeps = reading_stops (paths_of ask) (reach_of ask) (CommandAnswers ask s) s s' stop read keeps
+names_reading ask s s' (Err stop) read keeps = reading_stops (paths_of ask) (reach_of ask) (CommandAnswers ask s s') s s' stop read keeps
 
 pub planned : (ask : Ask) (s s' : Sources) (r : Result Plan Stop) → IsAtOnce ask → OnlyRead s.files s'.files
     → IfErr r (StopsReading s.files s'.files)
     → ((found : Finding) → FoundAt (question_of ask) s.files.contents found
-    → Gives effect_of s.files s'.files r (answer_to ask (told_of (outside_of s) found)).answer)
+    → Gives effect_of s.files s'.files r (answer_to ask (told_of (outside_of s s') found)).answer)
     → (s.files.told ≡ true → Tells s.files r → HasFinding (question_of ask) s.files.contents) → KeepsTo (reads_of ask) (writes_of ask) r
     → Planned ask s s' r
 planned ask s s' r once read anyhow answer found keeps = record {
   only = nothing_written (writes_of ask) s.files s'.files read;
   anyhow = anyhow_reading ask s s' r anyhow;
   answer = λ f at.
-      subst (λ (c : Course). Decides (reach_of ask) c s s' r) (sym (once (told_of (outside_of s) f)))
-      (decides_reading (reach_of ask) (answer_to ask (told_of (outside_of s) f)).answer s s' read r (answer f at));
+      subst (λ (c : Course). Decides (reach_of ask) c s s' r) (sym (once (told_of (outside_of s s') f)))
+      (decides_reading (reach_of ask) (answer_to ask (told_of (outside_of s s') f)).answer s s' read r (answer f at));
   found = found;
   names = names_reading ask s s' r read keeps;
 }
 
+-- ---- a command that also stops for what other miners did
+
+module _ (ask : Ask) (s s' : Sources) (r : Result Plan Stop) (once : IsAtOnce ask) (read : OnlyRead s.files s'.files)
+    (found : s.files.told ≡ true → Tells s.files r → HasFinding (question_of ask) s.files.contents)
+    (keeps : KeepsTo (reads_of ask) (writes_of ask) r) where
+  abbrev answer_in : Finding → Answer
+  answer_in found = (answer_to ask (told_of (outside_of s s') found)).answer
+
+  planned_so : IfErr r (StopsDecidingAnyhow (reach_of ask) s s')
+      → ((found : Finding) → FoundAt (question_of ask) s.files.contents found → Decides (reach_of ask) (at_once (answer_in found)) s s' r)
+      → Planned ask s s' r
+  planned_so anyhow decides = record {
+    only = nothing_written (writes_of ask) s.files s'.files read;
+    anyhow = anyhow;
+    answer = λ f at. subst (λ (c : Course). Decides (reach_of ask) c s s' r) (sym (once (told_of (outside_of s s') f))) (decides f at);
+    found = found;
+    names = names_reading ask s s' r read keeps;
+  }
+
+  anyhow_among : (Lost : Type 0) → (Lost → ((reach_of ask).links ≡ true) × Rose s.links.faults s'.links.faults) → (given : Result Plan Stop)
+      → IfErr given (StopsReadingAmong Lost (reach_of ask).breach s.files s'.files) → IfErr given (StopsDecidingAnyhow (reach_of ask) s s')
+  anyhow_among Lost rose (Ok plan) anyhow = tt
+  anyhow_among Lost rose (Err stop) anyhow = among_anyhow (reach_of ask) s s' stop rose anyhow
+
+  -- it reads the texts of miners
+  pub planned_texts : IfErr r (StopsReadingAmong ⊥ (reach_of ask).breach s.files s'.files)
+      → ((found : Finding) → FoundAt (question_of ask) s.files.contents found → GivesOfTexts effect_of s.files s'.files r (answer_in found))
+      → Planned ask s s' r
+  planned_texts anyhow gives =
+      planned_so (anyhow_among ⊥ (λ never. absurd never) r anyhow)
+      (λ f at. decides_texts (reach_of ask) (answer_in f) s s' read ⊥ r (gives f at) anyhow)
+
+  -- it reads what comes from peers
+  pub planned_peers : (reach_of ask).links ≡ true
+      → IfErr r (StopsReadingAmong (Rose s.links.faults s'.links.faults) (reach_of ask).breach s.files s'.files)
+      → ((found : Finding) → FoundAt (question_of ask) s.files.contents found
+      → GivesOfPeers effect_of s.files s'.files s.links s'.links r (answer_in found)) → Planned ask s s' r
+  planned_peers reached anyhow gives =
+      planned_so (anyhow_among (Rose s.links.faults s'.links.faults) (λ rose. (reached, rose)) r anyhow)
+      (λ f at. decides_peers (reach_of ask) (answer_in f) s s' read (Rose s.links.faults s'.links.faults) r reached (gives f at) anyhow)
+
 -- ---- a whole command
 
 module _ (ask : Ask) (a b : Sources) where
-  decided : (r : Result Plan Stop) → Planned ask a b r → (answer : Course) → CommandAnswers ask a answer → Decides (reach_of ask) answer a b r
+  decided : (r : Result Plan Stop) → Planned ask a b r → (answer : Course) → CommandAnswers ask a b answer → Decides (reach_of ask) answer a b r
   decided r p answer (found, at, is) = subst (λ (c : Course). Decides (reach_of ask) c a b r) is (p.answer found at)
 
   module _ (o e e' : SinkState) where
@@ -83,10 +125,10 @@ module _ (ask : Ask) (a b : Sources) where
 
   module _ (f : FilesState) (o o' e e' : SinkState) (plan : Plan) (p : Planned ask a b (Ok plan)) where
     finish_stops : (r : Result Status Stop) → Finishes (effect_of plan) b.files f o o' r
-        → IfErr r (StopsAtFile (paths_of ask) (reach_of ask) (CommandAnswers ask a) a (at_last b f))
+        → IfErr r (StopsAtFile (paths_of ask) (reach_of ask) (CommandAnswers ask a b) a (at_last b f))
     finish_stops (Ok s) finishes = tt
     finish_stops (Err stop) finishes =
-        writing_stops (paths_of ask) (reach_of ask) (CommandAnswers ask a) plan a b f o o' p.names (decided (Ok plan) p) stop finishes
+        writing_stops (paths_of ask) (reach_of ask) (CommandAnswers ask a b) plan a b f o o' p.names (decided (Ok plan) p) stop finishes
 
     pub obeyed_end : (r : Result Status Stop) → OnlyAmong (paths_of_writes (effect_of plan).writes) b.files f
         → Finishes (effect_of plan) b.files f o o' r → Obeyed ask (moment a o e) (moment (at_last b f) o' e') r
@@ -104,13 +146,13 @@ module _ (ask : Ask) (a b : Sources) where
 
 module _ (words : List (List ℕ)) (ask : Ask) (m m' : Moment) (e : words_of words ≡ Some ask) where
   named_stops : (r : Result Status Stop)
-      → IfErr r (StopsAtFile (paths_of ask) (reach_of ask) (CommandAnswers ask m.sources) m.sources m'.sources)
-      → IfErr r (StopsAtFile (paths_in words) (reach_in words) (WordsAnswer words m.sources) m.sources m'.sources)
+      → IfErr r (StopsAtFile (paths_of ask) (reach_of ask) (CommandAnswers ask m.sources m'.sources) m.sources m'.sources)
+      → IfErr r (StopsAtFile (paths_in words) (reach_in words) (WordsAnswer words m.sources m'.sources) m.sources m'.sources)
   named_stops (Ok s) stops = tt
   named_stops (Err stop) stops =
       rw (paths_by words ask e, reach_by words ask e)
-      (stops_so (paths_of ask) (reach_of ask) (CommandAnswers ask m.sources) (WordsAnswer words m.sources) m m' stop
-      (λ answer a. course_answers words ask (outside_of m.sources) answer e a) stops)
+      (stops_so (paths_of ask) (reach_of ask) (CommandAnswers ask m.sources m'.sources) (WordsAnswer words m.sources m'.sources) m m' stop
+      (λ answer a. course_answers words ask (outside_of m.sources m'.sources) answer e a) stops)
 
   pub acted_obeyed : (r : Result Status Stop) → Obeyed ask m m' r → Acted words m m' r
   acted_obeyed r b = record {
@@ -120,7 +162,7 @@ module _ (words : List (List ℕ)) (ask : Ask) (m m' : Moment) (e : words_of wor
     acts = λ answer a.
         subst (λ (reach : Reach). Acts reach answer m m' (words_of words) r) (sym (reach_by words ask e))
         (acts_as (words_of words) (reach_of ask) m m' (is_named words ask e) answer r
-        (b.ends answer (course_answers words ask (outside_of m.sources) answer e a)));
+        (b.ends answer (course_answers words ask (outside_of m.sources m'.sources) answer e a)));
     only =
         subst (λ (paths : Paths). OnlyAmong paths.written m.sources.files m'.sources.files) (sym (paths_by words ask e)) b.only;
     stops = named_stops r b.stops;
@@ -140,7 +182,7 @@ module _ (words : List (List ℕ)) (s : Sources) (o e e' : SinkState) where
     anyhow = (none, same_sink o, (unchanged s.files).same);
     acts = λ answer a. (none, same_sink o, (unchanged s.files).same);
     only = nothing_written (written_by words) s.files s.files (unchanged s.files);
-    stops = no_file_usage (paths_in words) (reach_in words) (WordsAnswer words s) s s;
+    stops = no_file_usage (paths_in words) (reach_in words) (WordsAnswer words s s) s s;
     found = λ t tells. found_of_usage words s.files.contents none (found_nothing s.files.contents);
     out = inl (same_sink o);
   }
@@ -150,7 +192,7 @@ module _ (words : List (List ℕ)) (s : Sources) (o e e' : SinkState) where
     anyhow = inl (same_sink o);
     acts = λ answer a. inl (same_sink o, λ t. inl (unchanged s.files).same);
     only = nothing_written (written_by words) s.files s.files (unchanged s.files);
-    stops = no_file_memory (paths_in words) (reach_in words) (WordsAnswer words s) s s;
+    stops = no_file_memory (paths_in words) (reach_in words) (WordsAnswer words s s) s s;
     found = λ t tells. absurd tells;
     out = inl (same_sink o);
   }

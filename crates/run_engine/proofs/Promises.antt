@@ -38,13 +38,13 @@ pub record IsEndingAnswer (words : List (List ℕ)) (outside : Outside) (effect 
 -- of a command that decides at once, and reaches no other programs
 module _ (words : List (List ℕ)) (m m' : Moment) (s : Status) (call : Call words m m' s)
     (ask : Ask) (asks : words_of words ≡ Some ask) (once : IsAtOnce ask) (told : AreTold (reach_of ask) m.sources) where
-  abbrev outside : Outside
-  outside = outside_of m.sources
+  abbrev told_here : Outside
+  told_here = outside_of m.sources m'.sources
 
   all_told : AreTold (reach_in words) m.sources
   all_told = subst (λ (r : Reach). AreTold r m.sources) (sym (reach_by words ask asks)) told
 
-  carried : (answer : Course) → IsAnswer words outside answer → CarriedOut m m' s answer ⊎ HasFailed (reach_of ask) m m' s
+  carried : (answer : Course) → IsAnswer words told_here answer → CarriedOut m m' s answer ⊎ HasFailed (reach_of ask) m m' s
   carried answer a =
       subst (λ (r : Reach). CarriedOut m m' s answer ⊎ HasFailed r m m' s) (reach_by words ask asks) (call.answer_carried_out answer a all_told)
 
@@ -56,7 +56,7 @@ module _ (words : List (List ℕ)) (m m' : Moment) (s : Status) (call : Call wor
   done effect ends is (inl whole) = record { status = whole.0.status; files = whole.0.files; text = whole.0.text }
   done effect ends is (inr failed) = no_fault_end (reach_of ask) m m' s (ap is_end is ∙ ends) failed
 
-  pub gives : (Wanted : Effect → Type 0) → ((effect : Effect) → Wanted effect → IsEndingAnswer words outside effect)
+  pub gives : (Wanted : Effect → Type 0) → ((effect : Effect) → Wanted effect → IsEndingAnswer words told_here effect)
       → Gives (reach_of ask) Wanted m m' s
   gives Wanted all effect wanted steady =
       let by = all effect wanted in
@@ -66,11 +66,11 @@ module _ (words : List (List ℕ)) (m m' : Moment) (s : Status) (call : Call wor
       ]
 
   -- an answer is at once
-  once_so : (answer : Course) → IsAnswer words outside answer → AnswersAtOnce words outside answer.answer
+  once_so : (answer : Course) → IsAnswer words told_here answer → AnswersAtOnce words told_here answer.answer
   once_so answer a =
-      let (found, at, is) = course_answers words ask outside answer asks a in
+      let (found, at, is) = course_answers words ask told_here answer asks a in
       let same : answer ≡ at_once answer.answer = sym is ∙ once _ ∙ ap (λ (c : Course). at_once c.answer) is in
-      subst (IsAnswer words outside) same a
+      subst (IsAnswer words told_here) same a
 
   answered_as : (answer : Course) → is_refusal s ≡ true → (reach_of ask).children ≡ false
       → CarriedOut m m' s answer ⊎ HasFailed (reach_of ask) m m' s → status_in_answer answer.answer ≡ s
@@ -79,10 +79,10 @@ module _ (words : List (List ℕ)) (m m' : Moment) (s : Status) (call : Call wor
 
   pub keeps : (refuses : Status → Bool) → (refuses s ≡ true → is_refusal s ≡ true) → (reach_of ask).children ≡ false
       → (Wanted : Effect → Type 0) (Refused : Status → Type 0) (ends : Status → Bool)
-      → ((effect : Effect) → Wanted effect → IsEndingAnswer words outside effect)
-      → ((answer : Answer) → AnswersAtOnce words outside answer → refuses (status_in_answer answer) ≡ true
+      → ((effect : Effect) → Wanted effect → IsEndingAnswer words told_here effect)
+      → ((answer : Answer) → AnswersAtOnce words told_here answer → refuses (status_in_answer answer) ≡ true
       → ends (status_in_answer answer) ≡ false → Refused (status_in_answer answer))
-      → ((status : Status) → Refused status → HasAnswerOf words outside status) → KeepsOf (reach_of ask) refuses Wanted Refused ends m m' s
+      → ((status : Status) → Refused status → HasAnswerOf words told_here status) → KeepsOf (reach_of ask) refuses Wanted Refused ends m m' s
   keeps refuses of alone Wanted Refused ends all only so = record {
     gives = gives Wanted all;
     refused_only = λ refusal unended.
@@ -104,7 +104,7 @@ as_refusal s refuses = rw refuses refl
 
 module _ (words : List (List ℕ)) (m m' : Moment) (s : Status) (call : Call words m m' s) where
   abbrev outside : Outside
-  outside = outside_of m.sources
+  outside = outside_of m.sources m'.sources
 
   abbrev refuses : (answer : Answer) → can_refuse (status_in_answer answer) ≡ true → is_end (status_in_answer answer) ≡ false
       → Refuses (status_in_answer answer)

@@ -51,9 +51,9 @@ found_so words ask m m' e (inr known) = inr (λ t. found_by words ask (contents_
 
 pub printed_so : (words : List (List ℕ)) (m m' : Moment)
     → PutsNothing m m' ⊎ (m.sources.files.told ≡ true → HasFinding (question_in words) (contents_in m))
-    → PutsNothing m m' ⊎ (m.sources.files.told ≡ true → HasAnswer words (outside_of m.sources))
+    → PutsNothing m m' ⊎ (m.sources.files.told ≡ true → HasAnswer words (outside_of m.sources m'.sources))
 printed_so words m m' (inl kept) = inl kept
-printed_so words m m' (inr known) = inr (λ t. has_answer words (outside_of m.sources) (known t))
+printed_so words m m' (inr known) = inr (λ t. has_answer words (outside_of m.sources m'.sources) (known t))
 
 pub no_words : (words : List (List ℕ)) (e : WordsErr) → e ≡ Usage → Reads ask_of (words_of words) (Err e) → words_of words ≡ None
 no_words words e is reads = subst (λ (x : WordsErr). Reads ask_of (words_of words) (Err x)) is reads

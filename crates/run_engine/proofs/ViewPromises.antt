@@ -19,7 +19,7 @@ use Rattle.run_engine.proofs.TwinRefusals.{twin_answered, twin_answered_so, twin
 
 module _ (words : List (List ℕ)) (m m' : Moment) (s : Status) (call : Call words m m' s) where
   abbrev outside : Outside
-  outside = outside_of m.sources
+  outside = outside_of m.sources m'.sources
 
   pub map_keeps : (ask : MapAsk) → Asks words m (map_tape ask)
       (Keeps (MapEffect ask (contents_in m)) (MapRefused ask (contents_in m)) is_done m m' s)

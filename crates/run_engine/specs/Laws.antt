@@ -23,18 +23,15 @@ pub record Laws (words : List (List ℕ)) (files : Contents) : Type 0 where
   pub compiled_code_means_program :
       (ask : CompileAsk) (program : TypedProgramTree) (reached : List Instance) → words_of words ≡ Some (compile ask)
       → HoldsTyped ask.program files program → IsReachedList program reached → CodeMeansProgram program reached
-
   -- Where the files hold what owners dealt the miner, each its own inputs from a dealer's tape of its own, what `gather` writes is what one dealer
   -- deals it of all their inputs, from one tape: the words that the owners use, in order, and then those that they leave.
   pub gathered_is_one_dealing :
       (ask : GatherAsk) (miners : Lengths) (owner : Owner) (owners : List Owner) → words_of words ≡ Some (gather ask)
       → HoldsDealt ask files miners owner owners → WritesOneDealing ask files miners owner owners
-
   -- The tapes that `map` writes correspond one to one with those that it reads; each keeps its length, and the miner's own its words.
   pub mapped_tapes_correspond :
       (ask : MapAsk) (program : TypedProgramTree) (entries : List Entry) (tapes : FourTapes) → words_of words ≡ Some (map_tape ask)
       → HoldsMap ask files program entries tapes → MapsCorrespond ask.miner program entries tapes ask.budget
-
   -- Where the files hold the public part, the opened words, also with more behind them, and the mapped tapes of a run, as `map` writes
   -- them, the words suffice for `simulate`, the delivery comes to what it comes to in the run, and the view is the one that the miner has of
   -- the run.
@@ -42,7 +39,6 @@ pub record Laws (words : List (List ℕ)) (files : Contents) : Type 0 where
       (ask : SimulateAsk) (program : TypedProgramTree) (entries : List Entry) (tapes : FourTapes) (more : List ℕ) (delivery : Delivery)
       → words_of words ≡ Some (simulate ask) → HoldsOfRun ask program entries tapes more delivery files → HaveWords entries tapes
       → IsOfRun ask program entries tapes more delivery
-
   -- Under every order of delivery the tapes that `twin` writes give the miner the same view, and the twin of the twin is the first tape.
   pub twins_see_the_same :
       (ask : TwinAsk) (program : TypedProgramTree) (first second : List Entry) (tapes : FourTapes) → words_of words ≡ Some (twin ask)

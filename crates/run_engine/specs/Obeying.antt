@@ -15,19 +15,19 @@ use Rattle.run_engine.specs.Told.{contents_in, outside_of, told_of}
 use Rattle.run_engine.specs.Words.{answer_to, paths_in, paths_of, question_in, question_of, reach_in, reach_of, writes_of, written_by, IsAnswer}
 
 -- an answer of a command over what is told
-abbrev pub CommandAnswers : Ask → Sources → Course → Type 0
-CommandAnswers ask s answer =
-    (found : Finding) × FoundAt (question_of ask) s.files.contents found × (answer_to ask (told_of (outside_of s) found) ≡ answer)
+abbrev pub CommandAnswers : Ask → (s s' : Sources) → Course → Type 0
+CommandAnswers ask s s' answer =
+    (found : Finding) × FoundAt (question_of ask) s.files.contents found × (answer_to ask (told_of (outside_of s s') found) ≡ answer)
 
 -- an answer to words
-abbrev pub WordsAnswer : List (List ℕ) → Sources → Course → Type 0
-WordsAnswer words s answer = IsAnswer words (outside_of s) answer
+abbrev pub WordsAnswer : List (List ℕ) → (s s' : Sources) → Course → Type 0
+WordsAnswer words s s' answer = IsAnswer words (outside_of s s') answer
 
 -- ---- until the command had decided
 
 -- a plan writes what its command writes; a stop at a file names the path
 abbrev pub Names : Ask → (s s' : Sources) → Result Plan Stop → Type 0
-Names ask s s' result = MatchResult result (PlanNames (writes_of ask)) (StopsAtFile (paths_of ask) (reach_of ask) (CommandAnswers ask s) s s')
+Names ask s s' result = MatchResult result (PlanNames (writes_of ask)) (StopsAtFile (paths_of ask) (reach_of ask) (CommandAnswers ask s s') s s')
 
 -- it read, and decided as it must
 pub record Planned (ask : Ask) (s s' : Sources) (r : Result Plan Stop) : Type 0 where
@@ -35,7 +35,7 @@ pub record Planned (ask : Ask) (s s' : Sources) (r : Result Plan Stop) : Type 0 
   pub anyhow : IfErr r (StopsDecidingAnyhow (reach_of ask) s s')
   pub answer :
       (found : Finding) → FoundAt (question_of ask) s.files.contents found
-      → Decides (reach_of ask) (answer_to ask (told_of (outside_of s) found)) s s' r
+      → Decides (reach_of ask) (answer_to ask (told_of (outside_of s s') found)) s s' r
   pub found : s.files.told ≡ true → Tells s.files r → HasFinding (question_of ask) s.files.contents
   pub names : Names ask s s' r
 
@@ -43,17 +43,17 @@ pub record Planned (ask : Ask) (s s' : Sources) (r : Result Plan Stop) : Type 0 
 
 pub record Obeyed (ask : Ask) (m m' : Moment) (r : Result Status Stop) : Type 0 where
   pub anyhow : EndsAnyhow (reach_of ask) m m' r
-  pub ends : (answer : Course) → CommandAnswers ask m.sources answer → EndsAs (reach_of ask) answer m m' r
+  pub ends : (answer : Course) → CommandAnswers ask m.sources m'.sources answer → EndsAs (reach_of ask) answer m m' r
   pub only : OnlyAmong (writes_of ask) m.sources.files m'.sources.files
-  pub stops : IfErr r (StopsAtFile (paths_of ask) (reach_of ask) (CommandAnswers ask m.sources) m.sources m'.sources)
+  pub stops : IfErr r (StopsAtFile (paths_of ask) (reach_of ask) (CommandAnswers ask m.sources m'.sources) m.sources m'.sources)
   pub found : m.sources.files.told ≡ true → Tells m.sources.files r → HasFinding (question_of ask) (contents_in m)
   pub out : PutsNothing m m' ⊎ (m.sources.files.told ≡ true → HasFinding (question_of ask) (contents_in m))
 
 -- what the words ask for
 pub record Acted (words : List (List ℕ)) (m m' : Moment) (r : Result Status Stop) : Type 0 where
   pub anyhow : ActsAnyhow (reach_in words) m m' (words_of words) r
-  pub acts : (answer : Course) → WordsAnswer words m.sources answer → Acts (reach_in words) answer m m' (words_of words) r
+  pub acts : (answer : Course) → WordsAnswer words m.sources m'.sources answer → Acts (reach_in words) answer m m' (words_of words) r
   pub only : OnlyAmong (written_by words) m.sources.files m'.sources.files
-  pub stops : IfErr r (StopsAtFile (paths_in words) (reach_in words) (WordsAnswer words m.sources) m.sources m'.sources)
+  pub stops : IfErr r (StopsAtFile (paths_in words) (reach_in words) (WordsAnswer words m.sources m'.sources) m.sources m'.sources)
   pub found : m.sources.files.told ≡ true → Tells m.sources.files r → HasFinding (question_in words) (contents_in m)
   pub out : PutsNothing m m' ⊎ (m.sources.files.told ≡ true → HasFinding (question_in words) (contents_in m))
