@@ -1,5 +1,5 @@
 -- What a call keeps: the promises of each command, the headline, and the laws.
-use Rattle.std.proofs.Common.{◌≡◌, ℕ, List}
+use Rattle.std.proofs.Common.{ℕ, List}
 use Rattle.outside.specs.Files.{Contents}
 use Rattle.command_frame.specs.declared.status.Status.{Status}
 use Rattle.command_frame.specs.Moments.{Moment}
