@@ -7,10 +7,10 @@ use Rattle.command_words.specs.Ask.{DealAsk, deal, words_of}
 use Rattle.program_commands.specs.Deal.{deal_of}
 use Rattle.program_commands.specs.Held.{DealRefused}
 use Rattle.run_engine.specs.Told.{Outside}
-use Rattle.run_engine.specs.Words.{answer_to, question_of, IsAnswer}
+use Rattle.run_engine.specs.Words.{answer_to, question_of}
 use Rattle.program_commands.proofs.Judged.{found_nothing}
 use Rattle.program_commands.proofs.Refusals.{status_in_answer}
-use Rattle.run_engine.proofs.Runs.{HasAnswerOf, command_answers, is_answer}
+use Rattle.run_engine.proofs.Runs.{AnswersAtOnce, HasAnswerOf, command_answers, is_answer}
 use Rattle.program_commands.proofs.Deals.{deal_refused, deal_refused_by}
 
 pub deal_answered_so : (words : List (List ℕ)) (ask : DealAsk) (outside : Outside) (s : Status) → words_of words ≡ Some (deal ask)
@@ -21,7 +21,7 @@ deal_answered_so words ask outside s asks out =
     (deal_of ask outside.files, is_answer words (deal ask) outside found asks any, deal_refused ask outside.files s out)
 
 pub deal_refused_only : (words : List (List ℕ)) (ask : DealAsk) (outside : Outside) → words_of words ≡ Some (deal ask) → (answer : Answer)
-    → IsAnswer words outside answer → can_refuse (status_in_answer answer) ≡ true → DealRefused ask outside.files (status_in_answer answer)
+    → AnswersAtOnce words outside answer → can_refuse (status_in_answer answer) ≡ true → DealRefused ask outside.files (status_in_answer answer)
 unfolding answer_to question_of
 deal_refused_only words ask outside asks answer a refusal =
     let (found, at, is) = command_answers words (deal ask) outside answer asks a in

@@ -10,11 +10,11 @@ use Rattle.program_commands.specs.Eval.{eval_of, eval_text, needs_of, need_text,
 use Rattle.program_commands.specs.Judging.{Finding}
 use Rattle.program_commands.specs.Held.{HoldsEvaluation, Evaluates, EvalRefused}
 use Rattle.run_engine.specs.Told.{Outside}
-use Rattle.run_engine.specs.Words.{answer_to, question_of, IsAnswer}
+use Rattle.run_engine.specs.Words.{answer_to, question_of}
 use Rattle.program_commands.proofs.EvalRefusals.{report_refused_only}
 use Rattle.program_commands.proofs.Held.{found_of, found_there}
 use Rattle.program_commands.proofs.Refusals.{Refuses, status_in_answer}
-use Rattle.run_engine.proofs.Runs.{HasAnswerOf, command_answers, is_answer}
+use Rattle.run_engine.proofs.Runs.{AnswersAtOnce, HasAnswerOf, command_answers, is_answer}
 use Rattle.program_commands.proofs.Evals.{no_report, report_there}
 
 -- ---- files that are as they must be
@@ -24,20 +24,20 @@ printed text report = Ok (report_effect text report)
 
 pub eval_answered : (words : List (List ℕ)) (ask : EvalAsk) (outside : Outside) (p : TypedProgramTree) (entries : List Entry)
     → words_of words ≡ Some (eval ask) → HoldsEvaluation ask outside.files p entries
-    → IsAnswer words outside (printed eval_text (report_for p entries ask.budget))
+    → AnswersAtOnce words outside (printed eval_text (report_for p entries ask.budget))
 unfolding answer_to question_of eval_of
 eval_answered words ask outside p entries asks h =
     let found : Finding = found_of ask.program outside.files p h.program in
-    subst (IsAnswer words outside) (rw (report_there ask outside.files p entries h) refl)
+    subst (AnswersAtOnce words outside) (rw (report_there ask outside.files p entries h) refl)
     (is_answer words (eval ask) outside found asks (found_there ask.program outside.files p h.program))
 
 pub need_answered : (words : List (List ℕ)) (ask : EvalAsk) (outside : Outside) (p : TypedProgramTree) (entries : List Entry)
     → words_of words ≡ Some (need ask) → HoldsEvaluation ask outside.files p entries
-    → IsAnswer words outside (printed need_text (report_for p entries ask.budget))
+    → AnswersAtOnce words outside (printed need_text (report_for p entries ask.budget))
 unfolding answer_to question_of needs_of
 need_answered words ask outside p entries asks h =
     let found : Finding = found_of ask.program outside.files p h.program in
-    subst (IsAnswer words outside) (rw (report_there ask outside.files p entries h) refl)
+    subst (AnswersAtOnce words outside) (rw (report_there ask outside.files p entries h) refl)
     (is_answer words (need ask) outside found asks (found_there ask.program outside.files p h.program))
 
 -- ---- files that are refused
@@ -53,7 +53,7 @@ eval_answered_so words ask outside s (inr asks) out =
     (needs_of found ask outside.files, is_answer words (need ask) outside found asks at, rw e (sym is))
 
 pub eval_refused_so : (words : List (List ℕ)) (ask : EvalAsk) (outside : Outside) → Evaluates (words_of words) ask → (answer : Answer)
-    → IsAnswer words outside answer
+    → AnswersAtOnce words outside answer
     → Refuses (status_in_answer answer) → EvalRefused ask outside.files (status_in_answer answer)
 unfolding answer_to question_of eval_of needs_of
 eval_refused_so words ask outside (inl asks) answer a why =

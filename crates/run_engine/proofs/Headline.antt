@@ -1,13 +1,13 @@
 -- The sentences of the headline, from what `run` keeps and from the laws of evaluation and of views.
-use Rattle.std.proofs.Common.{◌≡◌, ◌≢◌, ◌≤◌, ◌⊎◌, ℕ, ℤ, List, [], true, false, Some, Err, refl, ap, subst, sym, ◌∙◌, inl, inr}
-use Rattle.outside.specs.Files.{Contents, FilesState}
-use Rattle.outside.specs.Sink.{SinkState}
+use Rattle.std.proofs.Common.{◌≡◌, ◌≢◌, ◌≤◌, ◌⊎◌, ℕ, List, [], true, false, Some, Err, refl, ap, subst, sym, ◌∙◌, inl, inr}
+use Rattle.outside.specs.Files.{Contents}
 use Rattle.command_frame.specs.declared.status.Status.{Status}
 use Rattle.command_frame.specs.declared.status.Status.TheVariants as statuses
-use Rattle.command_frame.specs.Answer.{Answer, Cause}
+use Rattle.command_frame.specs.Answer.{Cause, at_once}
 use Rattle.command_frame.specs.Finish.{PutLine}
+use Rattle.command_frame.specs.Moments.{AreSteady, AreTold, Moment, Reach, files_alone}
 use Rattle.command_frame.specs.Status.{can_refuse, is_end}
-use Rattle.command_frame.specs.Whole.{CarriedOut, HasFailed, IsAnswered, IsDone}
+use Rattle.command_frame.specs.Whole.{CarriedOut, HasFailed, IsDone}
 use Rattle.command_words.specs.Ask.{RunAsk, run, words_of}
 use Rattle.sc_text.specs.declared.end.Ending.TheVariants.{Done, Trap, Budget, Tape}
 use Rattle.clear_eval.specs.Offers.{offered}
@@ -24,50 +24,62 @@ use Rattle.typed_tree.specs.Programs.{TypedProgramTree}
 use Rattle.value_file.specs.declared.inputs.Entry.{Entry}
 use Rattle.run_engine.specs.Headline.{EndsByBudgetAndTapes, EndsSomewhere, Given, IsGiven, PrintsEvaluation, RefusesSchedule, ScheduleRefused}
 use Rattle.run_engine.specs.Headline.{WritesViewsAndLinks, is_whole, net_given, not_a_schedule, not_complete, refused_line}
-use Rattle.run_engine.specs.Promises.{AllSteady, Gives, Keeps, RunEffect}
+use Rattle.run_engine.specs.Call.{Call}
+use Rattle.run_engine.specs.Promises.{Gives, Keeps, RunEffect}
+use Rattle.run_engine.specs.Told.{contents_in, outside_of}
 use Rattle.miner_commands.specs.Run.{run_report, run_told}
 use Rattle.program_commands.specs.Schedules.{refused_with}
 use Rattle.run_engine.specs.Runs.{IsNotTaken, RunRefused, bad_program, bad_input, bad_tape, bad_schedule, not_taken}
 use Rattle.program_commands.specs.Held.{ProgramRefused, bad_text, too_large}
-use Rattle.run_engine.specs.Words.{IsAnswer}
-use Rattle.run_engine.proofs.Promises.{outside_with}
+use Rattle.run_engine.specs.Words.{reach_in}
+use Rattle.run_engine.proofs.Promises.{told_alone}
 use Rattle.run_engine.proofs.RunRefusals.{run_refused_by_net}
+use Rattle.run_engine.proofs.Runs.{AnswersAtOnce, reach_by}
 
 -- ---- a complete delivery
 
-module _ (words : List (List ℕ)) (f f' : FilesState) (o o' : SinkState) (s : Status)
-    (gives : (ask : RunAsk) → words_of words ≡ Some (run ask) → Gives (RunEffect ask f.contents) f f' o o' s)
-    (g : Given) (given : IsGiven words f.contents g) (taken : net_given g ≡ Accepted) (steady : AllSteady f o) where
-  done : IsDone (run_told g.ask g.program g.entries g.tapes g.delivery) f f' o o' s ⊎ (s ≡ statuses.Memory)
+module _ (words : List (List ℕ)) (m m' : Moment) (s : Status)
+    (gives : (ask : RunAsk) → words_of words ≡ Some (run ask) → Gives files_alone (RunEffect ask (contents_in m)) m m' s)
+    (g : Given) (given : IsGiven words (contents_in m) g) (taken : net_given g ≡ Accepted) (steady : AreSteady files_alone m) where
+  done : IsDone m m' (run_told g.ask g.program g.entries g.tapes g.delivery) s ⊎ (s ≡ statuses.Memory)
   done =
       gives g.ask given.asks (run_told g.ask g.program g.entries g.tapes g.delivery)
       (g.program, g.entries, g.tapes, g.delivery, given.held, taken, refl) steady
 
-  pub prints : PrintsEvaluation g o o' s
+  pub prints : PrintsEvaluation g m.out m'.out s
   unfolding run_report
   prints = elim done [ inl whole ↦ inl (whole.status, whole.text) | inr memory ↦ inr memory ]
 
-  pub writes : WritesViewsAndLinks g f.contents f'.contents s
+  pub writes : WritesViewsAndLinks g (contents_in m) (contents_in m') s
   writes = elim done [ inl whole ↦ inl whole.files | inr memory ↦ inr memory ]
 
 -- ---- one that is refused
 
-module _ (words : List (List ℕ)) (coming : ℕ → List ℕ) (status : ℕ → ℤ) (f f' : FilesState) (o o' e e' : SinkState) (s : Status)
-    (carried : (answer : Answer) → IsAnswer words (outside_with f coming status) answer → CarriedOut answer f f' o o' e e' s ⊎ HasFailed f f' o o' s)
-    (complete : (answer : Answer) → IsAnswer words (outside_with f coming status) answer → AllSteady f o → IsAnswered answer s ⊎ (s ≡ statuses.Memory)) where
-  -- a status that tells no fault is that of an answer that is carried out
-  said : (c : Cause) → c.status ≡ statuses.Schedule → s ≡ c.status → CarriedOut (Err c) f f' o o' e e' s ⊎ HasFailed f f' o o' s → PutLine c.line e e'
-  said c is same (inl carried) = carried.1
-  said c is same (inr failed) =
-      let wrong : HasFailed f f' o o' statuses.Schedule = subst (λ (x : Status). HasFailed f f' o o' x) (same ∙ is) failed in
-      absurd wrong
+-- a status that tells no fault is that of an answer that is carried out
+said : (m m' : Moment) (s : Status) (c : Cause) → c.status ≡ statuses.Schedule → s ≡ c.status
+    → CarriedOut m m' s (at_once (Err c)) ⊎ HasFailed files_alone m m' s → PutLine c.line m.err m'.err
+said m m' s c is same (inl carried) = carried.1
+said m m' s c is same (inr failed) =
+    let wrong : HasFailed files_alone m m' statuses.Schedule = subst (λ (x : Status). HasFailed files_alone m m' x) (same ∙ is) failed in
+    absurd wrong
 
-  pub refuses : (g : Given) → IsGiven words f.contents g → IsNotTaken (net_given g) → AllSteady f o → RefusesSchedule g e e' s
-  refuses g given refused steady =
-      let answer : IsAnswer words (outside_with f coming status) (Err (refused_with (refused_line (net_given g)))) =
-      run_refused_by_net words g.ask (outside_with f coming status) g.program g.entries g.tapes g.delivery given.asks given.held refused in
-      elim (complete (Err (refused_with (refused_line (net_given g)))) answer steady) [
-        | inl is ↦ inl (is, said (refused_with (refused_line (net_given g))) refl is (carried (Err (refused_with (refused_line (net_given g)))) answer))
+module _ (words : List (List ℕ)) (m m' : Moment) (s : Status) (call : Call words m m' s) where
+  pub refuses : (g : Given) → IsGiven words (contents_in m) g → IsNotTaken (net_given g) → m.sources.files.told ≡ true → AreSteady files_alone m
+      → RefusesSchedule g m.err m'.err s
+  refuses g given refused t steady =
+      let cause : Cause = refused_with (refused_line (net_given g)) in
+      let answer : AnswersAtOnce words (outside_of m.sources m'.sources) (Err cause) =
+      run_refused_by_net words g.ask (outside_of m.sources m'.sources) g.program g.entries g.tapes g.delivery given.asks given.held refused in
+      let alone : files_alone ≡ reach_in words = sym (reach_by words (run g.ask) given.asks) in
+      let told : AreTold (reach_in words) m.sources = subst (λ (r : Reach). AreTold r m.sources) alone (told_alone m.sources t) in
+      elim (call.complete (at_once (Err cause)) answer (subst (λ (r : Reach). AreSteady r m) alone steady) told) [
+        | inl is ↦
+            inl (
+              is,
+              said m m' s cause refl is
+                  (subst (λ (r : Reach). CarriedOut m m' s (at_once (Err cause)) ⊎ HasFailed r m m' s) (sym alone)
+                  (call.answer_carried_out (at_once (Err cause)) answer told)),
+            )
         | inr memory ↦ inr memory
       ]
 
@@ -84,10 +96,10 @@ only_refused ask files (bad_schedule is p h entries inputs tapes taped path byte
 only_refused ask files (not_taken is p entries tapes delivery h refused) =
     not_complete (record { ask = ask; program = p; entries = entries; tapes = tapes; delivery = delivery }) refl h refused
 
-pub schedule_refused : (ask : RunAsk) (f f' : FilesState) (o o' : SinkState) (s : Status) → s ≡ statuses.Schedule
-    → Keeps (RunEffect ask f.contents) (RunRefused ask f.contents) is_end f f' o o' s → ScheduleRefused ask f.contents
-schedule_refused ask f f' o o' s is keeps =
-    only_refused ask f.contents (subst (RunRefused ask f.contents) is (keeps.refused_only (ap can_refuse is) (ap is_end is)))
+pub schedule_refused : (ask : RunAsk) (m m' : Moment) (s : Status) → s ≡ statuses.Schedule
+    → Keeps (RunEffect ask (contents_in m)) (RunRefused ask (contents_in m)) is_end m m' s → ScheduleRefused ask (contents_in m)
+schedule_refused ask m m' s is keeps =
+    only_refused ask (contents_in m) (subst (RunRefused ask (contents_in m)) is (keeps.refused_only (ap can_refuse is) (ap is_end is)))
 
 -- ---- how a run ends
 

@@ -1,7 +1,9 @@
+pub mod Calls
 mod Deals
 pub mod Evals
 pub mod Gathers
 pub mod Headline
+pub mod Kept
 pub mod MapRefusals
 pub mod Loads
 pub mod Miners

@@ -17,12 +17,12 @@ use Rattle.program_commands.specs.Programs.{program_at}
 use Rattle.program_commands.specs.Reading.{bad_input, bad_tape, inputs_at, tape_file_at}
 use Rattle.program_commands.specs.Held.{HoldsTyped}
 use Rattle.run_engine.specs.Told.{Outside}
-use Rattle.run_engine.specs.Words.{answer_to, question_of, IsAnswer}
+use Rattle.run_engine.specs.Words.{answer_to, question_of}
 use Rattle.program_commands.proofs.Accepting.{program_cases, refused_by_program}
 use Rattle.program_commands.proofs.Held.{found_of, found_there, no_program, program_there}
 use Rattle.program_commands.proofs.Refusals.{ReadRefused, input_status, inputs_refused, not_done, not_missing, refusing, status_in_answer, status_of_cause}
 use Rattle.program_commands.proofs.Refusals.{steps, tape_file_refused, tape_status}
-use Rattle.run_engine.proofs.Runs.{HasAnswerOf, command_answers, is_answer}
+use Rattle.run_engine.proofs.Runs.{AnswersAtOnce, HasAnswerOf, command_answers, is_answer}
 use Rattle.program_commands.proofs.Held.{read_there}
 
 -- ---- files that are as they must be
@@ -36,10 +36,10 @@ unfolding map_of
 map_there ask files p entries tapes h = rw (program_there ask.program files p h.program h.program.within.list, h.inputs, h.tapes) refl
 
 pub map_answered : (words : List (List ℕ)) (ask : MapAsk) (outside : Outside) (p : TypedProgramTree) (entries : List Entry) (tapes : FourTapes)
-    → words_of words ≡ Some (map_tape ask) → HoldsMap ask outside.files p entries tapes → IsAnswer words outside (mapped_to ask p entries tapes)
+    → words_of words ≡ Some (map_tape ask) → HoldsMap ask outside.files p entries tapes → AnswersAtOnce words outside (mapped_to ask p entries tapes)
 unfolding answer_to question_of
 map_answered words ask outside p entries tapes asks h =
-    subst (IsAnswer words outside) (map_there ask outside.files p entries tapes h)
+    subst (AnswersAtOnce words outside) (map_there ask outside.files p entries tapes h)
     (is_answer words (map_tape ask) outside (found_of ask.program outside.files p h.program) asks (found_there ask.program outside.files p h.program))
 
 -- ---- files that are refused
@@ -117,7 +117,7 @@ module _ (found : Finding) (ask : MapAsk) (files : Contents) (h : FoundAt (its_p
       ]
 
 pub map_refused_only : (words : List (List ℕ)) (ask : MapAsk) (outside : Outside) → words_of words ≡ Some (map_tape ask) → (answer : Answer)
-    → IsAnswer words outside answer → can_refuse (status_in_answer answer) ≡ true → MapRefused ask outside.files (status_in_answer answer)
+    → AnswersAtOnce words outside answer → can_refuse (status_in_answer answer) ≡ true → MapRefused ask outside.files (status_in_answer answer)
 unfolding answer_to question_of
 map_refused_only words ask outside asks answer a refusal =
     let (found, at, is) = command_answers words (map_tape ask) outside answer asks a in

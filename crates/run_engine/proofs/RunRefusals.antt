@@ -23,12 +23,12 @@ use Rattle.run_engine.specs.Runs.{HoldsRun, IsNotTaken, RunRefused, net_for, not
 use Rattle.program_commands.specs.Held.{HoldsTyped}
 use Rattle.run_engine.specs.Runs.{bad_program, bad_input as input_refused, bad_schedule as schedule_refused, bad_tape as tape_refused}
 use Rattle.run_engine.specs.Told.{Outside}
-use Rattle.run_engine.specs.Words.{answer_to, question_of, IsAnswer}
+use Rattle.run_engine.specs.Words.{answer_to, question_of}
 use Rattle.program_commands.proofs.Held.{found_of, found_there, no_program, program_there}
 use Rattle.program_commands.proofs.Accepting.{program_cases, refused_by_program}
 use Rattle.program_commands.proofs.Refusals.{Refuses, ReadRefused, input_status, inputs_refused, no_ending, not_missing, order_refused, refusing}
 use Rattle.program_commands.proofs.Refusals.{schedule_status, status_in_answer, status_of_cause, steps, tape_status, tapes_refused}
-use Rattle.run_engine.proofs.Runs.{HasAnswerOf, command_answers, is_answer}
+use Rattle.run_engine.proofs.Runs.{AnswersAtOnce, HasAnswerOf, command_answers, is_answer}
 use Rattle.program_commands.proofs.Held.{read_there}
 
 -- ---- files that are as they must be
@@ -53,10 +53,10 @@ taken_so ask p entries tapes delivery accepted = rw accepted refl
 
 pub run_answered : (words : List (List ℕ)) (ask : RunAsk) (outside : Outside) (p : TypedProgramTree) (entries : List Entry) (tapes : FourTapes)
     (delivery : Delivery) → words_of words ≡ Some (run ask) → HoldsRun ask outside.files p entries tapes delivery
-    → net_for ask p entries tapes delivery ≡ Accepted → IsAnswer words outside (ran ask p entries tapes delivery)
+    → net_for ask p entries tapes delivery ≡ Accepted → AnswersAtOnce words outside (ran ask p entries tapes delivery)
 unfolding answer_to question_of
 run_answered words ask outside p entries tapes delivery asks h accepted =
-    subst (IsAnswer words outside) (run_there ask outside.files p entries tapes delivery h ∙ taken_so ask p entries tapes delivery accepted)
+    subst (AnswersAtOnce words outside) (run_there ask outside.files p entries tapes delivery h ∙ taken_so ask p entries tapes delivery accepted)
     (is_answer words (run ask) outside (found_of ask.program outside.files p h.program) asks (found_there ask.program outside.files p h.program))
 
 -- ---- files that are refused, and schedules
@@ -79,10 +79,10 @@ refused_so (Stalled miner link) more refused = refl
 
 pub run_refused_by_net : (words : List (List ℕ)) (ask : RunAsk) (outside : Outside) (p : TypedProgramTree) (entries : List Entry) (tapes : FourTapes)
     (delivery : Delivery) → words_of words ≡ Some (run ask) → HoldsRun ask outside.files p entries tapes delivery
-    → IsNotTaken (net_for ask p entries tapes delivery) → IsAnswer words outside (Err (refused_with (refused_line (net_for ask p entries tapes delivery))))
+    → IsNotTaken (net_for ask p entries tapes delivery) → AnswersAtOnce words outside (Err (refused_with (refused_line (net_for ask p entries tapes delivery))))
 unfolding answer_to question_of
 run_refused_by_net words ask outside p entries tapes delivery asks h refused =
-    subst (IsAnswer words outside)
+    subst (AnswersAtOnce words outside)
     (run_there ask outside.files p entries tapes delivery h
     ∙ refused_so (net_for ask p entries tapes delivery) (λ taken. ran ask p entries tapes delivery) refused)
     (is_answer words (run ask) outside (found_of ask.program outside.files p h.program) asks (found_there ask.program outside.files p h.program))
@@ -209,7 +209,7 @@ module _ (found : Finding) (ask : RunAsk) (files : Contents) (h : FoundAt (its_p
       ]
 
 pub run_refused_only : (words : List (List ℕ)) (ask : RunAsk) (outside : Outside) → words_of words ≡ Some (run ask) → (answer : Answer)
-    → IsAnswer words outside answer → Refuses (status_in_answer answer) → RunRefused ask outside.files (status_in_answer answer)
+    → AnswersAtOnce words outside answer → Refuses (status_in_answer answer) → RunRefused ask outside.files (status_in_answer answer)
 unfolding answer_to question_of
 run_refused_only words ask outside asks answer a why =
     let (found, at, is) = command_answers words (run ask) outside answer asks a in

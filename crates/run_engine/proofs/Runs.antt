@@ -1,13 +1,14 @@
 -- The answers to words: what the words ask for of the files, the program's file among them.
-use Rattle.std.proofs.Common.{◌≡◌, ◌≤◌, ◌⊎◌, ℕ, List, length, true, Some, None, Ok, Err, refl, subst, sym, ◌∙◌, inl, inr}
+use Rattle.std.proofs.Common.{◌≡◌, ◌≤◌, ◌⊎◌, ℕ, List, length, true, false, Some, None, Ok, Err, refl, ap, subst, sym, ◌∙◌, inl, inr}
 use Rattle.std.proofs.lemmas.Bool.{false≢true}
-use Rattle.outside.specs.Files.{Contents, FilesState}
-use Rattle.outside.specs.Sink.{SinkState}
+use Rattle.outside.specs.Files.{Contents}
 use Rattle.command_frame.specs.declared.status.Status.{Status}
 use Rattle.command_frame.specs.declared.status.Status.TheVariants as statuses
-use Rattle.command_frame.specs.Answer.{Answer, usage}
-use Rattle.command_frame.specs.Status.{can_refuse, is_end}
-use Rattle.command_frame.specs.Whole.{CarriedOut, HasFailed}
+use Rattle.command_frame.specs.Answer.{Answer, Course, Written, at_once, usage}
+use Rattle.command_frame.specs.Moments.{Moment, Reach, files_alone}
+use Rattle.command_frame.specs.Status.{is_end}
+use Rattle.command_frame.specs.Whole.{CarriedOut, CarriedSo, HasFailed}
+use Rattle.command_frame.proofs.Statuses.{never}
 use Rattle.command_words.specs.Ask.{Ask, DealAsk, deal, words_of}
 use Rattle.input_share.specs.Dealing.{need_of}
 use Rattle.tape_file.specs.Tapes.{FourTapes}
@@ -15,16 +16,16 @@ use Rattle.value_file.specs.declared.inputs.Entry.{Entry}
 use Rattle.program_commands.specs.Deal.{deal_effect}
 use Rattle.program_commands.specs.Judging.{Finding, FoundAt, HasFinding, Question, nothing}
 use Rattle.program_commands.specs.Held.{HoldsDeal}
-use Rattle.run_engine.specs.Words.{answer_to, answer_of, question_of, question_in, reads_of, read_by, writes_of, written_by, IsAnswer, HasAnswer}
-use Rattle.run_engine.specs.Obeying.{CommandAnswers, WordsAnswer}
+use Rattle.run_engine.specs.Promises.{is_refusal}
+use Rattle.run_engine.specs.Words.{answer_to, answer_of, paths_in, paths_of, question_of, question_in, reach_in, reach_of, IsAnswer, HasAnswer}
 use Rattle.run_engine.specs.Told.{Outside, Told, told_of}
 use Rattle.program_commands.proofs.Refusals.{status_in_answer}
 use Rattle.program_commands.proofs.Deals.{deal_answer}
 
 -- ---- words and answers
 
-pub no_command : (words : List (List ℕ)) (outside : Outside) (answer : Answer) → IsAnswer words outside answer → words_of words ≡ None
-    → answer ≡ Err usage
+pub no_command : (words : List (List ℕ)) (outside : Outside) (answer : Course) → IsAnswer words outside answer → words_of words ≡ None
+    → answer ≡ at_once (Err usage)
 unfolding answer_of
 no_command words outside answer a none = a.is ∙ rw none refl
 
@@ -32,13 +33,17 @@ answered_by : (words : List (List ℕ)) (ask : Ask) (told : Told) → words_of w
 unfolding answer_of
 answered_by words ask told e = rw e refl
 
-pub reads_by : (words : List (List ℕ)) (ask : Ask) → words_of words ≡ Some ask → read_by words ≡ reads_of ask
-unfolding read_by
-reads_by words ask e = rw e refl
+pub paths_by : (words : List (List ℕ)) (ask : Ask) → words_of words ≡ Some ask → paths_in words ≡ paths_of ask
+unfolding paths_in
+paths_by words ask e = rw e refl
 
-pub writes_by : (words : List (List ℕ)) (ask : Ask) → words_of words ≡ Some ask → written_by words ≡ writes_of ask
-unfolding written_by
-writes_by words ask e = rw e refl
+pub reach_by : (words : List (List ℕ)) (ask : Ask) → words_of words ≡ Some ask → reach_in words ≡ reach_of ask
+unfolding reach_in
+reach_by words ask e = rw e refl
+
+pub reach_of_usage : (words : List (List ℕ)) → words_of words ≡ None → reach_in words ≡ files_alone
+unfolding reach_in
+reach_of_usage words e = rw e refl
 
 question_by : (words : List (List ℕ)) (ask : Ask) → words_of words ≡ Some ask → question_in words ≡ question_of ask
 unfolding question_in
@@ -49,25 +54,28 @@ unfolding question_in
 no_question words e = rw e refl
 
 -- an answer of a command, of what is found of its program
-abbrev pub AnswersCommand : Ask → Outside → Answer → Type 0
+abbrev pub AnswersCommand : Ask → Outside → Course → Type 0
 AnswersCommand ask outside answer =
     (found : Finding) × FoundAt (question_of ask) outside.files found × (answer_to ask (told_of outside found) ≡ answer)
 
 -- an answer to the words is the command's
-pub command_answers : (words : List (List ℕ)) (ask : Ask) (outside : Outside) (answer : Answer) → words_of words ≡ Some ask
+pub course_answers : (words : List (List ℕ)) (ask : Ask) (outside : Outside) (answer : Course) → words_of words ≡ Some ask
     → IsAnswer words outside answer → AnswersCommand ask outside answer
-command_answers words ask outside answer e a = (
+course_answers words ask outside answer e a = (
   a.found,
   subst (λ (q : Question). FoundAt q outside.files a.found) (question_by words ask e) a.of_program,
   sym (a.is ∙ answered_by words ask (told_of outside a.found) e),
 )
 
--- the same over these files, whatever else is told
-pub command_answers_over : (words : List (List ℕ)) (ask : Ask) (files : Contents) (answer : Answer) → words_of words ≡ Some ask
-    → WordsAnswer words files answer → CommandAnswers ask files answer
-command_answers_over words ask files answer e (coming, status, a) =
-    let (found, at, is) = command_answers words ask (record { files = files; coming = coming; status = status }) answer e a in
-    (coming, status, found, at, is)
+-- of a command that decides at once
+abbrev pub AnswersAtOnce : List (List ℕ) → Outside → Answer → Type 0
+AnswersAtOnce words outside answer = IsAnswer words outside (at_once answer)
+
+pub command_answers : (words : List (List ℕ)) (ask : Ask) (outside : Outside) (answer : Answer) → words_of words ≡ Some ask
+    → AnswersAtOnce words outside answer
+    → (found : Finding) × FoundAt (question_of ask) outside.files found × ((answer_to ask (told_of outside found)).answer ≡ answer)
+command_answers words ask outside answer e a =
+    let (found, at, is) = course_answers words ask outside (at_once answer) e a in (found, at, ap (λ (c : Course). c.answer) is)
 
 -- and the other way round
 pub is_answer : (words : List (List ℕ)) (ask : Ask) (outside : Outside) (found : Finding) → words_of words ≡ Some ask
@@ -97,64 +105,69 @@ dealt to entries tapes = Ok (deal_effect to entries tapes)
 
 pub deal_answered : (words : List (List ℕ)) (ask : DealAsk) (entries : List Entry) (tapes : FourTapes) (outside : Outside)
     → words_of words ≡ Some (deal ask) → HoldsDeal ask outside.files entries tapes → need_of entries ≤ length tapes.dealer
-    → HasFinding nothing outside.files → IsAnswer words outside (dealt ask.to entries tapes)
+    → HasFinding nothing outside.files → AnswersAtOnce words outside (dealt ask.to entries tapes)
 unfolding answer_to question_of
 deal_answered words ask entries tapes outside asks h most (found, any) =
-    subst (IsAnswer words outside) (deal_answer ask outside.files entries tapes h most) (is_answer words (deal ask) outside found asks any)
+    subst (AnswersAtOnce words outside) (deal_answer ask outside.files entries tapes h most) (is_answer words (deal ask) outside found asks any)
 
 -- ---- files that are refused
 
-pub carried_status : (answer : Answer) (f f' : FilesState) (o o' e e' : SinkState) (s : Status) → CarriedOut answer f f' o o' e e' s
-    → status_in_answer answer ≡ s
-carried_status (Ok x) f f' o o' e e' s c = sym c.0.status
-carried_status (Err x) f f' o o' e e' s c = sym c.0
-
 -- an answer of this status
 abbrev pub HasAnswerOf : List (List ℕ) → Outside → Status → Type 0
-HasAnswerOf words outside s = (answer : Answer) × IsAnswer words outside answer × (status_in_answer answer ≡ s)
+HasAnswerOf words outside s = (answer : Answer) × AnswersAtOnce words outside answer × (status_in_answer answer ≡ s)
 
-pub refused_if : (answer : Answer) (why : Status) (f f' : FilesState) (o o' e e' : SinkState) (s : Status) → status_in_answer answer ≡ why
-    → CarriedOut answer f f' o o' e e' s ⊎ HasFailed f f' o o' s → (s ≡ why) ⊎ HasFailed f f' o o' s
-refused_if answer why f f' o o' e e' s is (inl carried) = inl (sym (carried_status answer f f' o o' e e' s carried) ∙ is)
-refused_if answer why f f' o o' e e' s is (inr failed) = inr failed
+module _ (reach : Reach) (m m' : Moment) (s : Status) where
+  pub carried_status : (answer : Course) → CarriedOut m m' s answer → status_in_answer answer.answer ≡ s
+  carried_status answer c = by_answer answer.first answer.answer c
+    where
+      by_answer : (first : List Written) (answer : Answer) → CarriedSo m m' s first answer → status_in_answer answer ≡ s
+      by_answer first (Ok x) c = sym c.0.status
+      by_answer first (Err x) c = sym c.0
 
--- over files and the output alone no fault is told by the status of a refusal, and none by that of an end
-pub no_fault_refusal : {X : Type 0} (f f' : FilesState) (o o' : SinkState) (s : Status) → can_refuse s ≡ true → HasFailed f f' o o' s → X
-no_fault_refusal f f' o o' statuses.Done r failed = absurd failed
-no_fault_refusal f f' o o' statuses.Trap r failed = absurd failed
-no_fault_refusal f f' o o' statuses.Usage r failed = absurd failed
-no_fault_refusal f f' o o' statuses.Program r failed = absurd failed
-no_fault_refusal f f' o o' statuses.Input r failed = absurd failed
-no_fault_refusal f f' o o' statuses.TapeFile r failed = absurd failed
-no_fault_refusal f f' o o' statuses.Schedule r failed = absurd failed
-no_fault_refusal f f' o o' statuses.Budget r failed = absurd failed
-no_fault_refusal f f' o o' statuses.Tape r failed = absurd failed
-no_fault_refusal f f' o o' statuses.File r failed = absurd (false≢true r)
-no_fault_refusal f f' o o' statuses.Link r failed = absurd failed
-no_fault_refusal f f' o o' statuses.Peer r failed = absurd failed
-no_fault_refusal f f' o o' statuses.Child r failed = absurd failed
-no_fault_refusal f f' o o' statuses.Disagree r failed = absurd failed
-no_fault_refusal f f' o o' statuses.NotAlike r failed = absurd failed
-no_fault_refusal f f' o o' statuses.OpenedShort r failed = absurd failed
-no_fault_refusal f f' o o' statuses.Write r failed = absurd (false≢true r)
-no_fault_refusal f f' o o' statuses.Memory r failed = absurd (false≢true r)
+  pub refused_if : (answer : Course) (why : Status) → status_in_answer answer.answer ≡ why → CarriedOut m m' s answer ⊎ HasFailed reach m m' s
+      → (s ≡ why) ⊎ HasFailed reach m m' s
+  refused_if answer why is (inl carried) = inl (sym (carried_status answer carried) ∙ is)
+  refused_if answer why is (inr failed) = inr failed
 
-pub no_fault_end : {X : Type 0} (f f' : FilesState) (o o' : SinkState) (s : Status) → is_end s ≡ true → HasFailed f f' o o' s → X
-no_fault_end f f' o o' statuses.Done e failed = absurd failed
-no_fault_end f f' o o' statuses.Trap e failed = absurd failed
-no_fault_end f f' o o' statuses.Usage e failed = absurd failed
-no_fault_end f f' o o' statuses.Program e failed = absurd failed
-no_fault_end f f' o o' statuses.Input e failed = absurd failed
-no_fault_end f f' o o' statuses.TapeFile e failed = absurd failed
-no_fault_end f f' o o' statuses.Schedule e failed = absurd failed
-no_fault_end f f' o o' statuses.Budget e failed = absurd failed
-no_fault_end f f' o o' statuses.Tape e failed = absurd failed
-no_fault_end f f' o o' statuses.File e failed = absurd (false≢true e)
-no_fault_end f f' o o' statuses.Link e failed = absurd failed
-no_fault_end f f' o o' statuses.Peer e failed = absurd failed
-no_fault_end f f' o o' statuses.Child e failed = absurd failed
-no_fault_end f f' o o' statuses.Disagree e failed = absurd failed
-no_fault_end f f' o o' statuses.NotAlike e failed = absurd failed
-no_fault_end f f' o o' statuses.OpenedShort e failed = absurd failed
-no_fault_end f f' o o' statuses.Write e failed = absurd (false≢true e)
-no_fault_end f f' o o' statuses.Memory e failed = absurd (false≢true e)
+-- where no other programs are reached, no fault is told by the status of a refusal
+pub no_fault_refusal : {X : Type 0} (reach : Reach) (m m' : Moment) (s : Status) → is_refusal s ≡ true → reach.children ≡ false
+    → HasFailed reach m m' s → X
+no_fault_refusal reach m m' statuses.Done r alone failed = absurd failed
+no_fault_refusal reach m m' statuses.Trap r alone failed = absurd failed
+no_fault_refusal reach m m' statuses.Usage r alone failed = absurd failed
+no_fault_refusal reach m m' statuses.Program r alone failed = absurd failed
+no_fault_refusal reach m m' statuses.Input r alone failed = absurd failed
+no_fault_refusal reach m m' statuses.TapeFile r alone failed = absurd failed
+no_fault_refusal reach m m' statuses.Schedule r alone failed = absurd failed
+no_fault_refusal reach m m' statuses.Budget r alone failed = absurd failed
+no_fault_refusal reach m m' statuses.Tape r alone failed = absurd failed
+no_fault_refusal reach m m' statuses.File r alone failed = absurd (false≢true r)
+no_fault_refusal reach m m' statuses.Link r alone failed = absurd (false≢true r)
+no_fault_refusal reach m m' statuses.Peer r alone failed = absurd failed
+no_fault_refusal reach m m' statuses.Child r alone failed = never reach.children failed.reached alone
+no_fault_refusal reach m m' statuses.Disagree r alone failed = absurd failed
+no_fault_refusal reach m m' statuses.NotAlike r alone failed = absurd failed
+no_fault_refusal reach m m' statuses.OpenedShort r alone failed = absurd failed
+no_fault_refusal reach m m' statuses.Write r alone failed = absurd (false≢true r)
+no_fault_refusal reach m m' statuses.Memory r alone failed = absurd (false≢true r)
+
+-- and none by that of an end
+pub no_fault_end : {X : Type 0} (reach : Reach) (m m' : Moment) (s : Status) → is_end s ≡ true → HasFailed reach m m' s → X
+no_fault_end reach m m' statuses.Done e failed = absurd failed
+no_fault_end reach m m' statuses.Trap e failed = absurd failed
+no_fault_end reach m m' statuses.Usage e failed = absurd failed
+no_fault_end reach m m' statuses.Program e failed = absurd failed
+no_fault_end reach m m' statuses.Input e failed = absurd failed
+no_fault_end reach m m' statuses.TapeFile e failed = absurd failed
+no_fault_end reach m m' statuses.Schedule e failed = absurd failed
+no_fault_end reach m m' statuses.Budget e failed = absurd failed
+no_fault_end reach m m' statuses.Tape e failed = absurd failed
+no_fault_end reach m m' statuses.File e failed = absurd (false≢true e)
+no_fault_end reach m m' statuses.Link e failed = absurd (false≢true e)
+no_fault_end reach m m' statuses.Peer e failed = absurd failed
+no_fault_end reach m m' statuses.Child e failed = absurd (false≢true e)
+no_fault_end reach m m' statuses.Disagree e failed = absurd failed
+no_fault_end reach m m' statuses.NotAlike e failed = absurd failed
+no_fault_end reach m m' statuses.OpenedShort e failed = absurd failed
+no_fault_end reach m m' statuses.Write e failed = absurd (false≢true e)
+no_fault_end reach m m' statuses.Memory e failed = absurd (false≢true e)

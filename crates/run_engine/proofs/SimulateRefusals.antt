@@ -27,13 +27,13 @@ use Rattle.simulate_command.specs.Simulate.{by_told, net_simulated, simulate_of,
 use Rattle.run_engine.specs.SimulatePromises.{HoldsSimulation, IsSimulated, SimulateRefused, for_opened, for_program}
 use Rattle.run_engine.specs.SimulatePromises.{for_public, for_schedule, for_tape, net_refuses, told_too_little}
 use Rattle.run_engine.specs.Told.{Outside}
-use Rattle.run_engine.specs.Words.{answer_to, question_of, IsAnswer}
+use Rattle.run_engine.specs.Words.{answer_to, question_of}
 use Rattle.program_commands.proofs.Accepting.{program_cases, refused_by_program}
 use Rattle.program_commands.proofs.Held.{found_of, found_there, no_program, program_there}
 use Rattle.program_commands.proofs.Refusals.{ReadRefused, input_status, not_done, not_missing, opened_refused, opened_status, order_refused, public_refused}
 use Rattle.program_commands.proofs.Refusals.{refusing, schedule_status, status_in_answer, status_of_cause, steps, tape_file_refused, tape_status}
 use Rattle.run_engine.proofs.RunRefusals.{net_cases, refused_by_net}
-use Rattle.run_engine.proofs.Runs.{HasAnswerOf, command_answers, is_answer}
+use Rattle.run_engine.proofs.Runs.{AnswersAtOnce, HasAnswerOf, command_answers, is_answer}
 use Rattle.program_commands.proofs.Held.{read_there}
 use Rattle.simulate_command.proofs.SimulatePlanned.{by_the_net, by_the_words, enough, short_told, simulated_to, taken_so}
 
@@ -49,10 +49,10 @@ simulate_there ask files p part opened tapes delivery h =
 pub simulate_answered : (words : List (List ℕ)) (ask : SimulateAsk) (outside : Outside) (p : TypedProgramTree) (part : List PublicEntry)
     (opened : List ℕ) (tapes : FourTapes) (delivery : Delivery) → words_of words ≡ Some (simulate ask)
     → HoldsSimulation ask outside.files p part opened tapes delivery → IsSimulated ask p part opened tapes delivery
-    → IsAnswer words outside (simulated_to ask p part opened tapes delivery)
+    → AnswersAtOnce words outside (simulated_to ask p part opened tapes delivery)
 unfolding answer_to question_of
 simulate_answered words ask outside p part opened tapes delivery asks h is =
-    subst (IsAnswer words outside)
+    subst (AnswersAtOnce words outside)
     (simulate_there ask outside.files p part opened tapes delivery h ∙ enough ask p part opened tapes delivery is.suffice
     ∙ taken_so ask p part opened tapes delivery is.taken)
     (is_answer words (simulate ask) outside (found_of ask.program outside.files p h.program) asks (found_there ask.program outside.files p h.program))
@@ -230,7 +230,7 @@ module _ (found : Finding) (ask : SimulateAsk) (files : Contents) (h : FoundAt (
       ]
 
 pub simulate_refused_only : (words : List (List ℕ)) (ask : SimulateAsk) (outside : Outside) → words_of words ≡ Some (simulate ask) → (answer : Answer)
-    → IsAnswer words outside answer → can_refuse (status_in_answer answer) ≡ true → SimulateRefused ask outside.files (status_in_answer answer)
+    → AnswersAtOnce words outside answer → can_refuse (status_in_answer answer) ≡ true → SimulateRefused ask outside.files (status_in_answer answer)
 unfolding answer_to question_of
 simulate_refused_only words ask outside asks answer a refusal =
     let (found, at, is) = command_answers words (simulate ask) outside answer asks a in

@@ -10,28 +10,28 @@ use Rattle.program_commands.specs.Check.{check_effect, check_of}
 use Rattle.program_commands.specs.Compile.{compile_effect, compile_of}
 use Rattle.program_commands.specs.Held.{HoldsTyped, ProgramRefused}
 use Rattle.run_engine.specs.Told.{Outside}
-use Rattle.run_engine.specs.Words.{answer_to, question_of, IsAnswer}
+use Rattle.run_engine.specs.Words.{answer_to, question_of}
 use Rattle.program_commands.proofs.Held.{finding, found_of, found_reaching, found_there, no_program, program_there}
 use Rattle.program_commands.proofs.Refusals.{Refuses, status_in_answer}
-use Rattle.run_engine.proofs.Runs.{HasAnswerOf, command_answers, is_answer}
+use Rattle.run_engine.proofs.Runs.{AnswersAtOnce, HasAnswerOf, command_answers, is_answer}
 use Rattle.program_commands.proofs.Planned.{done_with}
 use Rattle.program_commands.proofs.Texts.{text_refused_only}
 
 -- ---- a program that is as it must be
 
 pub check_answered : (words : List (List ℕ)) (ask : CheckAsk) (outside : Outside) (p : TypedProgramTree) → words_of words ≡ Some (check ask)
-    → HoldsTyped ask.program outside.files p → IsAnswer words outside (done_with check_effect)
+    → HoldsTyped ask.program outside.files p → AnswersAtOnce words outside (done_with check_effect)
 unfolding answer_to question_of check_of
 check_answered words ask outside p asks h =
-    subst (IsAnswer words outside) (rw (program_there ask.program outside.files p h h.within.list) refl)
+    subst (AnswersAtOnce words outside) (rw (program_there ask.program outside.files p h h.within.list) refl)
     (is_answer words (check ask) outside (found_of ask.program outside.files p h) asks (found_there ask.program outside.files p h))
 
 pub compile_answered : (words : List (List ℕ)) (ask : CompileAsk) (outside : Outside) (p : TypedProgramTree) (reached : List Instance)
     → words_of words ≡ Some (compile ask) → HoldsTyped ask.program outside.files p → IsReachedList p reached
-    → IsAnswer words outside (done_with (compile_effect ask.code p reached))
+    → AnswersAtOnce words outside (done_with (compile_effect ask.code p reached))
 unfolding answer_to question_of compile_of
 compile_answered words ask outside p reached asks h are =
-    subst (IsAnswer words outside) (rw (program_there ask.program outside.files p h reached) refl)
+    subst (AnswersAtOnce words outside) (rw (program_there ask.program outside.files p h reached) refl)
     (is_answer words (compile ask) outside (finding ask.program outside.files p h reached) asks (found_reaching ask.program outside.files p h reached are))
 
 -- ---- a program that is refused
@@ -51,14 +51,14 @@ compile_answered_so words ask outside s asks refused =
     (compile_of no.found ask outside.files, is_answer words (compile ask) outside no.found asks no.at, rw no.none (sym no.status))
 
 pub check_refused_so : (words : List (List ℕ)) (ask : CheckAsk) (outside : Outside) → words_of words ≡ Some (check ask) → (answer : Answer)
-    → IsAnswer words outside answer → Refuses (status_in_answer answer) → ProgramRefused ask.program outside.files (status_in_answer answer)
+    → AnswersAtOnce words outside answer → Refuses (status_in_answer answer) → ProgramRefused ask.program outside.files (status_in_answer answer)
 unfolding answer_to question_of check_of
 check_refused_so words ask outside asks answer a why =
     let (found, at, is) = command_answers words (check ask) outside answer asks a in
     text_refused_only found ask.program outside.files at (λ p. check_effect) (λ p. refl) answer why is
 
 pub compile_refused_so : (words : List (List ℕ)) (ask : CompileAsk) (outside : Outside) → words_of words ≡ Some (compile ask) → (answer : Answer)
-    → IsAnswer words outside answer → Refuses (status_in_answer answer) → ProgramRefused ask.program outside.files (status_in_answer answer)
+    → AnswersAtOnce words outside answer → Refuses (status_in_answer answer) → ProgramRefused ask.program outside.files (status_in_answer answer)
 unfolding answer_to question_of compile_of
 compile_refused_so words ask outside asks answer a why =
     let (found, at, is) = command_answers words (compile ask) outside answer asks a in

@@ -22,12 +22,12 @@ use Rattle.program_commands.specs.Held.{HoldsTyped}
 use Rattle.tape_commands.specs.Twin.{by_difference, twin_effect, twin_of}
 use Rattle.run_engine.specs.TwinPromises.{AreTaken, HoldsTwin, TwinRefused, for_input, for_program, for_second, for_tape, not_alike}
 use Rattle.run_engine.specs.Told.{Outside}
-use Rattle.run_engine.specs.Words.{answer_to, question_of, IsAnswer}
+use Rattle.run_engine.specs.Words.{answer_to, question_of}
 use Rattle.program_commands.proofs.Accepting.{program_cases, refused_by_program}
 use Rattle.program_commands.proofs.Held.{found_of, found_there, no_program, program_there}
 use Rattle.program_commands.proofs.Refusals.{ReadRefused, input_status, inputs_refused, not_done, not_missing, refusing, status_in_answer, status_of_cause}
 use Rattle.program_commands.proofs.Refusals.{steps, tape_file_refused, tape_status}
-use Rattle.run_engine.proofs.Runs.{HasAnswerOf, command_answers, is_answer}
+use Rattle.run_engine.proofs.Runs.{AnswersAtOnce, HasAnswerOf, command_answers, is_answer}
 use Rattle.program_commands.proofs.Held.{read_there}
 
 -- ---- files that are as they must be
@@ -56,10 +56,10 @@ alike_so ask p first second tapes alike = rw (alike_have_none p (lengths_of tape
 
 pub twin_answered : (words : List (List ℕ)) (ask : TwinAsk) (outside : Outside) (p : TypedProgramTree) (first second : List Entry) (tapes : FourTapes)
     → words_of words ≡ Some (twin ask) → HoldsTwin ask outside.files p first second tapes → AreTaken ask p first second tapes
-    → IsAnswer words outside (twinned_to ask p first second tapes)
+    → AnswersAtOnce words outside (twinned_to ask p first second tapes)
 unfolding answer_to question_of
 twin_answered words ask outside p first second tapes asks h alike =
-    subst (IsAnswer words outside) (twin_there ask outside.files p first second tapes h ∙ alike_so ask p first second tapes alike)
+    subst (AnswersAtOnce words outside) (twin_there ask outside.files p first second tapes h ∙ alike_so ask p first second tapes alike)
     (is_answer words (twin ask) outside (found_of ask.program outside.files p h.program) asks (found_there ask.program outside.files p h.program))
 
 -- ---- files that are refused, and inputs
@@ -198,7 +198,7 @@ module _ (found : Finding) (ask : TwinAsk) (files : Contents) (h : FoundAt (its_
       ]
 
 pub twin_refused_only : (words : List (List ℕ)) (ask : TwinAsk) (outside : Outside) → words_of words ≡ Some (twin ask) → (answer : Answer)
-    → IsAnswer words outside answer → can_refuse (status_in_answer answer) ≡ true → TwinRefused ask outside.files (status_in_answer answer)
+    → AnswersAtOnce words outside answer → can_refuse (status_in_answer answer) ≡ true → TwinRefused ask outside.files (status_in_answer answer)
 unfolding answer_to question_of
 twin_refused_only words ask outside asks answer a refusal =
     let (found, at, is) = command_answers words (twin ask) outside answer asks a in

@@ -6,6 +6,7 @@ use Rattle.command_frame.specs.declared.status.Status.{Status}
 use Rattle.command_frame.specs.declared.status.Status.TheVariants.{Memory, Schedule}
 use Rattle.command_frame.specs.Answer.{after_writes}
 use Rattle.command_frame.specs.Finish.{PutLine}
+use Rattle.command_frame.specs.Moments.{AreSteady, Moment, files_alone}
 use Rattle.command_words.specs.Ask.{RunAsk, run, scheduled, words_of}
 use Rattle.sc_text.specs.declared.end.Ending.TheVariants.{Done, Trap, Budget, Tape}
 use Rattle.proto_core.specs.declared.link.Link.{Link}
@@ -24,7 +25,13 @@ use Rattle.tape_file.specs.Tapes.{FourTapes}
 use Rattle.typed_tree.specs.Programs.{TypedProgramTree}
 use Rattle.value_file.specs.declared.inputs.Entry.{Entry}
 use Rattle.program_commands.specs.Eval.{end_status, eval_text}
+use Rattle.miner_commands.specs.CodeViews.{SeesItsView}
+use Rattle.miner_commands.specs.Premises.{IsMade}
+use Rattle.miner_commands.specs.Programs.{OwnRunsOnShares}
 use Rattle.miner_commands.specs.Run.{recorded_links}
+use Rattle.program_commands.specs.Dealt.{CanBeDealt}
+use Rattle.program_views.specs.Simulated.{ViewIsSimulated}
+use Rattle.program_views.specs.TapeMaps.{MapsCorrespond}
 use Rattle.program_commands.specs.Schedules.{empty_line, stalled_line}
 use Rattle.run_engine.specs.Runs.{HoldsRun, IsNotTaken}
 use Rattle.miner_commands.specs.Views.{view_files}
@@ -118,3 +125,38 @@ module _ (p : TypedProgramTree) (entries : List Entry) where
   -- it ends whole exactly where it does somewhere
   abbrev pub EndsByBudgetAndTapes : FourTapes → (budget : ℕ) → Type 0
   EndsByBudgetAndTapes t budget = (is_whole (eval_with p entries t budget).stop ≡ true) ↔ EndsSomewhere t budget
+
+-- ---- THE HEADLINE
+
+pub record Headline (g : Given) (before after : Moment) (given : Status) : Type 0 where
+  -- Where the order of delivery is complete (each message is delivered once, and no entry is without one) the three miners open and publish
+  -- exactly what evaluation in the clear does with tapes of these lengths, and end as it ends; or memory ran out.
+  pub run_prints_evaluation :
+      net_given g ≡ Accepted → before.sources.files.told ≡ true → AreSteady files_alone before → PrintsEvaluation g before.out after.out given
+  -- The delivery that takes always the first link with a message, and each that words choose, is complete.
+  pub made_deliveries_are_complete : IsMade g.delivery → net_given g ≡ Accepted
+  -- It ends done, or with a trap, exactly where some budget and some tapes let evaluation end so, at a cost within the budget and with
+  -- no more words than these tapes have.
+  pub run_ends_by_budget_and_tapes : EndsByBudgetAndTapes g.program g.entries g.tapes g.ask.budget
+  -- What each miner saw is written, where it is asked for: its shares of the private inputs, the words that it drew, the messages that came
+  -- to it, in order of arrival, what was opened, and the end; and behind the views the links that were delivered.
+  pub run_writes_views_and_links :
+      net_given g ≡ Accepted → before.sources.files.told ≡ true → AreSteady files_alone before
+      → WritesViewsAndLinks g before.sources.files.contents after.sources.files.contents given
+  -- Each such view is the simulator's output on the public part of the inputs, the opened words, the budget and the delivery alone, over
+  -- tapes that correspond one to one with the real ones; each of these is as long as its own, and the miner's own is as it was.
+  pub views_are_simulated : (i : Number) → ViewIsSimulated i g.program g.entries g.tapes g.ask.budget g.delivery
+  -- And it is what its miner has where the three run the program's code, each by its own shares and tape alone: its shares of the private
+  -- inputs, the messages that come to it in order of arrival, the openings that it tells, its end, and the words of its tape that it drew.
+  pub views_are_what_miners_see :
+      (i : Number) → CanBeDealt g.entries g.tapes → net_given g ≡ Accepted → SeesItsView i g.program g.entries g.tapes g.ask.budget g.delivery
+  -- The tapes of the simulator are found from the real ones, and these from them.
+  pub tapes_correspond : (i : Number) → MapsCorrespond i g.program g.entries g.tapes g.ask.budget
+  -- A delivery that isn't complete is refused: the entry that has no message is named, or else the miner that is left waiting; or memory
+  -- ran out.
+  pub schedule_refused_if :
+      IsNotTaken (net_given g) → before.sources.files.told ≡ true → AreSteady files_alone before → RefusesSchedule g before.err after.err given
+  -- This is what three miners do who run the program's code, each with its shares of the inputs and its own tape alone: under every
+  -- complete order of delivery they open and publish what that evaluation does, and end as it does, where the dealer's tape has words
+  -- enough.
+  pub runs_on_shares : CanBeDealt g.entries g.tapes → OwnRunsOnShares g.program g.entries g.tapes g.ask.budget

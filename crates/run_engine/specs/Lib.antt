@@ -1,4 +1,7 @@
+pub mod Call
+pub mod Commands
 pub mod Headline
+pub mod Laws
 pub mod MapPromises
 pub mod Obeying
 pub mod Promises

@@ -1,55 +1,59 @@
--- What the steps of a command did: what its own part planned, what then came of it, and the same of words.
-use Rattle.std.specs.Prelude.{◌≡◌, ◌⊎◌, ℕ, ℤ, List, true, Result, IfErr}
-use Rattle.outside.specs.Files.{Contents, FilesState}
-use Rattle.outside.specs.Sink.{SinkState, SameSink}
+-- What the steps of a command did: until it had decided, what then came of it, and the same of words.
+use Rattle.std.specs.Prelude.{◌≡◌, ◌⊎◌, ℕ, List, true, Result, MatchResult, IfErr}
 use Rattle.command_frame.specs.declared.plan.Plan.{Plan}
 use Rattle.command_frame.specs.declared.status.Status.{Status}
 use Rattle.command_frame.specs.declared.stop.Stop.{Stop}
-use Rattle.command_frame.specs.Answer.{Answer, effect_of}
+use Rattle.command_frame.specs.Answer.{Course}
+use Rattle.command_frame.specs.Decides.{Decides, StopsDecidingAnyhow}
 use Rattle.command_frame.specs.Finish.{OnlyAmong}
-use Rattle.command_frame.specs.Reads.{Gives, KeepsTo, OnlyRead, StopsReading}
-use Rattle.command_frame.specs.Whole.{Acts, ActsAnyhow, EndsAnyhow, EndsAs, OnlyWritten, StopsAtFile}
+use Rattle.command_frame.specs.Moments.{Moment, Sources}
+use Rattle.command_frame.specs.Reads.{PlanNames}
+use Rattle.command_frame.specs.Whole.{Acts, ActsAnyhow, EndsAnyhow, EndsAs, PutsNothing, StopsAtFile}
 use Rattle.command_words.specs.Ask.{Ask, words_of}
 use Rattle.program_commands.specs.Judging.{Finding, FoundAt, HasFinding, Tells}
-use Rattle.run_engine.specs.Told.{told_over}
-use Rattle.run_engine.specs.Words.{answer_to, question_in, question_of, reads_of, writes_of, read_by, written_by, IsAnswer}
+use Rattle.run_engine.specs.Told.{contents_in, outside_of, told_of}
+use Rattle.run_engine.specs.Words.{answer_to, paths_in, paths_of, question_in, question_of, reach_in, reach_of, writes_of, written_by, IsAnswer}
 
--- an answer of a command over these files, whatever else is told
-abbrev pub CommandAnswers : Ask → Contents → Answer → Type 0
-CommandAnswers ask files answer =
-    (coming : ℕ → List ℕ) × (status : ℕ → ℤ) × (found : Finding) × FoundAt (question_of ask) files found
-    × (answer_to ask (told_over files coming status found) ≡ answer)
+-- an answer of a command over what is told
+abbrev pub CommandAnswers : Ask → (s s' : Sources) → Course → Type 0
+CommandAnswers ask s s' answer =
+    (found : Finding) × FoundAt (question_of ask) s.files.contents found × (answer_to ask (told_of (outside_of s s') found) ≡ answer)
 
--- an answer to the words over these files, whatever else is told
-abbrev pub WordsAnswer : List (List ℕ) → Contents → Answer → Type 0
-WordsAnswer words files answer =
-    (coming : ℕ → List ℕ) × (status : ℕ → ℤ) × IsAnswer words (record { files = files; coming = coming; status = status }) answer
+-- an answer to words
+abbrev pub WordsAnswer : List (List ℕ) → (s s' : Sources) → Course → Type 0
+WordsAnswer words s s' answer = IsAnswer words (outside_of s s') answer
 
--- the command's own part: it read, and decided as it must
-pub record Planned (ask : Ask) (f f' : FilesState) (r : Result Plan Stop) : Type 0 where
-  pub files : OnlyRead f f'
-  pub anyhow : IfErr r (StopsReading f f')
-  pub answer : (coming : ℕ → List ℕ) (status : ℕ → ℤ) (found : Finding) → FoundAt (question_of ask) f.contents found
-      → Gives effect_of f f' r (answer_to ask (told_over f.contents coming status found))
-  pub found : f.told ≡ true → Tells f r → HasFinding (question_of ask) f.contents
-  pub keeps : KeepsTo (reads_of ask) (writes_of ask) r
+-- ---- until the command had decided
 
--- the whole command
-pub record Obeyed (ask : Ask) (f f' : FilesState) (o o' : SinkState) (r : Result Status Stop) : Type 0 where
-  pub anyhow : EndsAnyhow f f' o o' r
-  pub ends : (answer : Answer) → CommandAnswers ask f.contents answer → EndsAs answer f f' o o' r
-  pub files : (answer : Answer) → CommandAnswers ask f.contents answer → OnlyWritten answer f f'
-  pub only : OnlyAmong (writes_of ask) f f'
-  pub stops : IfErr r (StopsAtFile (reads_of ask) (writes_of ask) (CommandAnswers ask f.contents) f f')
-  pub found : f.told ≡ true → Tells f r → HasFinding (question_of ask) f.contents
-  pub out : SameSink o o' ⊎ (f.told ≡ true → HasFinding (question_of ask) f.contents)
+-- a plan writes what its command writes; a stop at a file names the path
+abbrev pub Names : Ask → (s s' : Sources) → Result Plan Stop → Type 0
+Names ask s s' result = MatchResult result (PlanNames (writes_of ask)) (StopsAtFile (paths_of ask) (reach_of ask) (CommandAnswers ask s s') s s')
+
+-- it read, and decided as it must
+pub record Planned (ask : Ask) (s s' : Sources) (r : Result Plan Stop) : Type 0 where
+  pub only : OnlyAmong (writes_of ask) s.files s'.files
+  pub anyhow : IfErr r (StopsDecidingAnyhow (reach_of ask) s s')
+  pub answer :
+      (found : Finding) → FoundAt (question_of ask) s.files.contents found
+      → Decides (reach_of ask) (answer_to ask (told_of (outside_of s s') found)) s s' r
+  pub found : s.files.told ≡ true → Tells s.files r → HasFinding (question_of ask) s.files.contents
+  pub names : Names ask s s' r
+
+-- ---- the whole command
+
+pub record Obeyed (ask : Ask) (m m' : Moment) (r : Result Status Stop) : Type 0 where
+  pub anyhow : EndsAnyhow (reach_of ask) m m' r
+  pub ends : (answer : Course) → CommandAnswers ask m.sources m'.sources answer → EndsAs (reach_of ask) answer m m' r
+  pub only : OnlyAmong (writes_of ask) m.sources.files m'.sources.files
+  pub stops : IfErr r (StopsAtFile (paths_of ask) (reach_of ask) (CommandAnswers ask m.sources m'.sources) m.sources m'.sources)
+  pub found : m.sources.files.told ≡ true → Tells m.sources.files r → HasFinding (question_of ask) (contents_in m)
+  pub out : PutsNothing m m' ⊎ (m.sources.files.told ≡ true → HasFinding (question_of ask) (contents_in m))
 
 -- what the words ask for
-pub record Acted (words : List (List ℕ)) (f f' : FilesState) (o o' : SinkState) (r : Result Status Stop) : Type 0 where
-  pub anyhow : ActsAnyhow (words_of words) f f' o o' r
-  pub acts : (answer : Answer) → WordsAnswer words f.contents answer → Acts (words_of words) answer f f' o o' r
-  pub files : (answer : Answer) → WordsAnswer words f.contents answer → OnlyWritten answer f f'
-  pub only : OnlyAmong (written_by words) f f'
-  pub stops : IfErr r (StopsAtFile (read_by words) (written_by words) (WordsAnswer words f.contents) f f')
-  pub found : f.told ≡ true → Tells f r → HasFinding (question_in words) f.contents
-  pub out : SameSink o o' ⊎ (f.told ≡ true → HasFinding (question_in words) f.contents)
+pub record Acted (words : List (List ℕ)) (m m' : Moment) (r : Result Status Stop) : Type 0 where
+  pub anyhow : ActsAnyhow (reach_in words) m m' (words_of words) r
+  pub acts : (answer : Course) → WordsAnswer words m.sources m'.sources answer → Acts (reach_in words) answer m m' (words_of words) r
+  pub only : OnlyAmong (written_by words) m.sources.files m'.sources.files
+  pub stops : IfErr r (StopsAtFile (paths_in words) (reach_in words) (WordsAnswer words m.sources m'.sources) m.sources m'.sources)
+  pub found : m.sources.files.told ≡ true → Tells m.sources.files r → HasFinding (question_in words) (contents_in m)
+  pub out : PutsNothing m m' ⊎ (m.sources.files.told ≡ true → HasFinding (question_in words) (contents_in m))

@@ -1,13 +1,13 @@
 -- What each command promises: its effect over files that are as they must be, and for which files it is refused.
-use Rattle.std.specs.Prelude.{◌≡◌, ◌⊎◌, ◌≤◌, ℕ, List, length, Bool, true, false}
-use Rattle.outside.specs.Files.{Contents, FilesState}
-use Rattle.outside.specs.Sink.{SinkState}
+use Rattle.std.specs.Prelude.{◌≡◌, ◌⊎◌, ◌≤◌, ◌||◌, ℕ, List, length, Bool, true, false}
+use Rattle.outside.specs.Files.{Contents}
 use Rattle.reached_instances.specs.Instances.{Instance}
 use Rattle.reached_instances.specs.Reached.{IsReachedList}
 use Rattle.command_frame.specs.declared.status.Status.{Status}
 use Rattle.command_frame.specs.declared.status.Status.TheVariants.{Done, Memory}
 use Rattle.command_frame.specs.Answer.{Effect}
-use Rattle.command_frame.specs.Status.{can_refuse}
+use Rattle.command_frame.specs.Moments.{AreSteady, Moment, Reach, files_alone}
+use Rattle.command_frame.specs.Status.{can_breach, can_refuse}
 use Rattle.command_frame.specs.Whole.{HasFailed, IsDone}
 use Rattle.command_words.specs.Ask.{CheckAsk, CompileAsk, DealAsk, EvalAsk, RunAsk, LoadAsk}
 use Rattle.protocol_model.specs.Network.{Accepted, Delivery}
@@ -25,21 +25,26 @@ use Rattle.miner_commands.specs.Load.{load_effect}
 use Rattle.program_commands.specs.Held.{HoldsTyped, HoldsEvaluation, HoldsDeal}
 use Rattle.run_engine.specs.Runs.{HoldsRun, net_for}
 
--- files and output are steady
-abbrev pub AllSteady : FilesState → SinkState → Type 0
-AllSteady f o = (f.steady ≡ true) × (o.steady ≡ true)
-
 -- over steady objects the wanted effect is there whole, or memory ran out
-abbrev pub Gives : (Effect → Type 0) → FilesState → FilesState → SinkState → SinkState → Status → Type 0
-Gives Wanted f f' o o' given = (effect : Effect) → Wanted effect → AllSteady f o → IsDone effect f f' o o' given ⊎ (given ≡ Memory)
+abbrev pub Gives : Reach → (Effect → Type 0) → (before after : Moment) → Status → Type 0
+Gives reach Wanted before after given =
+    (effect : Effect) → Wanted effect → AreSteady reach before → IsDone before after effect given ⊎ (given ≡ Memory)
 
--- what a command keeps, where the store tells what it holds: its effect, and that it is refused exactly for the files that are not as they must
--- be, or a fault is told. A status that the command can end with is no refusal.
-pub record Keeps (Wanted : Effect → Type 0) (Refused : Status → Type 0) (ends : Status → Bool) (f f' : FilesState) (o o' : SinkState) (given : Status)
-    : Type 0 where
-  pub gives : Gives Wanted f f' o o' given
-  pub refused_only : can_refuse given ≡ true → ends given ≡ false → Refused given
-  pub refused_if : (status : Status) → Refused status → (given ≡ status) ⊎ HasFailed f f' o o' given
+-- what files hold or another miner did may be refused with this status
+abbrev pub is_refusal : Status → Bool
+is_refusal s = can_refuse s || can_breach s
+
+-- what a command keeps, where what it reaches tells what it holds: its effect, and that it is refused exactly for what is not as it must be, or
+-- a fault is told. Its refusals have these statuses; one that the command can end with is no refusal.
+pub record KeepsOf (reach : Reach) (refuses : Status → Bool) (Wanted : Effect → Type 0) (Refused : Status → Type 0) (ends : Status → Bool)
+    (before after : Moment) (given : Status) : Type 0 where
+  pub gives : Gives reach Wanted before after given
+  pub refused_only : refuses given ≡ true → ends given ≡ false → Refused given
+  pub refused_if : (status : Status) → Refused status → (given ≡ status) ⊎ HasFailed reach before after given
+
+-- the same of a command over files alone
+abbrev pub Keeps : (Effect → Type 0) → (Status → Type 0) → (ends : Status → Bool) → (before after : Moment) → Status → Type 0
+Keeps Wanted Refused ends before after given = KeepsOf files_alone can_refuse Wanted Refused ends before after given
 
 -- `deal` runs no program, so it has one end
 abbrev pub is_done : Status → Bool

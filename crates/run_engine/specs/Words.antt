@@ -1,7 +1,9 @@
 -- What each command decides of all that is told.
-use Rattle.std.specs.Prelude.{◌≡◌, ℕ, List, [], Bool, false, Err}
+use Rattle.std.specs.Prelude.{◌≡◌, ℕ, List, [], Bool, Err}
 use Rattle.std.specs.Option.{option_map_or}
-use Rattle.command_frame.specs.Answer.{Answer, usage}
+use Rattle.command_frame.specs.Answer.{Course, at_once, usage}
+use Rattle.command_frame.specs.Moments.{Reach, files_alone}
+use Rattle.command_frame.specs.Whole.{Paths}
 use Rattle.command_words.specs.Ask.{Ask, run, deal, check, compile, eval, need, map_tape, simulate, twin, words_of, load, gather}
 use Rattle.program_commands.specs.Check.{check_of, check_paths}
 use Rattle.program_commands.specs.Compile.{compile_of, compile_paths, compiled_paths}
@@ -16,19 +18,19 @@ use Rattle.miner_commands.specs.Run.{ran_paths, run_of, run_paths}
 use Rattle.simulate_command.specs.Simulate.{simulate_of, simulate_paths, simulated_paths}
 use Rattle.tape_commands.specs.Twin.{twin_of, twin_paths, twinned_paths}
 
--- what a command decides of all that is told
-unfoldable pub answer_to : Ask → Told → Answer
-answer_to (run ask) told = run_of told.found ask told.outside.files
-answer_to (deal ask) told = deal_of ask told.outside.files
-answer_to (check ask) told = check_of told.found ask told.outside.files
-answer_to (compile ask) told = compile_of told.found ask told.outside.files
-answer_to (eval ask) told = eval_of told.found ask told.outside.files
-answer_to (need ask) told = needs_of told.found ask told.outside.files
-answer_to (map_tape ask) told = map_of told.found ask told.outside.files
-answer_to (simulate ask) told = simulate_of told.found ask told.outside.files
-answer_to (twin ask) told = twin_of told.found ask told.outside.files
-answer_to (load ask) told = load_of ask
-answer_to (gather ask) told = gather_of ask told.outside.files
+-- what a command comes to, by all that is told
+unfoldable pub answer_to : Ask → Told → Course
+answer_to (run ask) told = at_once (run_of told.found ask told.outside.files)
+answer_to (deal ask) told = at_once (deal_of ask told.outside.files)
+answer_to (check ask) told = at_once (check_of told.found ask told.outside.files)
+answer_to (compile ask) told = at_once (compile_of told.found ask told.outside.files)
+answer_to (eval ask) told = at_once (eval_of told.found ask told.outside.files)
+answer_to (need ask) told = at_once (needs_of told.found ask told.outside.files)
+answer_to (map_tape ask) told = at_once (map_of told.found ask told.outside.files)
+answer_to (simulate ask) told = at_once (simulate_of told.found ask told.outside.files)
+answer_to (twin ask) told = at_once (twin_of told.found ask told.outside.files)
+answer_to (load ask) told = at_once (load_of ask)
+answer_to (gather ask) told = at_once (gather_of ask told.outside.files)
 
 -- what it asks of a program; what that of a workload is doesn't hang on any file
 unfoldable pub question_of : Ask → Question
@@ -72,37 +74,54 @@ writes_of (twin ask) = twinned_paths ask.to
 writes_of (load ask) = []
 writes_of (gather ask) = gathered_paths ask.to
 
--- whether it reaches other miners, and whether it starts other programs: none does
-abbrev pub uses_links : Ask → Bool
-uses_links ask = false
+abbrev pub paths_of : Ask → Paths
+paths_of ask = record { read = reads_of ask; written = writes_of ask; later = [] }
 
-abbrev pub uses_children : Ask → Bool
-uses_children ask = false
+-- what it reaches beside files and output: other miners, or other programs
+abbrev pub reach_of : Ask → Reach
+reach_of (run ask) = files_alone
+reach_of (deal ask) = files_alone
+reach_of (check ask) = files_alone
+reach_of (compile ask) = files_alone
+reach_of (eval ask) = files_alone
+reach_of (need ask) = files_alone
+reach_of (map_tape ask) = files_alone
+reach_of (simulate ask) = files_alone
+reach_of (twin ask) = files_alone
+reach_of (load ask) = files_alone
+reach_of (gather ask) = files_alone
 
 -- the same of words; those that ask for no command are refused as usage
-unfoldable pub answer_of : List (List ℕ) → Told → Answer
-answer_of words told = option_map_or (λ ask. answer_to ask told) (words_of words) (Err usage)
+unfoldable pub answer_of : List (List ℕ) → Told → Course
+answer_of words told = option_map_or (λ ask. answer_to ask told) (words_of words) (at_once (Err usage))
 
 unfoldable pub question_in : List (List ℕ) → Question
 question_in words = option_map_or question_of (words_of words) nothing
 
-unfoldable pub read_by : List (List ℕ) → List (List ℕ)
-read_by words = option_map_or reads_of (words_of words) []
+abbrev pub no_paths : Paths
+no_paths = record { read = []; written = []; later = [] }
 
-unfoldable pub written_by : List (List ℕ) → List (List ℕ)
-written_by words = option_map_or writes_of (words_of words) []
+-- the paths that they name
+unfoldable pub paths_in : List (List ℕ) → Paths
+paths_in words = option_map_or paths_of (words_of words) no_paths
 
-unfoldable pub reach_miners : List (List ℕ) → Bool
-reach_miners words = option_map_or uses_links (words_of words) false
+unfoldable pub reach_in : List (List ℕ) → Reach
+reach_in words = option_map_or reach_of (words_of words) files_alone
 
-unfoldable pub start_programs : List (List ℕ) → Bool
-start_programs words = option_map_or uses_children (words_of words) false
+abbrev pub written_by : List (List ℕ) → List (List ℕ)
+written_by words = (paths_in words).written
+
+abbrev pub reach_miners : List (List ℕ) → Bool
+reach_miners words = (reach_in words).links
+
+abbrev pub start_programs : List (List ℕ) → Bool
+start_programs words = (reach_in words).children
 
 -- THE ANSWER: what the words ask for, where a program that they name is what its text is judged to be
-pub record IsAnswer (words : List (List ℕ)) (outside : Outside) (answer : Answer) : Type 0 where
+pub record IsAnswer (words : List (List ℕ)) (outside : Outside) (answer : Course) : Type 0 where
   pub found : Finding
   pub of_program : FoundAt (question_in words) outside.files found
   pub is : answer ≡ answer_of words (told_of outside found)
 
 abbrev pub HasAnswer : List (List ℕ) → Outside → Type 0
-HasAnswer words outside = (answer : Answer) × IsAnswer words outside answer
+HasAnswer words outside = (answer : Course) × IsAnswer words outside answer

@@ -1,0 +1,60 @@
+-- What a call keeps: the promises of each command, the headline, and the laws.
+use Rattle.std.proofs.Common.{ℕ, List}
+use Rattle.outside.specs.Files.{Contents}
+use Rattle.command_frame.specs.declared.status.Status.{Status}
+use Rattle.command_frame.specs.Moments.{Moment}
+use Rattle.gather_command.proofs.Refusals.{writes_one_dealing}
+use Rattle.program_commands.proofs.Accepted.{code_means}
+use Rattle.run_engine.specs.Call.{Call}
+use Rattle.run_engine.specs.Commands.{Commands}
+use Rattle.run_engine.specs.Headline.{Given, Headline, IsGiven}
+use Rattle.run_engine.specs.Laws.{Laws}
+use Rattle.run_engine.specs.Told.{contents_in}
+use Rattle.run_engine.proofs.Gathers.{gather_keeps}
+use Rattle.run_engine.proofs.Headline.{ends_by_budget_and_tapes, prints, refuses, schedule_refused, writes}
+use Rattle.run_engine.proofs.Miners.{made_taken, maps_made, miners_run, views_made, views_seen}
+use Rattle.run_engine.proofs.Promises.{check_keeps, compile_keeps, deal_keeps, eval_keeps, need_keeps, run_keeps, load_keeps}
+use Rattle.run_engine.proofs.ViewLaws.{maps_correspond, simulated_so, twins_see_it}
+use Rattle.run_engine.proofs.ViewPromises.{map_keeps, simulate_keeps, twin_keeps}
+
+module _ (words : List (List ℕ)) (m m' : Moment) (s : Status) (call : Call words m m' s) where
+  pub commands_kept : Commands words m m' s
+  commands_kept = record {
+    checks = check_keeps words m m' s call;
+    compiles = compile_keeps words m m' s call;
+    evaluates = eval_keeps words m m' s call;
+    tells_needs = need_keeps words m m' s call;
+    runs = run_keeps words m m' s call;
+    schedule_refused_only = λ ask asks t is. schedule_refused ask m m' s is (run_keeps words m m' s call ask asks t);
+    deals = deal_keeps words m m' s call;
+    gathers = gather_keeps words m m' s call;
+    maps = map_keeps words m m' s call;
+    simulates = simulate_keeps words m m' s call;
+    twins = twin_keeps words m m' s call;
+    loads = load_keeps words m m' s call;
+  }
+
+  pub headline_kept : (g : Given) → IsGiven words (contents_in m) g → Headline g m m' s
+  headline_kept g is = record {
+    run_prints_evaluation = λ taken t steady.
+        prints words m m' s (λ ask asks. (run_keeps words m m' s call ask asks t).gives) g is taken steady;
+    made_deliveries_are_complete = λ made. made_taken g.ask (contents_in m) g.program g.entries g.tapes g.delivery is.held made;
+    run_ends_by_budget_and_tapes = ends_by_budget_and_tapes g.program g.entries g.tapes g.ask.budget;
+    run_writes_views_and_links = λ taken t steady.
+        writes words m m' s (λ ask asks. (run_keeps words m m' s call ask asks t).gives) g is taken steady;
+    views_are_simulated = λ i. views_made i g.ask (contents_in m) g.program g.entries g.tapes g.delivery is.held;
+    views_are_what_miners_see = λ i can accepts. views_seen i g.ask (contents_in m) g.program g.entries g.tapes g.delivery is.held can accepts;
+    tapes_correspond = λ i. maps_made i g.ask (contents_in m) g.program g.entries g.tapes g.delivery is.held;
+    schedule_refused_if = λ refused t steady. refuses words m m' s call g is refused t steady;
+    runs_on_shares = λ can. miners_run g.ask (contents_in m) g.program g.entries g.tapes g.delivery is.held can;
+  }
+
+pub laws_kept : (words : List (List ℕ)) (files : Contents) → Laws words files
+laws_kept words files = record {
+  compiled_code_means_program = λ ask program reached asks holds are. code_means ask.program files program holds reached are;
+  gathered_is_one_dealing = λ ask miners owner owners asks holds. writes_one_dealing ask files miners owner owners holds;
+  mapped_tapes_correspond = λ ask program entries tapes asks held. maps_correspond ask files program entries tapes held;
+  simulated_views_are_views = λ ask program entries tapes more delivery asks held have.
+      simulated_so ask files program entries tapes more delivery held have;
+  twins_see_the_same = λ ask program first second tapes asks held alike. twins_see_it ask files program first second tapes held alike;
+}
