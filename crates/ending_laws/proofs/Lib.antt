@@ -1,0 +1,4 @@
+pub mod Effects
+pub mod Rows
+pub mod Steps
+pub mod Programs
