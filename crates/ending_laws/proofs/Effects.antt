@@ -1,5 +1,5 @@
 -- Effects of which each end can be written, from stages within the budget and the tapes.
-use Rattle.std.proofs.Common.{◌≡◌, ℕ, ◌+◌, ◌-◌, ◌*◌, ◌<◌, ◌≤◌, ◌^◌, List, Ok, Err, Bool, true, false, cond, refl, arith}
+use Rattle.std.proofs.Common.{◌≡◌, ℕ, ◌+◌, ◌-◌, ◌<◌, ◌≤◌, ◌^◌, List, Ok, Err, Bool, true, false, cond, refl, arith}
 use Rattle.std.specs.Prelude.{nat_le, length, take, drop}
 use Rattle.std.proofs.lemmas.Bool.{leb-true}
 use Rattle.sc_text.specs.declared.end.Ending.{Ending}
@@ -9,8 +9,8 @@ use Rattle.sc_text.specs.declared.end.TapeOwner.{TapeOwner}
 use Rattle.sc_text.specs.declared.end.TapeOwner.TheVariants.{Miner1, Miner2, Miner3}
 use Rattle.sc_text.specs.declared.event.Event.{Event}
 use Rattle.gates.specs.declared.gate.Gate.{Gate}
-use Rattle.language_model.specs.Effects.{Words, World, Stage, Ended, Short, Run, Effect, ◌>>=◌, carry, done, end, charge, test, with_more, fits, drawn_yet}
-use Rattle.language_model.specs.Effects.{take_words, draw, gate, next_number, put_gates, emit, next_answers, show}
+use Rattle.language_model.specs.Effects.{Words, World, Stage, Ended, Short, Run, Effect, ◌>>=◌, carry, done, end, charge, test, fits}
+use Rattle.language_model.specs.Effects.{draw, gate, next_number, put_gates, emit, next_answers, show}
 use Rattle.language_model.specs.Operations.{charged, no_traps}
 use Rattle.language_model.specs.Tapes.{AtMost}
 use Rattle.view_text.specs.View.{IsEnding}

@@ -1,5 +1,5 @@
 -- The operations of a run: each end of one can be written, where its line has 32 bits.
-use Rattle.std.proofs.Common.{◌≡◌, ℕ, ◌+◌, ◌*◌, ◌<◌, ◌≤◌, ◌^◌, List, [], ◌∷◌, length, map, Option, Some, None, Bool, true, false, arith}
+use Rattle.std.proofs.Common.{ℕ, ◌+◌, ◌*◌, ◌<◌, ◌≤◌, ◌^◌, List, length, map, Option, Some, None, Bool, true, false, arith}
 use Rattle.std.specs.List.{flat_map}
 use Rattle.sc_text.specs.declared.end.TrapKind.TheVariants as trap
 use Rattle.sc_text.specs.declared.event.Event.TheVariants as event
@@ -14,19 +14,18 @@ use Rattle.typed_tree.specs.Shapes.{shape_of}
 use Rattle.typed_tree.specs.declared.kinds.Shape.{Shape}
 use Rattle.typed_tree.specs.declared.operators.WordOperator.{WordOperator}
 use Rattle.typed_tree.specs.declared.operators.WordOperator.TheVariants as word
-use Rattle.typed_tree.specs.declared.operators.BoolOperator.{BoolOperator}
 use Rattle.typed_tree.specs.declared.operators.BoolOperator.TheVariants as truth
 use Rattle.typed_tree.specs.declared.operators.BinaryOperator.{BinaryOperator}
 use Rattle.typed_tree.specs.declared.operators.BinaryOperator.TheVariants as binary
 use Rattle.typed_tree.specs.declared.operators.Operands.{Operands}
 use Rattle.typed_tree.specs.declared.operators.Cast.{Cast}
 use Rattle.typed_tree.specs.declared.operators.Cast.TheVariants.{WordToWord, WordToBool, BoolToWord, BoolToBool}
-use Rattle.language_model.specs.Effects.{World, GivenInput, Source, Clear, Answers, planned, answer, done, words_each}
+use Rattle.language_model.specs.Effects.{World, GivenInput, Source, Clear, Answers, planned, answer, words_each}
 use Rattle.language_model.specs.Values.{Secrecy, Plain, Private, Value, plain, hidden, size, visible_words, elements_of}
 use Rattle.language_model.specs.Words.{flipped, result_size, are_alike, may_divide}
 use Rattle.language_model.specs.Operations.{no_traps, made_private, read_answer, words_of_operator, is_scalar_left, is_scalar_right, number_from, number_of}
 use Rattle.language_model.specs.Operations.{classified_from, classified, revealed, opened_from, declassified, stretched, flip, equal_gates, word_gates}
-use Rattle.language_model.specs.Operations.{bool_gates, operator_gates, private_result, product_with, combined_from, operator_traps, operated}
+use Rattle.language_model.specs.Operations.{operator_gates, private_result, product_with, combined_from, operator_traps, operated}
 use Rattle.language_model.specs.Operations.{words_of_cast, words_for_bits, not_too_large}
 use Rattle.language_model.specs.Operations.{negated_from, negated, cast_gates, changed, cast_from, cast_to, size_told, summed_from, summed, bits_from}
 use Rattle.language_model.specs.Operations.{bits_extracted, concatenated_from, concatenated, element_from, element_of_array, with_element_from, with_element}

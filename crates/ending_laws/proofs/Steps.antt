@@ -1,15 +1,13 @@
 -- Steps of code whose lines have 32 bits: each end can be written, and so to the end of a run.
-use Rattle.std.proofs.Common.{◌≡◌, ℕ, zero, suc, ◌+◌, ◌<◌, ◌≤◌, ◌^◌, List, [], ◌∷◌, length, Option, Some, None, Ok, Err, Bool, true, false, refl, sym, ap, ◌∙◌, subst}
+use Rattle.std.proofs.Common.{◌≡◌, ℕ, zero, suc, ◌+◌, ◌<◌, ◌^◌, List, [], ◌∷◌, length, Option, Some, None, Ok, Err, Bool, true, false, refl}
 use Rattle.std.proofs.Common.{arith}
 use Rattle.std.specs.Prelude.{IsTrue, nat_lt, nat_le, slice_get, sum, map, if◌then◌else◌}
-use Rattle.sc_text.specs.declared.end.Ending.TheVariants as ending
 use Rattle.sc_text.specs.declared.end.TrapKind.TheVariants as trap
-use Rattle.language_model.specs.Effects.{World, Stage, RunStop, Ended, Run, Effect, ◌>>=◌, carry, done, end, charge, test}
+use Rattle.language_model.specs.Effects.{World, Stage, RunStop, Run, Effect, ◌>>=◌, carry, done}
 use Rattle.typed_tree.specs.Shapes.{shape_of}
 use Rattle.language_model.specs.Values.{Value, plain, size}
-use Rattle.language_model.specs.Evaluation.{Frame, nothing, array_elements, either, input_named}
+use Rattle.language_model.specs.Evaluation.{nothing, array_elements, either, input_named}
 use Rattle.language_model.specs.Reports.{dealing, beginning, not_dealt}
-use Rattle.language_model.specs.Operations as row
 use Rattle.verified_code.specs.Steps.{Step, Literal, Move, Store, Binary, Not, Cast, Classify, Fill, At, Put, Size, Cat, Sum, Bits, Declassify}
 use Rattle.verified_code.specs.Steps.{Argument, Publish, Assert, Branch, Jump, Call, Return, ReturnNone, Function, kind_shape}
 use Rattle.code_model.specs.Machine.{Caller, Machine, values_at, steps_of, entering, limit, same_bool, resume, step, exec, further, start, at, next}
@@ -21,7 +19,7 @@ use Rattle.ending_laws.proofs.Effects.{IsWithin, Comes, Ends, untrapped_ends, on
 use Rattle.ending_laws.proofs.Rows.{classified_ends, declassified_ends, operated_ends, negated_ends, cast_ends, size_ends, summed_ends, bits_end}
 use Rattle.ending_laws.proofs.Rows.{concatenated_ends, element_ends, with_element_ends, filled_ends, published_ends, tested_ends, asserted_ends, asked_ends}
 
-abbrev is_line : ℕ → Bool
+abbrev pub is_line : ℕ → Bool
 is_line n = nat_lt n (2 ^ 32)
 
 below : (line : ℕ) → IsTrue (is_line line) → line < 2 ^ 32

@@ -20,9 +20,10 @@ use Rattle.gate_node.proofs.Suiting.{test-is}
 use Rattle.framed_runs.proofs.FramedScripts.{SendsFit, GatesFit, run_gates-fit}
 use Rattle.language_model.specs.Effects.{World}
 use Rattle.verified_code.specs.Steps.{Function}
-use Rattle.code_places.specs.Places.{Place, notices_between, step_told}
+use Rattle.code_places.specs.Places.{Place, first_place, notices_between, step_told}
 use Rattle.driven_nodes.specs.Steps.{Went, Running, Stopped, Short, Stand, place_of, stand_of}
 use Rattle.own_code.specs.OwnCode.{Ended, gates_between, led_by, go_on, own_code, behind_gates}
+use Rattle.miner_core.specs.Meaning.{fuel}
 use Rattle.miner_core.specs.Story.{Story, node, stands_at, strand_in, mail_in}
 use Rattle.story_laws.specs.Stories.{WaitsAtItsLinks, SendsFrames}
 use Rattle.story_laws.proofs.Strands.{Behaves, RanWell, IsAtItsLinks, then_behaves, telling_behaves, script_behaves, run_behaves, stands_at_its_links}
@@ -108,7 +109,7 @@ module _ (i : Number) (dealt : Values) where
 -- ---- STORIES
 
 ran_well : (i : Number) (s : Story) → RanWell i (node i s)
-ran_well i s = run_behaves i (strand_in i s) (mail_in i s) (code_behaves i s.dealt s.world s.code _ _ [] s.tape)
+ran_well i s = run_behaves i (strand_in i s) (mail_in i s) (code_behaves i s.dealt s.world s.code (fuel s.code s.budget) (first_place s.code s.budget) [] s.tape)
 
 pub waits_at_its_links : (i : Number) (s : Story) → WaitsAtItsLinks i s
 waits_at_its_links i s =

@@ -67,7 +67,7 @@ module _ (i : Number) where
   pub run_behaves : {A : Type 0} (s : Strand A) (mail : Mail) → Behaves s → RanWell (run s mail)
   run_behaves (Ends a) mail h = record { acts = tt; left = tt }
   run_behaves (Acts act s) mail h = let rest = run_behaves s mail h.1 in record { acts = (h.0, rest.acts); left = rest.left }
-  run_behaves (Waits l shape k) mail h = by_mail (mail l) (λ m e. run_behaves (k m) (taken l mail) (h.1 m e))
+  run_behaves {A = A} (Waits l shape k) mail h = by_mail (mail l) (λ m e. run_behaves (k m) (taken l mail) (h.1 m e))
     where
       stands : Ran A
       stands = record { acts = []; left = Waits l shape k; unread = mail }
