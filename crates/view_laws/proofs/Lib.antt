@@ -1,0 +1,4 @@
+pub mod Shares
+pub mod Messages
+pub mod Openings
+pub mod Views

@@ -1,0 +1,2 @@
+pub mod Views
+pub use Rattle.program_run.specs.Accepted

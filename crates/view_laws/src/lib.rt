@@ -1,0 +1,10 @@
+//! What a miner sees of a program's run is a view of its form: the file of it is read as it, and equal files are of equal views.
+//!
+//! There is nothing to run here: definitions in `specs/`, and the laws that follow from them.
+#![tactic(auto)]
+
+mod laws;
+
+pub use laws::{
+    equal_view_texts_are_of_equal_views, view_texts_are_read_again, views_are_of_their_form,
+};
