@@ -1,9 +1,9 @@
 -- The nets of a run, of its views and of the simulator.
-use Rattle.std.proofs.Common.{◌≡◌, ℕ, List, [], ◌∷◌, ◌++◌, map, Option, Some, None, refl, sym, ◌∙◌, ap, subst}
+use Rattle.std.proofs.Common.{◌≡◌, ℕ, List, [], ◌∷◌, map, Some, None, refl, sym, ◌∙◌, ap, subst}
 use Rattle.proto_core.specs.declared.party.Number.{Number}
 use Rattle.proto_core.specs.declared.link.Link.{Link}
 use Rattle.proto_core.specs.Net.{nothing}
-use Rattle.protocol_model.specs.Arrivals.{Arrival, arrived}
+use Rattle.protocol_model.specs.Arrivals.{Arrival}
 use Rattle.protocol_model.specs.Network.{Accepted, Delivery, order_of}
 use Rattle.protocol_model.specs.Runs.{nodes_of}
 use Rattle.value_file.specs.declared.inputs.Entry.{Entry}

@@ -1,5 +1,5 @@
 -- Along deliveries of which each has a message, what comes to a miner comes in the order of its links.
-use Rattle.std.proofs.Common.{◌≡◌, ◌<◌, ◌+◌, ℕ, List, [], ◌∷◌, length, map, Bool, true, false, if◌then◌else◌, refl, sym, ◌∙◌, ap, arith}
+use Rattle.std.proofs.Common.{◌≡◌, ◌<◌, ◌+◌, ℕ, List, [], ◌∷◌, length, map, Bool, true, false, if◌then◌else◌, refl, ◌∙◌, ap, arith}
 use Rattle.std.specs.Prelude.{nat_lt}
 use Rattle.proto_core.specs.declared.party.Number.{Number}
 use Rattle.proto_core.specs.declared.link.Link.{Link}
@@ -7,7 +7,7 @@ use Rattle.proto_core.specs.Parties.{receiver_of, is_same}
 use Rattle.proto_core.specs.Strand.{Mail, Strand, next_after}
 use Rattle.proto_core.specs.Net.{posted, under_way, delivered}
 use Rattle.protocol_model.specs.Arrivals.{Arrival, oldest_then, arrived}
-use Rattle.protocol_model.specs.Network.{Answer, Accepted, EmptyLink, walked}
+use Rattle.protocol_model.specs.Network.{Accepted, EmptyLink, walked}
 use Rattle.one_net_laws.specs.OneNet.{links_to}
 
 abbrev links_of : List Arrival → List Link
