@@ -135,9 +135,11 @@ module _ (words : Number → List (List ℕ)) where
         append_cancel_left old.calls [] (three child more) (append-nil old.calls ∙ sym same ∙ is) in cc)
 
     by_launched : (launch : Launch) → new.calls ≡ old.calls ++ calls_of words launch → IsShort launch → Statuses
-    by_launched (Halted begun err) calls few =
-        (any, λ child more is i. absurd (too_few begun child more few
-        (append_cancel_left old.calls (starts (of_all words) begun) (three child more) (sym calls ∙ is))))
+    by_launched (Halted begun err) calls few = (
+      any,
+      λ child more is i. absurd (too_few begun child more few
+          (append_cancel_left old.calls (starts (of_all words) begun) (three child more) (sym calls ∙ is))),
+    )
     by_launched (Awaited child answer) calls few = (λ i. old.status (child i), found)
       where
         found : AreStatuses words old new (λ i. old.status (child i))
