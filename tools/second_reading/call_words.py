@@ -12,11 +12,10 @@ from words import FORMS, NUMBERS, SEEDS
 ALL_OPTIONS = tuple(dict.fromkeys(name for form in FORMS.values() for name in form.options))
 NO_COMMANDS = (
     "", " ", "-", "--", "---", "-h", "--help", "-V", "--version", "help", "Check", "CHECK", "chec", "checks", "check ", " check",
-    "check\n", "--check", "-check", "check=", "miners", "tri", "joined", "audit", "upgrade", "client-map", "client-simulate", "client-twin", "p.sc",
+    "check\n", "--check", "-check", "check=", "miner", "trio", "audit", "upgrade", "client-map", "client-simulate", "client-twin", "p.sc",
     "--input", "--input=i.json", "\u0441heck", "\udcff", "check\udcff",
 )
 NUMBERS_SHOWN = (
-    "65533", "65534", "065533",
     "0", "1", "2", "3", "4", "00", "01", "003", "+1", "-1", "-0", "", " ", " 1", "1 ", "1\n", "\t1", "1.0", "1.", "1e1", "0x1", "1_0",
     "1,0", "one", "\u0661", "\uff11", "\u00b2", "1\u00a0", "18446744073709551615", "18446744073709551616", "18446744073709551617",
     "36893488147419103233", "340282366920938463463374607431768211457", "000000000000000000000000000000018446744073709551615",
@@ -99,7 +98,7 @@ def added(line: Line) -> Iterator[list[str]]:
     words = line.words()
     for name in ALL_OPTIONS:
         if name not in dict(line.options):
-            yield [*words, f"--{name}", {"budget": "9", "words": "9", "number": "9", "port": "9"}.get(name, SEED if name in SEEDS else "i.json")]
+            yield [*words, f"--{name}", {"budget": "9", "words": "9", "number": "9"}.get(name, SEED if name in SEEDS else "i.json")]
     for place in range(1, len(words) + 1):
         for stray in STRAY if place in (1, len(words)) else STRAY[:6]:
             yield [*words[:place], stray, *words[place:]]

@@ -12,7 +12,6 @@ from files import (
     write_view,
 )
 from joint import Direction, JointRun, SimulatedMiner, map_tapes
-from miner_texts import joined, read_text
 from network import Outcome, default_delivery, listed_delivery, shuffled_delivery
 from refusals import CallRefused
 from shares import gathered, read_share
@@ -28,10 +27,6 @@ LOAD_PROGRAM = (
     b'void main() { p uint64[[1]] a = argument("a"); p uint64[[1]] b = argument("b");\n'
     b'publish("dot", declassify(sum(a * b))); publish("less", declassify(sum((uint64)(a < b)))); }\n'
 )
-
-
-class NotModelled(Exception):
-    """What the call does hangs on peers or on other programs."""
 
 
 Written = list[tuple[str, bytes | None]]
@@ -69,7 +64,7 @@ class Caller:
         commands = {
             "check": self.check, "compile": self.compile, "eval": self.eval, "need": self.need, "run": self.run, "map": self.map,
             "simulate": self.simulate, "twin": self.twin, "deal": self.deal, "load": self.load,
-            "gather": self.gather, "miner": self.miner, "trio": self.trio, "join": self.join,
+            "gather": self.gather,
         }
         try:
             asked = read_words(words)
@@ -229,27 +224,6 @@ class Caller:
         """A miner's share files, end to end."""
         shares = [read_share(self.read(path), words.number("me")) for path in words.listed]
         return Answer(written=[(words["to"], gathered(shares))])
-
-    def miner(self, words: Words) -> Answer:
-        """Of a miner nothing is modelled but that its code is missing."""
-        self.read(words["code"])
-        raise NotModelled
-
-    def trio(self, words: Words) -> Answer:
-        """What is refused, and a run that can't be dealt; of three miners nothing is modelled."""
-        self.program(words["program"])
-        inputs = read_inputs(self.read(words["input"]))
-        tapes = read_tapes(self.read(words["tape"]))
-        need = dealer_need(inputs)
-        if need <= len(tapes[0]):
-            raise NotModelled
-        return Answer(8, f"end tape 0 need {need} have {len(tapes[0])} cost 0\n".encode())
-
-    def join(self, words: Words) -> Answer:
-        """Three texts, put together."""
-        texts = [read_text(self.read(words[name]), miner) for miner, name in enumerate(("first", "second", "third"), 1)]
-        text, status = joined(texts)
-        return Answer(status, text)
 
     def load(self, words: Words) -> Answer:
         inputs = load_inputs(words.number("number"))

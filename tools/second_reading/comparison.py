@@ -15,7 +15,7 @@ from itertools import islice
 from pathlib import Path
 from tempfile import TemporaryDirectory
 
-from commands import Answer, Caller, NotModelled
+from commands import Answer, Caller
 from words import FORMS
 
 FULL = "/dev/full"
@@ -108,11 +108,8 @@ class Folder:
                 self.put(path, data)
 
     def call(self, *words: str, full: tuple[str, ...] = ()) -> Answer:
-        """Calls both sides, and compares; of the streams `full` names those that take nothing. What isn't modelled is not called."""
-        try:
-            answer = self.caller.call(list(words))
-        except NotModelled:
-            return Answer()
+        """Calls both sides, and compares; of the streams `full` names those that take nothing."""
+        answer = self.caller.call(list(words))
         if "stdout" in full:
             answer = untold(answer)
         if "stderr" in full:

@@ -51,13 +51,10 @@ LINES = (
     Line("deal", (), (("input", "i.json"), ("tape", "t"), ("to", "d"))),
     Line("load", (), (("number", "2"),)),
     Line("gather", ("first.2", "second.2"), (("me", "2"), ("to", "g"))),
-    Line("join", ("text.1", "text.2", "text.3")),
-    Line("miner", ("gone",), (("me", "2"), ("share", "first.2"), ("tape", "t"), ("port", "47310"), ("out", "o"), ("budget", "100"))),
-    Line("trio", ("p.sc",), (("input", "i.json"), ("tape", "short"), ("to", "d"), ("port", "47310"), ("budget", "100"))),
 )
 WRITTEN = {
     "compile": ("code",), "run": ("views", "record"), "map": ("sim", "public", "opened"), "simulate": ("view",), "twin": ("to",),
-    "deal": ("to",), "gather": ("to",), "miner": ("out",), "trio": ("to",),
+    "deal": ("to",), "gather": ("to",),
 }
 FILE_OPTIONS = ("input", "second", "public", "opened", "tape", "sim", "schedule")
 
@@ -77,10 +74,6 @@ def made_files() -> dict[str, bytes]:
     """All good files; those that commands write are written by the model."""
     source = random.Random("tapes of the small program")
     files = {"p.sc": PROGRAM, "i.json": write_inputs(inputs(6, (1, 0, 1))), "j.json": write_inputs(inputs(12, (0, 1, 0)))}
-    files["short"] = write_tapes([[source.randint(0, MASK)] for _ in LENGTHS])
-    for miner, words in enumerate(("1 0", "18446744073709551615 1", "41 3"), 1):
-        bits = "5 2" if miner == 1 else "2 1"
-        files[f"text.{miner}"] = f"open 6 true\nshare s uint64 {words}\npublish k 3\nshare t bool {bits}\nend done cost 14\n".encode()
     files["t"] = write_tapes([[source.randint(0, MASK) for _ in range(length)] for length in LENGTHS])
     caller = Caller(files, set())
     given = ["p.sc", "--input", "i.json", "--tape", "t"]

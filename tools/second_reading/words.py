@@ -7,7 +7,6 @@ from dataclasses import dataclass
 
 WORD_LIMIT = (1 << 64) - 1
 TAPE_WORDS_LIMIT = 1 << 24
-LAST_PORT = (1 << 16) - 3
 
 
 @dataclass(frozen=True)
@@ -37,11 +36,8 @@ FORMS = {
     "deal": Form((), ("input", "tape", "to")),
     "load": Form((), ("number",)),
     "gather": Form((), ("me", "to"), has_list=True),
-    "miner": Form(("code",), ("me", "share", "tape", "port", "out"), ("budget",)),
-    "trio": Form(("program",), ("input", "tape", "to", "port"), ("budget",)),
-    "join": Form(("first", "second", "third")),
 }
-NUMBERS = {"miner": (1, 3), "me": (1, 3), "budget": (0, WORD_LIMIT), "number": (0, WORD_LIMIT), "words": (0, TAPE_WORDS_LIMIT), "port": (1, LAST_PORT)}
+NUMBERS = {"miner": (1, 3), "me": (1, 3), "budget": (0, WORD_LIMIT), "number": (0, WORD_LIMIT), "words": (0, TAPE_WORDS_LIMIT)}
 SEEDS = ("seed", "shuffle")
 SEED_FORM = re.compile(r"[0-9a-f]{64}")
 DIGITS = re.compile(r"[0-9]+")
