@@ -2,4 +2,5 @@ pub mod Texts
 pub mod Calls
 pub mod Agreeing
 pub mod Failures
+pub mod Faulted
 pub mod Vectors

@@ -4,7 +4,9 @@
 #![tactic(auto)]
 
 mod compared;
+mod faulted;
 mod lines;
+mod objects;
 mod pieces;
 mod reader;
 mod row;
@@ -14,7 +16,9 @@ mod tally;
 mod wrong;
 
 pub use compared::{Outcome, judge};
+pub use faulted::{calls_made, judge_fault};
 pub use lines::Lines;
+pub use objects::Objects;
 pub use reader::{Refused, read_rows};
 pub use row::{Failing, Kind, Object, Row, Text, peer_of};
 pub use slow::{SlowLinks, SlowSink};
