@@ -15,8 +15,8 @@ use Rattle.outside.specs.declared.file_call.FileAction.TheVariants.{Read, Write,
 use Rattle.row_files.specs.Calls.{calls_told}
 use Rattle.row_files.specs.Texts.{last_text}
 use Rattle.row_files.specs.declared.compared.Outcome.{Outcome}
-use Rattle.row_files.specs.declared.faulted.Part.{Part}
-use Rattle.row_files.specs.declared.faulted.Part.TheVariants.{Nothing, Front, Whole}
+use Rattle.row_files.specs.declared.faulted.Extent.{Extent}
+use Rattle.row_files.specs.declared.faulted.Extent.TheVariants.{Nothing, Front, Whole}
 use Rattle.row_files.specs.declared.row.Failing.{Failing}
 use Rattle.row_files.specs.declared.row.Kind.TheVariants.{Held}
 use Rattle.row_files.specs.declared.row.Object.{Object}
@@ -29,10 +29,10 @@ abbrev pub FileCalls : Type 0
 FileCalls = List (FileAction × List ℕ)
 
 -- whether these bytes are none, a front, or all of those that come where nothing fails
-abbrev pub is_part : Part → List ℕ → List ℕ → Bool
-is_part Nothing whole found = bytes_eq [] found
-is_part Front whole found = starts_with nat_eq whole found
-is_part Whole whole found = bytes_eq whole found
+abbrev pub is_extent : Extent → List ℕ → List ℕ → Bool
+is_extent Nothing whole found = bytes_eq [] found
+is_extent Front whole found = starts_with nat_eq whole found
+is_extent Whole whole found = bytes_eq whole found
 
 -- the status that tells of the object; the error stream's faults change none
 abbrev pub fault_status : Object → ℕ → ℕ
@@ -43,27 +43,27 @@ fault_status Links status = 10
 fault_status Children status = 12
 
 -- how much is printed
-abbrev pub printed_part : Object → Part
-printed_part Files = Nothing
-printed_part Out = Front
-printed_part Err = Whole
-printed_part Links = Nothing
-printed_part Children = Nothing
+abbrev pub printed_extent : Object → Extent
+printed_extent Files = Nothing
+printed_extent Out = Front
+printed_extent Err = Whole
+printed_extent Links = Nothing
+printed_extent Children = Nothing
 
 -- how much is done before: files that are read and written, what peers are sent
-abbrev pub done_part : Object → Part
-done_part Files = Front
-done_part Out = Whole
-done_part Err = Whole
-done_part Links = Front
-done_part Children = Front
+abbrev pub done_extent : Object → Extent
+done_extent Files = Front
+done_extent Out = Whole
+done_extent Err = Whole
+done_extent Links = Front
+done_extent Children = Front
 
 -- what the line says that tells of a file
 abbrev pub file_line : Option (List ℕ) → List ℕ
 file_line (Some path) = codes "error: file " ++ path ++ codes "\n"
 file_line None = []
 
--- the path that a call names
+-- the path that the call of this number names
 abbrev pub path_at : FileCalls → ℕ → Option (List ℕ)
 path_at calls call = option_map (λ it. it.1) (slice_get calls call)
 
@@ -132,7 +132,7 @@ made_before Err call found all = all
 made_before Links call found all = 0
 made_before Children call found all = found
 
--- a call of a store as a line
+-- a call of a store as a line: what it does, and the path
 abbrev pub action_word : FileAction → List ℕ
 action_word Read = codes "read "
 action_word Write = codes "write "
@@ -140,8 +140,11 @@ action_word Size = codes "size "
 action_word ReadAt = codes "read_at "
 action_word Append = codes "append "
 
+abbrev pub file_call_told : FileAction × List ℕ → List ℕ
+file_call_told call = action_word call.0 ++ call.1 ++ codes "\n"
+
 abbrev pub file_calls_told : FileCalls → List ℕ
-file_calls_told calls = flat_map (λ call. action_word call.0 ++ call.1 ++ codes "\n") calls
+file_calls_told calls = flat_map file_call_told calls
 
 -- whether the call that fails is a wait
 abbrev pub is_wait : Option ChildCall → Bool
@@ -178,8 +181,8 @@ is_last Err call good found = calls_made Err found == call + 1
 is_last Links call good found = calls_made Links found == call + 1
 is_last Children call good found = true
 
-abbrev pub is_sent_part : Object → Outcome → Outcome → ℕ → Bool
-is_sent_part object good found peer = is_part (done_part object) (links_sent good.links peer) (links_sent found.links peer)
+abbrev pub is_sent_extent : Object → Outcome → Outcome → ℕ → Bool
+is_sent_extent object good found peer = is_extent (done_extent object) (links_sent good.links peer) (links_sent found.links peer)
 
 -- whether a call in which one call of an object failed came to what it must
 abbrev pub agrees_with_fault : Row → Outcome → Failing → Outcome → Bool
@@ -187,12 +190,12 @@ agrees_with_fault row good failing found =
     let object = failing.object in
     let calls = log_in good.files in
     found.status == fault_status object good.status
-    && is_part (printed_part object) (bytes_in good.out) (bytes_in found.out)
+    && is_extent (printed_extent object) (bytes_in good.out) (bytes_in found.out)
     && is_line object (fault_line object (path_at calls failing.call)) (bytes_in good.err) (bytes_in found.err)
     && files_fit_then row good (made_before object failing.call (length (log_in found.files)) (length calls)) found
-    && is_part (done_part object) (file_calls_told calls) (file_calls_told (log_in found.files))
-    && is_sent_part object good found 1
-    && is_sent_part object good found 2
-    && is_sent_part object good found 3
+    && is_extent (done_extent object) (file_calls_told calls) (file_calls_told (log_in found.files))
+    && is_sent_extent object good found 1
+    && is_sent_extent object good found 2
+    && is_sent_extent object good found 3
     && are_answered object failing.call (calls_in good.children) (calls_in found.children)
     && is_last object failing.call good found

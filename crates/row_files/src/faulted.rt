@@ -7,9 +7,10 @@ ghost use Rattle.outside.specs.Files.{file_at};
 ghost use Rattle.outside.specs.MemFiles.{files_in, log_in};
 ghost use Rattle.outside.specs.SpawnCall.{calls_of};
 ghost use Rattle.row_files.specs.Calls.{calls_told};
-ghost use Rattle.row_files.specs.Faulted.{agrees_with_fault, answered_calls, are_answered, calls_made as calls_of_object, changes, done_part};
+ghost use Rattle.row_files.specs.Faulted.{agrees_with_fault, answered_calls, are_answered, calls_made as calls_of_object, changes, done_extent};
+ghost use Rattle.row_files.specs.Faulted.{action_word, file_call_told, file_line};
 ghost use Rattle.row_files.specs.Faulted.{fault_line, fault_status, file_calls_told, files_fit_then, fits_then, held_at, holds_then, is_changed};
-ghost use Rattle.row_files.specs.Faulted.{is_last, is_line, is_part, is_sent_part, made_before, path_at, printed_part, same_bytes};
+ghost use Rattle.row_files.specs.Faulted.{is_last, is_line, is_extent, is_sent_extent, made_before, path_at, printed_extent, same_bytes};
 
 use crate::compared::{Outcome, call_lines};
 use crate::lines::Lines;
@@ -19,20 +20,20 @@ use std::alloc::{AllocError, Global};
 
 /// How much of the bytes that come where nothing fails.
 #[derive(Clone, Copy)]
-pub(crate) enum Part {
+pub(crate) enum Extent {
     Nothing,
     Front,
     Whole,
 }
 
-// Whether these bytes are such a part.
-fn is_such(part: Part, whole: &[u8], found: &[u8]) -> bool
-    ensures { result ≡ is_part part whole.now found.now }
+// Whether these bytes are of such an extent.
+fn is_such(extent: Extent, whole: &[u8], found: &[u8]) -> bool
+    ensures { result ≡ is_extent extent whole.now found.now }
 {
-    match part {
-        Part::Nothing => b"".as_slice() == found,
-        Part::Front => whole.starts_with(found),
-        Part::Whole => whole == found,
+    match extent {
+        Extent::Nothing => b"".as_slice() == found,
+        Extent::Front => whole.starts_with(found),
+        Extent::Whole => whole == found,
     }
 }
 
@@ -48,27 +49,29 @@ fn status_of(object: Object, good: u8) -> u8
     }
 }
 
-fn printed(object: Object) -> Part
-    ensures { result ≡ printed_part object }
+fn printed(object: Object) -> Extent
+    ensures { result ≡ printed_extent object }
 {
     match object {
-        Object::Files | Object::Links | Object::Children => Part::Nothing,
-        Object::Out => Part::Front,
-        Object::Err => Part::Whole,
+        Object::Files | Object::Links | Object::Children => Extent::Nothing,
+        Object::Out => Extent::Front,
+        Object::Err => Extent::Whole,
     }
 }
 
-fn done(object: Object) -> Part
-    ensures { result ≡ done_part object }
+fn done(object: Object) -> Extent
+    ensures { result ≡ done_extent object }
 {
     match object {
-        Object::Files | Object::Links | Object::Children => Part::Front,
-        Object::Out | Object::Err => Part::Whole,
+        Object::Files | Object::Links | Object::Children => Extent::Front,
+        Object::Out | Object::Err => Extent::Whole,
     }
 }
 
 // Adds the line that tells of a file.
-fn add_file_line(line: &mut String, call: Option<&FileCall>) -> Result<(), AllocError> {
+fn add_file_line(line: &mut String, call: Option<&FileCall>) -> Result<(), AllocError>
+    ensures { OnOk result (string_bytes line.new ≡ string_bytes line.old ++ file_line (option_map (λ c. string_bytes c.now.path) call)) }
+{
     if let Some(call) = call {
         write!(line, "error: file {}\n", call.path.as_str())?;
     }
@@ -183,14 +186,22 @@ fn made(failing: Failing, good: &Outcome, found: &Outcome) -> usize
     }
 }
 
-fn add_file_call(lines: &mut String, call: &FileCall) -> Result<(), AllocError> {
-    lines.push_str(match call.action {
+fn word_of(action: FileAction) -> &'static str
+    ensures { result.now ≡ action_word action }
+{
+    match action {
         FileAction::Read => "read ",
         FileAction::Write => "write ",
         FileAction::Size => "size ",
         FileAction::ReadAt => "read_at ",
         FileAction::Append => "append ",
-    })?;
+    }
+}
+
+fn add_file_call(lines: &mut String, call: &FileCall) -> Result<(), AllocError>
+    ensures { OnOk result (string_bytes lines.new ≡ string_bytes lines.old ++ file_call_told (call.now.action, string_bytes call.now.path)) }
+{
+    lines.push_str(word_of(call.action))?;
     lines.push_str(call.path.as_str())?;
     lines.push_str("\n")
 }
@@ -247,7 +258,7 @@ fn same_file_calls(
     found: &Outcome,
 ) -> Result<bool, AllocError>
     ensures { IfOk result (λ yes. yes ≡
-        is_part (done_part object) (file_calls_told (log_in good.now.files)) (file_calls_told (log_in found.now.files))) }
+        is_extent (done_extent object) (file_calls_told (log_in good.now.files)) (file_calls_told (log_in found.now.files))) }
 {
     let all = file_call_lines(alloc, good.files.log())?;
     let some = file_call_lines(alloc, found.files.log())?;
@@ -258,7 +269,7 @@ fn same_file_calls(
 fn sent_fits(object: Object, good: &Outcome, found: &Outcome, peer: u8) -> bool
     requires from { 1 ≤ peer }
     requires to { peer ≤ 3 }
-    ensures { result ≡ is_sent_part object good.now found.now peer }
+    ensures { result ≡ is_sent_extent object good.now found.now peer }
 {
     is_such(done(object), good.links.sent(peer), found.links.sent(peer))
 }
