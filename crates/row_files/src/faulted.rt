@@ -1,7 +1,5 @@
 // What came out where one call of an object failed, against what comes out where it does not.
-ghost use Rattle.std.specs.Prelude.{◌≡◌, ◌==◌, ◌+◌, ◌++◌, ◌&&◌, IfOk, OnOk, drop, length, list, map, nat_eq, option_map, string_bytes, take};
-ghost use Rattle.std.specs.List.{flat_map, list_all, list_any, starts_with};
-ghost use Rattle.std.specs.Str.{bytes_eq};
+ghost use Rattle.std.specs.Prelude.{◌≡◌, ◌≤◌, ◌++◌, IfOk, OnOk, drop, length, option_map, string_bytes, take};
 ghost use Rattle.outside.specs.FileCall.{file_calls_of};
 ghost use Rattle.outside.specs.Files.{file_at};
 ghost use Rattle.outside.specs.MemFiles.{files_in, log_in};
@@ -9,7 +7,7 @@ ghost use Rattle.outside.specs.SpawnCall.{calls_of};
 ghost use Rattle.row_files.specs.Calls.{calls_told};
 ghost use Rattle.row_files.specs.Faulted.{agrees_with_fault, answered_calls, are_answered, calls_made as calls_of_object, changes, done_extent};
 ghost use Rattle.row_files.specs.Faulted.{action_word, file_call_told, file_line};
-ghost use Rattle.row_files.specs.Faulted.{fault_line, fault_status, file_calls_told, files_fit_then, fits_then, held_at, holds_then, is_changed};
+ghost use Rattle.row_files.specs.Faulted.{fault_line, fault_status, file_calls_told, files_fit_then, fits_then, held_at, is_changed};
 ghost use Rattle.row_files.specs.Faulted.{is_last, is_line, is_extent, is_sent_extent, made_before, path_at, printed_extent, same_bytes};
 
 use crate::compared::{Outcome, call_lines};
