@@ -43,9 +43,10 @@ class Counted:
 
     def line(self, title: str) -> str:
         told = sum(calls_for(len(f"error: file {path}\n")) for path in self.files)
-        told += self.out * calls_for(len("error: write\n")) + self.links * calls_for(len("error: link\n")) + self.children * calls_for(len("error: child\n"))
-        return (f"{title}: {len(self.files)} of files, {self.out} of out, {self.links} of links, {self.children} of children and {self.err + told} of err failed,"
-                " 0 differ")
+        for count, word in ((self.out, "write"), (self.links, "link"), (self.children, "child")):
+            told += count * calls_for(len(f"error: {word}\n"))
+        others = f"{len(self.files)} of files, {self.out} of out, {self.links} of links, {self.children} of children"
+        return f"{title}: {others} and {self.err + told} of err failed, 0 differ"
 
 
 class Watched(Caller):

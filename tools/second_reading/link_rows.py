@@ -304,7 +304,8 @@ def fault_rows(rows: MinerRows):
 
 
 def miner_rows() -> MinerRows:
-    rows = MinerRows("One of three miners over links in memory, whose peers do their part, lie or go away. Made by", "tools/second_reading/link_rows.py: hellos and frames by a model in Python, codes by hand.")
+    rows = MinerRows("One of three miners over links in memory, whose peers do their part, lie or go away. Made by",
+                     "tools/second_reading/link_rows.py: hellos and frames by a model in Python, codes by hand.")
     product_rows(rows)
     bit_rows(rows)
     file_rows(rows)
@@ -442,7 +443,8 @@ def ended_trio_rows(rows: Rows):
     rows.row("its code is the shortest", *common_text(empty), "written p.code", *hexed(NOTHING_DONE.code), *shares_written(empty),
              "calls", *started(3, 1000000), *waits(0, 1, 2))
     rows.row("a file that is written is the program", "call trio p.1 --input p.json --tape p.tape --to p --port 65533", "file p.1", "|void main() { }",
-             *common_text(empty), "written p.code", *hexed(NOTHING_DONE.code), *shares_written(empty), "calls", *started(3, 1000000, 65533), *waits(0, 1, 2))
+             *common_text(empty), "written p.code", *hexed(NOTHING_DONE.code), *shares_written(empty), "calls", *started(3, 1000000, 65533),
+             *waits(0, 1, 2))
 
 
 def refused_trio_rows(rows: Rows):

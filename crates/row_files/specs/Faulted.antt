@@ -1,8 +1,7 @@
 -- What must come of a call of the program where one call of an object fails, by what comes of it where that call does not.
-use Rattle.std.specs.Prelude.{ℕ, ◌+◌, List, [], ◌++◌, Bool, true, false, ◌&&◌, ◌||◌, ◌==◌, length, take, drop, Option, None, Some, option_map, string_bytes, codes}
-use Rattle.std.specs.Prelude.{if◌then◌else◌, slice_get}
+use Rattle.std.specs.Prelude.{ℕ, ◌+◌, List, [], ◌++◌, Bool, true, false, ◌&&◌, ◌||◌, ◌==◌, nat_eq, if◌then◌else◌, length, take, drop, slice_get}
+use Rattle.std.specs.Prelude.{Option, None, Some, option_map, string_bytes, codes}
 use Rattle.std.specs.List.{flat_map, list_all, list_any, starts_with}
-use Rattle.std.specs.Prelude.{nat_eq}
 use Rattle.std.specs.Str.{bytes_eq}
 use Rattle.outside.specs.Files.{Contents, file_at}
 use Rattle.outside.specs.MemFiles.{files_in, log_in, plan_in as files_plan}
@@ -91,9 +90,13 @@ changes Size = false
 changes ReadAt = false
 changes Append = true
 
--- whether one of the calls changes the file with this path
+-- whether a call changes the file with this path
+abbrev pub changes_it : List ℕ → FileAction × List ℕ → Bool
+changes_it path call = changes call.0 && bytes_eq call.1 path
+
+-- whether one of the calls does
 abbrev pub is_changed : FileCalls → List ℕ → Bool
-is_changed calls path = list_any (λ call. changes call.0 && bytes_eq call.1 path) calls
+is_changed calls path = list_any (changes_it path) calls
 
 -- whether the same is at a path
 abbrev pub same_bytes : Option (List ℕ) → Option (List ℕ) → Bool
@@ -146,16 +149,15 @@ file_call_told call = action_word call.0 ++ call.1 ++ codes "\n"
 abbrev pub file_calls_told : FileCalls → List ℕ
 file_calls_told calls = flat_map file_call_told calls
 
--- whether the call that fails is a wait
-abbrev pub is_wait : Option ChildCall → Bool
-is_wait (Some (awaited child)) = true
-is_wait (Some (started words child)) = false
-is_wait None = false
+-- the lines of the calls of children that are answered where this one, of this number, fails: after a child that was not started no other is
+-- started or waited for; where one cannot be waited for all others are
+abbrev pub told_without : List ChildCall → ℕ → Option ChildCall → List ℕ
+told_without calls call (Some (started words child)) = calls_told (take call calls)
+told_without calls call (Some (awaited child)) = calls_told (take call calls) ++ calls_told (drop (call + 1) calls)
+told_without calls call None = calls_told calls
 
--- the calls of children that are answered where the one of this number fails: after a child that was not started no other is started or waited
--- for, and all others are waited for where one cannot be
-abbrev pub answered_calls : List ChildCall → ℕ → List ChildCall
-answered_calls calls call = take call calls ++ (if is_wait (slice_get calls call) then drop (call + 1) calls else [])
+abbrev pub answered_told : List ChildCall → ℕ → List ℕ
+answered_told calls call = told_without calls call (slice_get calls call)
 
 -- whether the calls of children are those
 abbrev pub are_answered : Object → ℕ → List ChildCall → List ChildCall → Bool
@@ -163,7 +165,7 @@ are_answered Files call good found = starts_with nat_eq (calls_told good) (calls
 are_answered Out call good found = bytes_eq (calls_told good) (calls_told found)
 are_answered Err call good found = bytes_eq (calls_told good) (calls_told found)
 are_answered Links call good found = starts_with nat_eq (calls_told good) (calls_told found)
-are_answered Children call good found = bytes_eq (calls_told (answered_calls good call)) (calls_told found)
+are_answered Children call good found = bytes_eq (answered_told good call) (calls_told found)
 
 -- how many calls of an object were made
 abbrev pub calls_made : Object → Outcome → ℕ

@@ -5,7 +5,7 @@ ghost use Rattle.outside.specs.Files.{file_at};
 ghost use Rattle.outside.specs.MemFiles.{files_in, log_in};
 ghost use Rattle.outside.specs.SpawnCall.{calls_of};
 ghost use Rattle.row_files.specs.Calls.{calls_told};
-ghost use Rattle.row_files.specs.Faulted.{agrees_with_fault, answered_calls, are_answered, calls_made as calls_of_object, changes, done_extent};
+ghost use Rattle.row_files.specs.Faulted.{agrees_with_fault, answered_told, are_answered, calls_made as calls_of_object, changes, done_extent};
 ghost use Rattle.row_files.specs.Faulted.{action_word, file_call_told, file_line};
 ghost use Rattle.row_files.specs.Faulted.{fault_line, fault_status, file_calls_told, files_fit_then, fits_then, held_at, is_changed};
 ghost use Rattle.row_files.specs.Faulted.{is_last, is_line, is_extent, is_sent_extent, made_before, path_at, printed_extent, same_bytes};
@@ -68,7 +68,7 @@ fn done(object: Object) -> Extent
 
 // Adds the line that tells of a file.
 fn add_file_line(line: &mut String, call: Option<&FileCall>) -> Result<(), AllocError>
-    ensures { OnOk result (string_bytes line.new ≡ string_bytes line.old ++ file_line (option_map (λ c. string_bytes c.now.path) call)) }
+    ensures { OnOk result (string_bytes line.new ≡ string_bytes line.old ++ file_line (option_map (λ c. string_bytes c.now.path) call.entry)) }
 {
     if let Some(call) = call {
         write!(line, "error: file {}\n", call.path.as_str())?;
@@ -130,7 +130,7 @@ fn will_be_changed(calls: &[FileCall], made: usize, path: &str) -> bool
 }
 
 fn same(one: Option<&[u8]>, other: Option<&[u8]>) -> bool
-    ensures { result ≡ same_bytes (option_map (λ b. b.now) one) (option_map (λ b. b.now) other) }
+    ensures { result ≡ same_bytes (option_map (λ b. b.now) one.entry) (option_map (λ b. b.now) other.entry) }
 {
     match (one, other) {
         (Some(one), Some(other)) => one == other,
@@ -215,17 +215,27 @@ fn file_call_lines(alloc: Global, calls: &[FileCall]) -> Result<String, AllocErr
     Ok(lines)
 }
 
-// The lines of the calls of children that are answered where the one of this number fails.
-fn answered_lines(alloc: Global, calls: &[SpawnCall], call: u64) -> Result<String, AllocError>
-    ensures { IfOk result (λ lines. string_bytes lines ≡ calls_told (answered_calls (calls_of calls.now) call)) }
+// The lines of calls, and of later ones.
+fn both_lines(alloc: Global, first: &[SpawnCall], later: &[SpawnCall]) -> Result<String, AllocError>
+    ensures { IfOk result (λ lines. string_bytes lines ≡ calls_told (calls_of first.now) ++ calls_told (calls_of later.now)) }
 {
-    let number = calls.len().min(call as usize);
-    let mut lines = call_lines(alloc, &calls[..number])?;
-    if let Some(SpawnCall::Awaited(_)) = calls.get(number) {
-        let later = call_lines(alloc, &calls[number + 1..])?;
-        lines.push_str(later.as_str())?;
-    }
+    let mut lines = call_lines(alloc, first)?;
+    let more = call_lines(alloc, later)?;
+    lines.push_str(more.as_str())?;
     Ok(lines)
+}
+
+// The lines of the calls of children that are answered where the one of this number fails.
+#[tactic(auto, using(crate::proofs::Made::calls_front, crate::proofs::Made::calls_rest, crate::proofs::Made::call_at))]
+fn answered_lines(alloc: Global, calls: &[SpawnCall], call: u64) -> Result<String, AllocError>
+    ensures { IfOk result (λ lines. string_bytes lines ≡ answered_told (calls_of calls.now) call) }
+{
+    let number = call as usize;
+    match calls.get(number) {
+        Some(SpawnCall::Awaited(_)) => both_lines(alloc, &calls[..number], &calls[number + 1..]),
+        Some(SpawnCall::Started { .. }) => call_lines(alloc, &calls[..number]),
+        None => call_lines(alloc, calls),
+    }
 }
 
 // Whether the calls of children are those that must be answered.
