@@ -295,11 +295,7 @@ def fault_rows(rows: MinerRows):
     sent = was_sent(setting, me, {12: 0})
     rows.refused("the first byte after both hellos cannot be read", 10, "link", me, f"fail links {1 + 4 * 10 + 5}", *sent)
     rows.refused("the same, one byte a call", 10, "link", me, "slow", f"fail links {1 + 4 * 68 + 29}", *sent)
-    half = [line for line in greeted(setting, me) if line.startswith("sent")]
     rows.refused("the first hello cannot be sent", 10, "link", me, "fail links 1")
-    rows.refused("the second hello cannot be sent", 10, "link", me, "fail links 11", half[0], *spelled(setting.hello(2, 1).bytes()))
-    rows.refused("the second call of the second hello fails", 10, "link", me, "fail links 12", half[0], *spelled(setting.hello(2, 1).bytes()),
-                 half[1], *hexed(setting.hello(2, 3).bytes()[:7]))
     rows.row("one byte a call", "slow", *was_sent(setting, me), "written p.o2", *written(setting.text(me)))
 
 

@@ -226,7 +226,6 @@ fn both_lines(alloc: Global, first: &[SpawnCall], later: &[SpawnCall]) -> Result
 }
 
 // The lines of the calls of children that are answered where the one of this number fails.
-#[tactic(auto, using(crate::proofs::Made::calls_front, crate::proofs::Made::calls_rest, crate::proofs::Made::call_at))]
 fn answered_lines(alloc: Global, calls: &[SpawnCall], call: u64) -> Result<String, AllocError>
     ensures { IfOk result (λ lines. string_bytes lines ≡ answered_told (calls_of calls.now) call) }
 {
