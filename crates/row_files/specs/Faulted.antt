@@ -3,7 +3,7 @@ use Rattle.std.specs.Prelude.{ℕ, ◌+◌, List, [], ◌++◌, Bool, true, fals
 use Rattle.std.specs.Prelude.{Option, None, Some, option_map, string_bytes, codes}
 use Rattle.std.specs.List.{flat_map, list_all, list_any, starts_with}
 use Rattle.std.specs.Str.{bytes_eq}
-use Rattle.outside.specs.Files.{Contents, file_at}
+use Rattle.outside.specs.Files.{file_at}
 use Rattle.outside.specs.MemFiles.{files_in, log_in, plan_in as files_plan}
 use Rattle.outside.specs.MemLinks.{links_sent, plan_in as links_plan}
 use Rattle.outside.specs.MemSink.{bytes_in, plan_in as sink_plan}
