@@ -1,7 +1,8 @@
 // A row whose calls fail, each in turn.
 use crate::calling::call;
 use anyhow::Result;
-use row_files::{Failing, Object, Outcome, Row, calls_made, judge, judge_fault};
+use row_faults::{calls_made, judge_fault};
+use row_files::{Failing, Object, Outcome, Row, judge};
 
 /// How many calls of each object failed, and how many of the calls of the program came to something else than they must.
 #[derive(Clone, Copy)]

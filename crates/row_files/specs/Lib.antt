@@ -2,5 +2,4 @@ pub mod Texts
 pub mod Calls
 pub mod Agreeing
 pub mod Failures
-pub mod Faulted
 pub mod Vectors

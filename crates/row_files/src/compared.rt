@@ -210,8 +210,8 @@ fn add_call(lines: &mut String, call: &SpawnCall) -> Result<(), AllocError>
     lines.push_str("\n")
 }
 
-// Each call as a line.
-pub(crate) fn call_lines(alloc: Global, calls: &[SpawnCall]) -> Result<String, AllocError>
+/// The calls of children as lines: `start WORD WORD ..` or `wait CHILD`.
+pub fn call_lines(alloc: Global, calls: &[SpawnCall]) -> Result<String, AllocError>
     ensures { IfOk result (λ lines. string_bytes lines ≡ calls_told (calls_of calls.now)) }
 {
     let mut lines = String::new(alloc);

@@ -4,7 +4,6 @@
 #![tactic(auto)]
 
 mod compared;
-mod faulted;
 mod lines;
 mod objects;
 mod pieces;
@@ -15,8 +14,7 @@ mod tables;
 mod tally;
 mod wrong;
 
-pub use compared::{Outcome, judge};
-pub use faulted::{calls_made, judge_fault};
+pub use compared::{Outcome, call_lines, judge};
 pub use lines::Lines;
 pub use objects::Objects;
 pub use reader::{Refused, read_rows};

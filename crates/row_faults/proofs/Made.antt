@@ -12,7 +12,7 @@ use Rattle.outside.specs.declared.file_call.FileAction.{FileAction}
 use Rattle.outside.specs.declared.file_call.FileCall.{FileCall}
 use Rattle.outside.specs.declared.spawn_call.SpawnCall.{SpawnCall}
 use Rattle.row_files.specs.Calls.{calls_told}
-use Rattle.row_files.specs.Faulted.{answered_told, changes_it, is_changed, told_without}
+use Rattle.row_faults.specs.Faulted.{answered_told, changes_it, is_changed, told_without}
 
 calls_front : (n : ℕ) (calls : List SpawnCall) → calls_told (calls_of (take n calls)) ≡ calls_told (take n (calls_of calls))
 calls_front n calls = ap calls_told (sym (take-map call_of n calls))

@@ -14,8 +14,8 @@ use Rattle.outside.specs.declared.file_call.FileAction.TheVariants.{Read, Write,
 use Rattle.row_files.specs.Calls.{calls_told}
 use Rattle.row_files.specs.Texts.{last_text}
 use Rattle.row_files.specs.declared.compared.Outcome.{Outcome}
-use Rattle.row_files.specs.declared.faulted.Extent.{Extent}
-use Rattle.row_files.specs.declared.faulted.Extent.TheVariants.{Nothing, Front, Whole}
+use Rattle.row_faults.specs.declared.faulted.Extent.{Extent}
+use Rattle.row_faults.specs.declared.faulted.Extent.TheVariants.{Nothing, Front, Whole}
 use Rattle.row_files.specs.declared.row.Failing.{Failing}
 use Rattle.row_files.specs.declared.row.Kind.TheVariants.{Held}
 use Rattle.row_files.specs.declared.row.Object.{Object}

@@ -2,9 +2,9 @@ use Rattle.std.proofs.Common.{◌∙◌, rules, tests}
 use Rattle.std.proofs.lemmas.Iterator.{YieldsList-from_slice}
 use Rattle.std.proofs.lemmas.Iterator.Adapters.{YieldsList-from_skip}
 use Rattle.std.proofs.lemmas.Iterator.Search.{any_from_yields_List}
-use Rattle.row_files.proofs.Made.{changed_rest, made_call}
-use Rattle.row_files.proofs.faulted.will_be_changed.Goals as goal
-use Rattle.row_files.specs.Faulted.{changes_it}
+use Rattle.row_faults.proofs.Made.{changed_rest, made_call}
+use Rattle.row_faults.proofs.faulted.will_be_changed.Goals as goal
+use Rattle.row_faults.specs.Faulted.{changes_it}
 
 pub returns : goal.returns
 returns c =

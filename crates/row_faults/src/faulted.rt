@@ -5,15 +5,13 @@ ghost use Rattle.outside.specs.Files.{file_at};
 ghost use Rattle.outside.specs.MemFiles.{files_in, log_in};
 ghost use Rattle.outside.specs.SpawnCall.{calls_of};
 ghost use Rattle.row_files.specs.Calls.{calls_told};
-ghost use Rattle.row_files.specs.Faulted.{agrees_with_fault, answered_told, are_answered, calls_made as calls_of_object, changes, done_extent};
-ghost use Rattle.row_files.specs.Faulted.{action_word, file_call_told, file_line};
-ghost use Rattle.row_files.specs.Faulted.{fault_line, fault_status, file_calls_told, files_fit_then, fits_then, held_at, is_changed};
-ghost use Rattle.row_files.specs.Faulted.{is_last, is_line, is_extent, is_sent_extent, made_before, path_at, printed_extent, same_bytes};
+ghost use Rattle.row_faults.specs.Faulted.{agrees_with_fault, answered_told, are_answered, calls_made as calls_of_object, changes, done_extent};
+ghost use Rattle.row_faults.specs.Faulted.{action_word, file_call_told, file_line};
+ghost use Rattle.row_faults.specs.Faulted.{fault_line, fault_status, file_calls_told, files_fit_then, fits_then, held_at, is_changed};
+ghost use Rattle.row_faults.specs.Faulted.{is_last, is_line, is_extent, is_sent_extent, made_before, path_at, printed_extent, same_bytes};
 
-use crate::compared::{Outcome, call_lines};
-use crate::lines::Lines;
-use crate::row::{Failing, Kind, Object, Row};
 use outside::{FileAction, FileCall, SpawnCall};
+use row_files::{Failing, Kind, Lines, Object, Outcome, Row, call_lines};
 use std::alloc::{AllocError, Global};
 
 /// How much of the bytes that come where nothing fails.

@@ -3,9 +3,9 @@ use Rattle.std.specs.List.{list_all}
 use Rattle.std.proofs.lemmas.Iterator.{YieldsList-from_slice}
 use Rattle.std.proofs.lemmas.Iterator.Search.{all_from_yields_List}
 use Rattle.std.proofs.lemmas.List.Folds.{list_all-map}
-use Rattle.row_files.proofs.Made.{made_call}
-use Rattle.row_files.proofs.faulted.all_fit.Goals as goal
-use Rattle.row_files.specs.Faulted.{fits_then}
+use Rattle.row_faults.proofs.Made.{made_call}
+use Rattle.row_faults.proofs.faulted.all_fit.Goals as goal
+use Rattle.row_faults.specs.Faulted.{fits_then}
 
 pub returns : goal.returns
 returns c =

@@ -3,9 +3,9 @@ use Rattle.std.proofs.lemmas.List.{append-nil, map_more}
 use Rattle.std.proofs.lemmas.List.Concat.{flat_map-append}
 use Rattle.outside.specs.FileCall.{file_calls_of}
 use Rattle.outside.specs.declared.file_call.FileCall.{FileCall}
-use Rattle.row_files.proofs.Made.{made_call}
-use Rattle.row_files.proofs.faulted.file_call_lines.Goals as goal
-use Rattle.row_files.specs.Faulted.{file_call_told, file_calls_told}
+use Rattle.row_faults.proofs.Made.{made_call}
+use Rattle.row_faults.proofs.faulted.file_call_lines.Goals as goal
+use Rattle.row_faults.specs.Faulted.{file_call_told, file_calls_told}
 
 one_more : (calls : List FileCall) (i : ℕ) (call : FileCall) → i < length calls → call ≡ get_or calls i call
     → file_calls_told (file_calls_of (take (i + 1) calls)) ≡ file_calls_told (file_calls_of (take i calls)) ++ file_call_told (made_call call)

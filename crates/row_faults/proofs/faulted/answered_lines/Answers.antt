@@ -1,8 +1,8 @@
 use Rattle.std.proofs.Common.{◌≡◌, List, ℕ, IfOk, length, string_bytes, ap, refl, subst}
 use Rattle.std.proofs.lemmas.Option.{slice_get_read}
 use Rattle.outside.specs.SpawnCall.{call_of}
-use Rattle.row_files.proofs.Made.{without_start, without_wait}
-use Rattle.row_files.proofs.faulted.answered_lines.Goals as goal
+use Rattle.row_faults.proofs.Made.{without_start, without_wait}
+use Rattle.row_faults.proofs.faulted.answered_lines.Goals as goal
 
 pub returns-in-Some-Awaited : goal.returns-in-Some-Awaited
 returns-in-Some-Awaited c =
