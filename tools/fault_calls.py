@@ -5,18 +5,36 @@ faults make each of these calls in a folder of its own, once as it is and then w
 of the pages of examples; what a call writes is what it writes with nothing failing, which `rows` pins.
 """
 import collections
+import contextlib
 import os
 import shutil
 import subprocess
 
 TOP = os.path.dirname(os.path.dirname(os.path.abspath(__file__)))
-# The words of a call, the files that it writes in order, and its status where nothing fails.
-Call = collections.namedtuple("Call", "words written status")
+# The words of a call, the files that it writes in order, and its status where nothing fails; the calls beside it, which are never failed, and the files
+# that these or its children write.
+Call = collections.namedtuple("Call", "words written status beside others", defaults=((), ()))
 # What a call came to: its status, what it printed, what it said, and the bytes of each file that it may write (None where there is none).
 Outcome = collections.namedtuple("Outcome", "status out err files")
 
 SUM = ["sum.sc", "--input", "sum.json"]
 VIEWS = ["v.1", "v.2", "v.3"]
+# The texts that three miners write of a run.
+TEXTS = ["share s uint64 3\nend done cost 7\n", "share s uint64 4\nend done cost 7\n", "share s uint64 6\nend done cost 7\n"]
+
+
+def miner(number, port):
+    """The words of one of three miners."""
+    named = ["--share", f"dealt.{number}", "--tape", f"dealt.t{number}", "--port", str(port), "--out", f"o.{number}"]
+    return ["miner", "sum.code", "--me", str(number), *named]
+
+
+def served(number, port):
+    """The call of one of three miners, with the two others beside it."""
+    others = [one for one in (1, 2, 3) if one != number]
+    return Call(miner(number, port), [f"o.{number}"], 0, [miner(one, port) for one in others], [f"o.{one}" for one in others])
+
+
 CALLS = [
     Call(["check", "sum.sc"], [], 0),
     Call(["compile", "sum.sc", "--code", "code"], ["code"], 0),
@@ -29,13 +47,11 @@ CALLS = [
     Call(["load", "--number", "3"], [], 0),
     Call(["deal", "--input", "sum.json", "--tape", "words.tape", "--to", "d"], ["d.1", "d.2", "d.3", "d.t1", "d.t2", "d.t3"], 0),
     Call(["gather", "--me", "1", "--to", "all.1", "dealt.1"], ["all.1"], 0),
-    Call(["join", "told.1", "told.2", "told.3"], [], 0),
+    Call(["join", "text.1", "text.2", "text.3"], [], 0),
+    *(served(number, 47340 + 10 * number) for number in (1, 2, 3)),
+    Call(["trio", *SUM, "--tape", "words.tape", "--to", "t", "--port", "47380"], ["t.code", "t.1", "t.2", "t.3", "t.t1", "t.t2", "t.t3"], 0,
+         others=["t.o1", "t.o2", "t.o3"]),
 ]
-# Calls that start programs of their own, which read and write too: what is taken from the call would be taken from those as well.
-STARTING = [
-    Call(["trio", *SUM, "--tape", "words.tape", "--to", "e", "--port", "47310"], [f"e.{name}" for name in ("code", "1", "2", "3", "t1", "t2", "t3")], 0),
-]
-TOLD = "open 13\nshare t uint64 {}\nend done cost 9\n"
 
 
 def make_files(program, folder):
@@ -45,11 +61,12 @@ def make_files(program, folder):
         shutil.copyfile(f"{views}/{source}", f"{folder}/{name}")
     mapped = ["map", "1", *SUM, "--tape", "words.tape", "--sim", "sum.sim", "--public", "sum.public", "--opened", "sum.opened"]
     dealt = ["deal", "--input", "sum.json", "--tape", "words.tape", "--to", "dealt"]
-    for words in (mapped, dealt):
-        subprocess.run([program, *words], cwd=folder, check=True)
-    for miner in (1, 2, 3):
-        with open(f"{folder}/told.{miner}", "w", encoding="utf-8") as file:
-            file.write(TOLD.format(miner))
+    compiled = ["compile", "sum.sc", "--code", "sum.code"]
+    for words in (mapped, dealt, compiled):
+        subprocess.run([program, *words], cwd=folder, check=True, stdout=subprocess.DEVNULL)
+    for number, text in enumerate(TEXTS, 1):
+        with open(f"{folder}/text.{number}", "w", encoding="utf-8") as file:
+            file.write(text)
 
 
 def bytes_of(path):
@@ -61,14 +78,31 @@ def bytes_of(path):
         return None
 
 
+@contextlib.contextmanager
+def beside(program, call, folder):
+    """Runs the calls beside a call; once that has ended they are given little time, since without it they may wait for a quarter of an hour."""
+    settings = {"cwd": folder, "stdin": subprocess.DEVNULL, "stdout": subprocess.DEVNULL, "stderr": subprocess.DEVNULL}
+    running = [subprocess.Popen([program, *words], **settings) for words in call.beside]
+    try:
+        yield
+    finally:
+        for one in running:
+            try:
+                one.wait(0.3)
+            except subprocess.TimeoutExpired:
+                one.kill()
+                one.wait()
+
+
 def made(program, call, folder, **how):
     """Makes a call in a folder from which the files that it writes were taken away."""
-    for name in call.written:
+    for name in [*call.written, *call.others]:
         try:
             os.remove(f"{folder}/{name}")
         except FileNotFoundError:
             pass
-    ran = subprocess.run([program, *call.words], cwd=folder, stdin=subprocess.DEVNULL, capture_output=True, timeout=120, **how)
+    with beside(program, call, folder):
+        ran = subprocess.run([program, *call.words], cwd=folder, stdin=subprocess.DEVNULL, capture_output=True, timeout=120, **how)
     return Outcome(ran.returncode, ran.stdout, ran.stderr, [bytes_of(f"{folder}/{name}") for name in call.written])
 
 

@@ -1,5 +1,5 @@
 /* Preloaded into a program, it refuses the allocation whose number, from 1, stands in REFUSE, and writes into the file named in COUNTED how many were
-   asked for in all. What is asked for before the program's own `main` counts, too. */
+   asked for in all. What is asked for before the program's own `main` counts, too. Programs that it starts are without it. */
 #define _GNU_SOURCE
 #include <dlfcn.h>
 #include <errno.h>
@@ -7,12 +7,17 @@
 #include <stdlib.h>
 
 static long asked, refused = -1;
+static char counted[4096];
+
+static void begin(void) {
+  const char *text = getenv("REFUSE"), *path = getenv("COUNTED");
+  refused = text ? atol(text) : 0;
+  if (path) snprintf(counted, sizeof counted, "%s", path);
+  unsetenv("LD_PRELOAD");
+}
 
 static int is_refused(void) {
-  if (refused < 0) {
-    const char *text = getenv("REFUSE");
-    refused = text ? atol(text) : 0;
-  }
+  if (refused < 0) begin();
   if (++asked != refused) return 0;
   errno = ENOMEM;
   return 1;
@@ -43,8 +48,7 @@ int posix_memalign(void **block, size_t alignment, size_t size) {
 }
 
 __attribute__((destructor)) static void tell(void) {
-  const char *path = getenv("COUNTED");
-  FILE *file = path ? fopen(path, "w") : NULL;
+  FILE *file = counted[0] ? fopen(counted, "w") : NULL;
   if (!file) return;
   fprintf(file, "%ld\n", asked);
   fclose(file);

@@ -16,7 +16,6 @@ use outside::{MemFiles, MemLinks, MemSink, MemSpawner, SpawnCall};
 use std::alloc::{AllocError, Global};
 
 /// What a call answered and left.
-#[derive(Drop)]
 pub struct Outcome {
     pub status: u8,
     pub files: MemFiles,
@@ -24,6 +23,20 @@ pub struct Outcome {
     pub err: MemSink,
     pub links: MemLinks,
     pub children: MemSpawner,
+}
+
+// Written out, so that an early exit calls this once.
+impl Drop for Outcome {
+    fn drop(self) {
+        let Outcome {
+            status: _,
+            files: _,
+            out: _,
+            err: _,
+            links: _,
+            children: _,
+        } = self;
+    }
 }
 
 // No more bytes of a text are shown.
@@ -197,8 +210,8 @@ fn add_call(lines: &mut String, call: &SpawnCall) -> Result<(), AllocError>
     lines.push_str("\n")
 }
 
-// Each call as a line.
-fn call_lines(alloc: Global, calls: &[SpawnCall]) -> Result<String, AllocError>
+/// The calls of children as lines: `start WORD WORD ..` or `wait CHILD`.
+pub fn call_lines(alloc: Global, calls: &[SpawnCall]) -> Result<String, AllocError>
     ensures { IfOk result (λ lines. string_bytes lines ≡ calls_told (calls_of calls.now)) }
 {
     let mut lines = String::new(alloc);

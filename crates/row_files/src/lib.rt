@@ -5,6 +5,7 @@
 
 mod compared;
 mod lines;
+mod objects;
 mod pieces;
 mod reader;
 mod row;
@@ -13,8 +14,9 @@ mod tables;
 mod tally;
 mod wrong;
 
-pub use compared::{Outcome, judge};
+pub use compared::{Outcome, call_lines, judge};
 pub use lines::Lines;
+pub use objects::Objects;
 pub use reader::{Refused, read_rows};
 pub use row::{Failing, Kind, Object, Row, Text, peer_of};
 pub use slow::{SlowLinks, SlowSink};
