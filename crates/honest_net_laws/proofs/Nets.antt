@@ -1,5 +1,5 @@
 -- Honest miners go on: by what began the run's messages, and so along any deliveries.
-use Rattle.std.proofs.Common.{◌≡◌, ◌<◌, ℕ, List, [], ◌∷◌, length, All, refl, sym, ◌∙◌, ap, subst}
+use Rattle.std.proofs.Common.{◌≡◌, ◌<◌, ℕ, List, [], ◌∷◌, length, All, sym, ◌∙◌, ap, subst}
 use Rattle.std.proofs.lemmas.List.Elements.{All-nil, All-cons, All-head, All-tail}
 use Rattle.proto_core.specs.declared.party.Number.{Number}
 use Rattle.proto_core.specs.declared.party.Number.TheVariants.{One, Two, Three}
@@ -16,7 +16,6 @@ use Rattle.bytecode.specs.Raw.{RawCode}
 use Rattle.tape_file.specs.Tapes.{FourTapes}
 use Rattle.value_file.specs.declared.inputs.Entry.{Entry}
 use Rattle.typed_tree.specs.Programs.{TypedProgramTree}
-use Rattle.gates.specs.Clear.{Values}
 use Rattle.language_model.specs.Effects.{World}
 use Rattle.language_model.specs.Reports.{Report, Offered}
 use Rattle.verified_code.specs.Settled.{settled}
@@ -131,10 +130,10 @@ module _ (o : Offered) (d : Dealt) (c : List Function) (budget : ℕ) (tapes : T
 
     mail_is : net_mail net ≡ came
     unfolding net_mail
-    mail_is = ap (λ nodes. all_delivered nodes nothing net.delivered) nodes_are
+    mail_is = ap (λ (nodes : Number → Strand Ended). all_delivered nodes nothing net.delivered) nodes_are
 
     at_node : (i : Number) → net_node net i ≡ run_of own came i
-    at_node i = ap (λ nodes. run_of nodes (net_mail net) i) nodes_are ∙ ap (λ mail. run_of own mail i) mail_is
+    at_node i = ap (λ (nodes : Number → Strand Ended). run_of nodes (net_mail net) i) nodes_are ∙ ap (λ (mail : Mail). run_of own mail i) mail_is
 
     posted_is : (l : Link) → net_posted net l ≡ posted own came l
     posted_is l = ap (λ x. on_link l x.acts) (at_node (sender_of l))

@@ -14,7 +14,7 @@ use Rattle.miner_core.specs.Story.{Story, stands_at}
 use Rattle.miner_runs.specs.Runs.{messages}
 use Rattle.miner_runs.specs.OwnRuns.{public_world}
 use Rattle.joined_nodes.specs.Joined.{sent_by}
-use Rattle.link_schedule.specs.Net.{Own, NetState, own_in, net_mail, net_node, net_posted}
+use Rattle.link_schedule.specs.Net.{NetState, own_in, net_mail, net_node, net_posted}
 use Rattle.framed_runs.specs.Framing.{CanBeFramed}
 
 -- a miner that stands so, where these messages came and those are all of the run: it refuses none, and where it waits, its link ends at it, and
