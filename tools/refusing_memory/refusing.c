@@ -9,7 +9,8 @@
 static long asked, refused = -1;
 static char counted[4096];
 
-static void begin(void) {
+__attribute__((constructor)) static void begin(void) {
+  if (refused >= 0) return;
   const char *text = getenv("REFUSE"), *path = getenv("COUNTED");
   refused = text ? atol(text) : 0;
   if (path) snprintf(counted, sizeof counted, "%s", path);
