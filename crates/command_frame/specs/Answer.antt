@@ -1,11 +1,12 @@
 -- What a command decides of the files that it reads: an effect, or why it is refused.
-use Rattle.std.specs.Prelude.{ℕ, List, [], ◌∷◌, map, Result, Ok, Err, string_bytes}
+use Rattle.std.specs.Prelude.{ℕ, List, [], ◌∷◌, ◌++◌, map, Result, Ok, Err, string_bytes}
 use Rattle.std.specs.Option.{ok_or}
 use Rattle.outside.specs.Files.{Contents, file_at, with_file}
 use Rattle.sc_text.specs.declared.fault.Fault.TheVariants as faults
 use Rattle.sc_text.specs.Fault.{fault_line, file_line}
 use Rattle.command_frame.specs.declared.status.Status.{Status}
 use Rattle.command_frame.specs.declared.status.Status.TheVariants.{File, Usage}
+use Rattle.command_frame.specs.declared.breach.Breach.{Breach}
 use Rattle.command_frame.specs.declared.refusal.Refusal.{Refusal}
 use Rattle.command_frame.specs.declared.plan.Plan.{Plan}
 use Rattle.command_frame.specs.declared.plan.PlannedWrite.{PlannedWrite}
@@ -28,6 +29,15 @@ pub record Effect : Type 0 where
 
 abbrev pub Answer : Type 0
 Answer = Result Effect Cause
+
+-- all that a command comes to: files that it writes before it has decided, in order, and then what it decides
+pub record Course : Type 0 where
+  pub first : List Written
+  pub answer : Answer
+
+-- a command that decides before it writes
+abbrev pub at_once : Answer → Course
+at_once answer = record { first = []; answer = answer }
 
 -- a step and then another, where the first isn't refused
 infixl 10 ◌>>=◌
@@ -52,6 +62,10 @@ cause_of r = record { status = r.status; line = string_bytes r.line }
 abbrev pub writes_of : List PlannedWrite → List Written
 writes_of writes = map (λ w. record { path = string_bytes w.path; bytes = w.bytes.items }) writes
 
+-- the same of what another miner did
+abbrev pub breach_of : Breach → Cause
+breach_of b = record { status = b.status; line = string_bytes b.line }
+
 -- a plan without where it lies in memory
 abbrev pub effect_of : Plan → Effect
 effect_of p = record { writes = writes_of p.writes.items; text = p.text.items; status = p.status }
@@ -63,3 +77,26 @@ paths_in writes = map (λ w. w.path) writes
 abbrev pub after_writes : List Written → Contents → Contents
 after_writes [] files = files
 after_writes (w ∷ ws) files = after_writes ws (with_file files w.path w.bytes)
+
+-- ---- a whole course
+
+-- an effect behind files that were written before
+abbrev pub behind : List Written → Effect → Effect
+behind first effect = record { writes = first ++ effect.writes; text = effect.text; status = effect.status }
+
+abbrev pub wholly : List Written → Answer → Answer
+wholly first (Ok effect) = Ok (behind first effect)
+wholly first (Err cause) = Err cause
+
+-- the answer, with all files that the course writes
+abbrev pub whole_of : Course → Answer
+whole_of course = wholly course.first course.answer
+
+-- the files that an answer writes
+abbrev pub decided_writes : Answer → List Written
+decided_writes (Ok effect) = effect.writes
+decided_writes (Err cause) = []
+
+-- all files that a course writes, in order
+abbrev pub writes_in : Course → List Written
+writes_in course = course.first ++ decided_writes course.answer

@@ -33,15 +33,21 @@ GaveUp old new = Rose old.faults new.faults ⊎ Rose old.shortages new.shortages
 abbrev pub PutLine : List ℕ → SinkState → SinkState → Type 0
 PutLine line old new = Appends old new line ⊎ (GaveUp old new × PutPrefix line old new)
 
--- the files before one of them are written, that one, which the line names, holds any bytes, and all else is as it was
-pub record BreaksOff (writes : List Written) (line : List ℕ) (old new : FilesState) : Type 0 where
+-- the files before the one at this path are written, that one holds any bytes, and all else is as it was
+pub record StopsMidway (writes : List Written) (path : List ℕ) (old new : FilesState) : Type 0 where
   pub before : List Written
   pub broken : Written
   pub behind : List Written
   pub order : writes ≡ before ++ broken ∷ behind
-  pub named : line ≡ file_line broken.path
+  pub at : path ≡ broken.path
   pub told : new.told ≡ old.told
-  pub others : old.told ≡ true → (q : List ℕ) → q ≢ broken.path → file_at new.contents q ≡ file_at (after_writes before old.contents) q
+  pub others : old.told ≡ true → (q : List ℕ) → q ≢ path → file_at new.contents q ≡ file_at (after_writes before old.contents) q
+
+-- the same at the path that the line names
+pub record BreaksOff (writes : List Written) (line : List ℕ) (old new : FilesState) : Type 0 where
+  pub path : List ℕ
+  pub named : line ≡ file_line path
+  pub midway : StopsMidway writes path old new
 
 -- a file could not be written: the count rose, which a steady store's doesn't
 pub record WriteFaulted (writes : List Written) (line : List ℕ) (old new : FilesState) : Type 0 where
@@ -49,16 +55,22 @@ pub record WriteFaulted (writes : List Written) (line : List ℕ) (old new : Fil
   pub unsteady : old.steady ≡ true → ⊥
   pub breaks : BreaksOff writes line old new
 
+-- memory ran out at one of the files
+abbrev pub ShortOfMemory : List Written → FilesState → FilesState → Type 0
+ShortOfMemory writes old new = (path : List ℕ) × StopsMidway writes path old new
+
 abbrev pub StopsWriting : List Written → FilesState → FilesState → Stop → Type 0
-StopsWriting writes old new stops.Memory = Unit {0}
+StopsWriting writes old new stops.Memory = ShortOfMemory writes old new
 StopsWriting writes old new stops.Usage = ⊥
 StopsWriting writes old new (stops.Refused r) = ⊥
+StopsWriting writes old new (stops.Breached b) = ⊥
 StopsWriting writes old new (stops.Failed object) = OfFile (λ line. WriteFaulted writes line old new) object
 
 abbrev pub StopsWritingOne : List ℕ → FilesState → FilesState → Stop → Type 0
 StopsWritingOne path old new stops.Memory = Unit {0}
 StopsWritingOne path old new stops.Usage = ⊥
 StopsWritingOne path old new (stops.Refused r) = ⊥
+StopsWritingOne path old new (stops.Breached b) = ⊥
 StopsWritingOne path old new (stops.Failed object) =
     OfFile (λ line. Rose old.faults new.faults × (old.steady ≡ true → ⊥) × (line ≡ file_line path)) object
 
@@ -68,10 +80,21 @@ pub record PutFaulted (text : List ℕ) (old new : SinkState) : Type 0 where
   pub unsteady : old.steady ≡ true → ⊥
   pub put : PutPrefix text old new
 
+-- the output had no memory: its count rose
+pub record PutShort (text : List ℕ) (old new : SinkState) : Type 0 where
+  pub rose : Rose old.shortages new.shortages
+  pub put : PutPrefix text old new
+
+-- memory ran out at a file, and nothing was put; or at the output, when all files were written
+abbrev pub FinishesShort : Effect → FilesState → FilesState → SinkState → SinkState → Type 0
+FinishesShort effect f f' o o' =
+    (ShortOfMemory effect.writes f f' × SameSink o o') ⊎ (WroteAll effect.writes f f' × PutShort effect.text o o')
+
 abbrev pub StopsFinishing : Effect → FilesState → FilesState → SinkState → SinkState → Stop → Type 0
-StopsFinishing effect f f' o o' stops.Memory = SameSink o o' ⊎ PutPrefix effect.text o o'
+StopsFinishing effect f f' o o' stops.Memory = FinishesShort effect f f' o o'
 StopsFinishing effect f f' o o' stops.Usage = ⊥
 StopsFinishing effect f f' o o' (stops.Refused r) = ⊥
+StopsFinishing effect f f' o o' (stops.Breached b) = ⊥
 StopsFinishing effect f f' o o' (stops.Failed object) =
     OfObject (λ line. WriteFaulted effect.writes line f f' × SameSink o o') (WroteAll effect.writes f f' × PutFaulted effect.text o o') ⊥ ⊥ object
 

@@ -1,5 +1,7 @@
 pub mod Answer
+pub mod Decides
 pub mod Finish
+pub mod Moments
 pub mod Objects
 pub mod Reads
 pub mod Status

@@ -27,11 +27,17 @@ status_of_object objects.Children = Child
 abbrev pub write_line : List ℕ
 write_line = fault_line faults.Write
 
+abbrev pub link_line : List ℕ
+link_line = error_line (codes "link")
+
+abbrev pub child_line : List ℕ
+child_line = error_line (codes "child")
+
 abbrev pub line_of_object : Object → List ℕ
 line_of_object (objects.File line) = string_bytes line
 line_of_object objects.Output = write_line
-line_of_object objects.Links = error_line (codes "link")
-line_of_object objects.Children = error_line (codes "child")
+line_of_object objects.Links = link_line
+line_of_object objects.Children = child_line
 
 -- a status tells a fault: memory ran out, or this is known of the object that has the status. A refusal may have one of these statuses, too.
 abbrev pub TellsFault : (file output links children : Type 0) → Status → Type 0

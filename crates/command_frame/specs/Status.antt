@@ -45,8 +45,7 @@ is_end OpenedShort = false
 is_end Write = false
 is_end Memory = false
 
--- a refusal may have this status, by its cause; a dealer's tape that is too short is a refusal, a run's is an end. No command
--- of today is refused for what a peer or a child did.
+-- a refusal of what files hold may have this status, by its cause; a dealer's tape that is too short is a refusal, a run's is an end
 abbrev pub can_refuse : Status → Bool
 can_refuse Done = false
 can_refuse Trap = false
@@ -66,3 +65,36 @@ can_refuse NotAlike = true
 can_refuse OpenedShort = true
 can_refuse Write = false
 can_refuse Memory = false
+
+-- what another miner did may stop a command with this status: a peer sent what it must not send, a child ended as no run does or a miner's
+-- text is none, or two texts differ
+abbrev pub can_breach : Status → Bool
+can_breach Done = false
+can_breach Trap = false
+can_breach Usage = false
+can_breach Program = false
+can_breach Input = false
+can_breach TapeFile = false
+can_breach Schedule = false
+can_breach Budget = false
+can_breach Tape = false
+can_breach File = false
+can_breach Link = false
+can_breach Peer = true
+can_breach Child = true
+can_breach Disagree = true
+can_breach NotAlike = false
+can_breach OpenedShort = false
+can_breach Write = false
+can_breach Memory = false
+
+-- a peer did
+abbrev pub of_peers : Status → Bool
+of_peers Peer = true
+of_peers _ = false
+
+-- a child did, or two miners' texts differ
+abbrev pub of_texts : Status → Bool
+of_texts Child = true
+of_texts Disagree = true
+of_texts _ = false

@@ -1,8 +1,8 @@
 -- What a whole command does: it reads, decides, writes, prints, and says why it stopped.
 --
--- `ask` is what the words name, if they name a command. `answer` is what that command decides of the files' contents.
--- f, o and e are the states of the files, the output and the error stream before, f', o' and e' after.
-use Rattle.std.specs.Prelude.{ℕ, ◌≡◌, ◌≤◌, ◌⊎◌, List, true, Option, None, IsSome, Result, Ok, Err, IfOk, IsOkAnd, MatchResult, Contains, string_bytes}
+-- `ask` is what the words name, if they name a command, and `reach` what that command reaches. `course` is what it comes to, by what all that it
+-- reaches tells. m is the moment before, m' the one after.
+use Rattle.std.specs.Prelude.{ℕ, ◌≡◌, ◌≤◌, ◌⊎◌, List, true, Option, None, IsSome, Result, Ok, Err, IsOkAnd, MatchResult, Contains, string_bytes}
 use Rattle.outside.specs.Causes.{Rose}
 use Rattle.outside.specs.Files.{FilesState, SameFiles, file_at}
 use Rattle.outside.specs.Sink.{SinkState, SameSink, Appends}
@@ -11,85 +11,144 @@ use Rattle.command_frame.specs.declared.object.Object.TheVariants as objects
 use Rattle.command_frame.specs.declared.status.Status.{Status}
 use Rattle.command_frame.specs.declared.stop.Stop.{Stop}
 use Rattle.command_frame.specs.declared.stop.Stop.TheVariants as stops
-use Rattle.command_frame.specs.Answer.{Answer, Effect, after_writes, cause_of, missing, paths_in}
-use Rattle.command_frame.specs.Finish.{BreaksOff, PutLine, PutPrefix}
+use Rattle.command_frame.specs.Answer.{Answer, Course, Effect, Written, after_writes, behind, breach_of, cause_of, missing, paths_in, whole_of, writes_in}
+use Rattle.command_frame.specs.Decides.{AfterWrites, ChildrenFailed, FileFailed, LinksFailed, RefusesFor}
+use Rattle.command_frame.specs.Finish.{BreaksOff, PutLine, PutPrefix, ShortOfMemory}
+use Rattle.command_frame.specs.Moments.{AreTold, Moment, Reach}
 use Rattle.command_frame.specs.Objects.{OfObject, TellsFault}
-use Rattle.command_frame.specs.Reads.{Faulted, IsLineOf}
+use Rattle.command_frame.specs.Reads.{IsLineOf}
 use Rattle.command_frame.specs.Status.{is_end}
 use Rattle.command_frame.specs.Stops.{status_of, line_of}
 
--- only the files that the command writes are changed
-pub record OnlyWritten (answer : Answer) (f f' : FilesState) : Type 0 where
+-- only the files that the course writes are changed
+pub record OnlyWritten (course : Course) (f f' : FilesState) : Type 0 where
   pub told : f'.told ≡ f.told
-  pub others : f.told ≡ true → (q : List ℕ) → IfOk answer (λ e. Contains (paths_in e.writes) q → ⊥) → file_at f'.contents q ≡ file_at f.contents q
+  pub others : f.told ≡ true → (q : List ℕ) → (Contains (paths_in (writes_in course)) q → ⊥) → file_at f'.contents q ≡ file_at f.contents q
   pub later : f.faults ≤ f'.faults
 
--- the whole effect: all files, the text, and this status
-pub record IsDone (effect : Effect) (f f' : FilesState) (o o' : SinkState) (given : Status) : Type 0 where
-  pub status : given ≡ effect.status
-  pub files : f'.contents ≡ after_writes effect.writes f.contents
-  pub text : Appends o o' effect.text
+module _ (m m' : Moment) where
+  -- the whole effect: all files, the text, and this status
+  pub record IsDone (effect : Effect) (given : Status) : Type 0 where
+    pub status : given ≡ effect.status
+    pub files : m'.sources.files.contents ≡ after_writes effect.writes m.sources.files.contents
+    pub text : Appends m.out m'.out effect.text
 
--- all files, and a prefix of the text
-pub record IsCut (effect : Effect) (f f' : FilesState) (o o' : SinkState) : Type 0 where
-  pub files : f'.contents ≡ after_writes effect.writes f.contents
-  pub text : PutPrefix effect.text o o'
+  -- all files, and a prefix of the text
+  pub record IsCut (effect : Effect) : Type 0 where
+    pub files : m'.sources.files.contents ≡ after_writes effect.writes m.sources.files.contents
+    pub text : PutPrefix effect.text m.out m'.out
+
+  -- nothing was put
+  abbrev pub PutsNothing : Type 0
+  PutsNothing = SameSink m.out m'.out
 
 -- the count of the output rose, which a steady one's doesn't
 pub record OutFaulted (old new : SinkState) : Type 0 where
   pub rose : Rose old.faults new.faults
   pub unsteady : old.steady ≡ true → ⊥
 
-abbrev pub StopsAt : Answer → FilesState → FilesState → SinkState → SinkState → Stop → Type 0
-StopsAt answer f f' o o' stops.Memory = SameSink o o' ⊎ (f.told ≡ true → IsOkAnd answer (λ e. PutPrefix e.text o o'))
-StopsAt answer f f' o o' stops.Usage = ⊥
-StopsAt answer f f' o o' (stops.Refused r) = (f.told ≡ true → answer ≡ Err (cause_of r)) × SameSink o o' × SameFiles f f'
-StopsAt answer f f' o o' (stops.Failed object) =
-    OfObject
-    (λ line. Faulted f f' line answer × SameSink o o') (OutFaulted o o' × (f.told ≡ true → IsOkAnd answer (λ e. IsCut e f f' o o'))) ⊥ ⊥ object
+module _ (reach : Reach) (course : Course) (m m' : Moment) where
+  abbrev pub IsTold : Type 0
+  IsTold = AreTold reach m.sources
 
-abbrev pub EndsAs : Answer → FilesState → FilesState → SinkState → SinkState → Result Status Stop → Type 0
-EndsAs answer f f' o o' (Ok status) = (is_end status ≡ true) × (f.told ≡ true → IsOkAnd answer (λ e. IsDone e f f' o o' status))
-EndsAs answer f f' o o' (Err stop) = StopsAt answer f f' o o' stop
+  -- the text was begun at most
+  abbrev pub CutsText : Type 0
+  CutsText = IsTold → IsOkAnd (whole_of course) (λ e. IsCut m m' e)
 
--- the same for words that may name no command
-abbrev pub Acts : {A : Type 0} → Option A → Answer → FilesState → FilesState → SinkState → SinkState → Result Status Stop → Type 0
-Acts ask answer f f' o o' (Ok status) = IsSome ask × EndsAs answer f f' o o' (Ok status)
-Acts ask answer f f' o o' (Err stops.Memory) = StopsAt answer f f' o o' stops.Memory
-Acts ask answer f f' o o' (Err stops.Usage) = (ask ≡ None) × SameSink o o' × SameFiles f f'
-Acts ask answer f f' o o' (Err (stops.Refused r)) = IsSome ask × StopsAt answer f f' o o' (stops.Refused r)
-Acts ask answer f f' o o' (Err (stops.Failed object)) = IsSome ask × StopsAt answer f f' o o' (stops.Failed object)
+  -- memory ran out: of the files none is written, or those before one of them, or those that come before the command has decided; or all of them,
+  -- and the output had no memory for its text
+  abbrev pub LeavesFiles : Type 0
+  LeavesFiles =
+      SameFiles m.sources.files m'.sources.files
+      ⊎ (ShortOfMemory (writes_in course) m.sources.files m'.sources.files ⊎ AfterWrites course.first m.sources.files m'.sources.files)
 
--- ---- the same whatever the answer is
+  abbrev pub RunsShort : Type 0
+  RunsShort = (PutsNothing m m' × (IsTold → LeavesFiles)) ⊎ (Rose m.out.shortages m'.out.shortages × CutsText)
 
-abbrev pub StopsAnyhow : FilesState → FilesState → SinkState → SinkState → Stop → Type 0
-StopsAnyhow f f' o o' stops.Memory = Unit {0}
-StopsAnyhow f f' o o' stops.Usage = ⊥
-StopsAnyhow f f' o o' (stops.Refused r) = SameSink o o' × SameFiles f f'
-StopsAnyhow f f' o o' (stops.Failed object) = OfObject (λ line. Rose f.faults f'.faults × SameSink o o') (OutFaulted o o') ⊥ ⊥ object
+  abbrev pub StopsAt : Stop → Type 0
+  StopsAt stops.Memory = RunsShort
+  StopsAt stops.Usage = ⊥
+  StopsAt (stops.Refused r) = (IsTold → RefusesFor course m.sources.files m'.sources.files (cause_of r)) × PutsNothing m m'
+  StopsAt (stops.Breached b) =
+      (reach.breach b.status ≡ true) × (IsTold → RefusesFor course m.sources.files m'.sources.files (breach_of b)) × PutsNothing m m'
+  StopsAt (stops.Failed object) =
+      OfObject
+      (λ line. FileFailed reach course m.sources m'.sources line × PutsNothing m m')
+      (OutFaulted m.out m'.out × CutsText)
+      (LinksFailed reach course m.sources m'.sources × PutsNothing m m')
+      (ChildrenFailed reach course m.sources m'.sources × PutsNothing m m') object
 
-abbrev pub EndsAnyhow : FilesState → FilesState → SinkState → SinkState → Result Status Stop → Type 0
-EndsAnyhow f f' o o' (Ok status) = is_end status ≡ true
-EndsAnyhow f f' o o' (Err stop) = StopsAnyhow f f' o o' stop
+  abbrev pub EndsAs : Result Status Stop → Type 0
+  EndsAs (Ok status) = (is_end status ≡ true) × (IsTold → IsOkAnd (whole_of course) (λ e. IsDone m m' e status))
+  EndsAs (Err stop) = StopsAt stop
 
-abbrev pub ActsAnyhow : {A : Type 0} → Option A → FilesState → FilesState → SinkState → SinkState → Result Status Stop → Type 0
-ActsAnyhow ask f f' o o' (Ok status) = IsSome ask × (is_end status ≡ true)
-ActsAnyhow ask f f' o o' (Err stops.Memory) = Unit {0}
-ActsAnyhow ask f f' o o' (Err stops.Usage) = (ask ≡ None) × SameSink o o' × SameFiles f f'
-ActsAnyhow ask f f' o o' (Err (stops.Refused r)) = IsSome ask × StopsAnyhow f f' o o' (stops.Refused r)
-ActsAnyhow ask f f' o o' (Err (stops.Failed object)) = IsSome ask × StopsAnyhow f f' o o' (stops.Failed object)
+  -- the same for words that may name no command
+  abbrev pub Acts : {A : Type 0} → Option A → Result Status Stop → Type 0
+  Acts ask (Ok status) = IsSome ask × EndsAs (Ok status)
+  Acts ask (Err stops.Memory) = StopsAt stops.Memory
+  Acts ask (Err stops.Usage) = (ask ≡ None) × PutsNothing m m' × SameFiles m.sources.files m'.sources.files
+  Acts ask (Err (stops.Refused r)) = IsSome ask × StopsAt (stops.Refused r)
+  Acts ask (Err (stops.Breached b)) = IsSome ask × StopsAt (stops.Breached b)
+  Acts ask (Err (stops.Failed object)) = IsSome ask × StopsAt (stops.Failed object)
+
+-- ---- the same whatever the course is
+
+module _ (reach : Reach) (m m' : Moment) where
+  -- the links failed, or another program; each only where it is reached
+  pub record LinksRose : Type 0 where
+    pub reached : reach.links ≡ true
+    pub rose : Rose m.sources.links.faults m'.sources.links.faults
+
+  pub record ChildrenRose : Type 0 where
+    pub reached : reach.children ≡ true
+    pub rose : Rose m.sources.children.faults m'.sources.children.faults
+
+  abbrev pub StopsAnyhow : Stop → Type 0
+  StopsAnyhow stops.Memory = PutsNothing m m' ⊎ Rose m.out.shortages m'.out.shortages
+  StopsAnyhow stops.Usage = ⊥
+  StopsAnyhow (stops.Refused r) = PutsNothing m m'
+  StopsAnyhow (stops.Breached b) = (reach.breach b.status ≡ true) × PutsNothing m m'
+  StopsAnyhow (stops.Failed object) =
+      OfObject
+      (λ line. Rose m.sources.files.faults m'.sources.files.faults × PutsNothing m m')
+      (OutFaulted m.out m'.out) (LinksRose × PutsNothing m m') (ChildrenRose × PutsNothing m m') object
+
+  abbrev pub EndsAnyhow : Result Status Stop → Type 0
+  EndsAnyhow (Ok status) = is_end status ≡ true
+  EndsAnyhow (Err stop) = StopsAnyhow stop
+
+  abbrev pub ActsAnyhow : {A : Type 0} → Option A → Result Status Stop → Type 0
+  ActsAnyhow ask (Ok status) = IsSome ask × (is_end status ≡ true)
+  ActsAnyhow ask (Err stops.Memory) = StopsAnyhow stops.Memory
+  ActsAnyhow ask (Err stops.Usage) = (ask ≡ None) × PutsNothing m m' × SameFiles m.sources.files m'.sources.files
+  ActsAnyhow ask (Err (stops.Refused r)) = IsSome ask × StopsAnyhow (stops.Refused r)
+  ActsAnyhow ask (Err (stops.Breached b)) = IsSome ask × StopsAnyhow (stops.Breached b)
+  ActsAnyhow ask (Err (stops.Failed object)) = IsSome ask × StopsAnyhow (stops.Failed object)
+
+  -- a fault is told: the count of the object rose that has the status, or memory ran out
+  abbrev pub HasFailed : Status → Type 0
+  HasFailed given = TellsFault (Rose m.sources.files.faults m'.sources.files.faults) (Rose m.out.faults m'.out.faults) LinksRose ChildrenRose given
 
 -- ---- the file that failed
 
--- the line names a file that is read, and no file changed; or one that is written, and in each answer it is the first that is not written whole
-abbrev pub FileFaulted : (reads written : List (List ℕ)) → (Answer → Type 0) → FilesState → FilesState → List ℕ → Type 0
-FileFaulted reads written Answers f f' line =
-    (IsLineOf reads line × SameFiles f f')
-    ⊎ (IsLineOf written line × ((answer : Answer) → Answers answer → f.told ≡ true → IsOkAnd answer (λ e. BreaksOff e.writes line f f')))
+-- the paths that a command reads before it writes, those that it writes, and those that it reads once its first files are written
+pub record Paths : Type 0 where
+  pub read : List (List ℕ)
+  pub written : List (List ℕ)
+  pub later : List (List ℕ)
 
--- where a command stops at a file
-pub record StopsAtFile (reads written : List (List ℕ)) (Answers : Answer → Type 0) (f f' : FilesState) (stop : Stop) : Type 0 where
-  pub named : (line : _) → stop ≡ stops.Failed (objects.File line) → FileFaulted reads written Answers f f' (string_bytes line)
+module _ (paths : Paths) (Courses : Course → Type 0) (f f' : FilesState) where
+  -- the line names a file that is read, and no file changed; or one that is written, and in each course it is the first that is not written
+  -- whole; or one that is read later, and the first files are written
+  abbrev pub FileFaulted : List ℕ → Type 0
+  FileFaulted line =
+      (IsLineOf paths.read line × SameFiles f f')
+      ⊎ ((IsLineOf paths.written line × ((course : Course) → Courses course → f.told ≡ true → BreaksOff (writes_in course) line f f'))
+      ⊎ (IsLineOf paths.later line × ((course : Course) → Courses course → f.told ≡ true → AfterWrites course.first f f')))
+
+  -- where a command stops at a file
+  pub record StopsAtFile (stop : Stop) : Type 0 where
+    pub named : (line : _) → stop ≡ stops.Failed (objects.File line) → FileFaulted (string_bytes line)
 
 -- ---- what is said on the error stream
 
@@ -108,23 +167,25 @@ status_in (Err stop) = status_of stop
 
 -- ---- what the caller of the program is told
 
--- a fault is told: the count of the files or of the output rose, or memory ran out. No other object is reached.
-abbrev pub HasFailed : FilesState → FilesState → SinkState → SinkState → Status → Type 0
-HasFailed f f' o o' given = TellsFault (Rose f.faults f'.faults) (Rose o.faults o'.faults) ⊥ ⊥ given
+module _ (m m' : Moment) (given : Status) where
+  -- the effect is there whole and nothing is said; or the refusal's line is there, or a prefix of it where the error stream gave up, and nothing
+  -- but the files that were to be written first
+  abbrev pub CarriedSo : (first : List Written) → Answer → Type 0
+  CarriedSo first (Ok effect) = IsDone m m' (behind first effect) given × SameSink m.err m'.err
+  CarriedSo first (Err cause) =
+      (given ≡ cause.status) × PutLine cause.line m.err m'.err × PutsNothing m m' × AfterWrites first m.sources.files m'.sources.files
 
--- the effect is there whole and nothing is said; or nothing but the refusal's line is there, or a prefix of it where the error stream gave up
-abbrev pub CarriedOut : Answer → FilesState → FilesState → SinkState → SinkState → SinkState → SinkState → Status → Type 0
-CarriedOut (Ok effect) f f' o o' e e' given = IsDone effect f f' o o' given × SameSink e e'
-CarriedOut (Err cause) f f' o o' e e' given = (given ≡ cause.status) × PutLine cause.line e e' × SameSink o o' × SameFiles f f'
+  abbrev pub CarriedOut : Course → Type 0
+  CarriedOut course = CarriedSo course.first course.answer
 
 -- the error stream names the file that failed
-abbrev pub FileTold : (reads written : List (List ℕ)) → (Answer → Type 0) → FilesState → FilesState → SinkState → SinkState → Type 0
-FileTold reads written Answers f f' e e' = (line : List ℕ) × FileFaulted reads written Answers f f' line × PutLine line e e'
+abbrev pub FileTold : Paths → (Course → Type 0) → (m m' : Moment) → Type 0
+FileTold paths Courses m m' = (line : List ℕ) × FileFaulted paths Courses m.sources.files m'.sources.files line × PutLine line m.err m'.err
 
 -- the command is refused because a file that it reads is missing
-abbrev pub IsMissed : Answer → SinkState → SinkState → Type 0
-IsMissed answer e e' = (path : List ℕ) × (answer ≡ Err (missing path)) × PutLine (file_line path) e e'
+abbrev pub IsMissed : Course → (m m' : Moment) → Type 0
+IsMissed course m m' = (path : List ℕ) × (course.answer ≡ Err (missing path)) × PutLine (file_line path) m.err m'.err
 
 -- what the answer's status is
-abbrev pub IsAnswered : Answer → Status → Type 0
-IsAnswered answer given = MatchResult answer (λ e. given ≡ e.status) (λ c. given ≡ c.status)
+abbrev pub IsAnswered : Course → Status → Type 0
+IsAnswered course given = MatchResult course.answer (λ e. given ≡ e.status) (λ c. given ≡ c.status)

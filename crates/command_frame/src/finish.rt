@@ -27,8 +27,15 @@ fn write_file<F: Files>(
     }
 }
 
-// Writes the files in order.
-fn write_files<F: Files>(alloc: Global, files: &mut F, writes: &[PlannedWrite]) -> Result<(), Stop>
+/// Writes the files in order.
+///
+/// `Failed` where one could not be written, `Memory` where there was no memory for it: those before it are written, that one holds any bytes,
+/// and none behind it was begun.
+pub fn write_files<F: Files>(
+    alloc: Global,
+    files: &mut F,
+    writes: &[PlannedWrite],
+) -> Result<(), Stop>
     ensures ok { OnOk result (WroteAll (writes_of writes.now) (F.state files.old) (F.state files.new)) }
     ensures only { OnlyAmong (paths_in (writes_of writes.now)) (F.state files.old) (F.state files.new) }
     ensures err { IfErr result (StopsWriting (writes_of writes.now) (F.state files.old) (F.state files.new)) }
@@ -44,7 +51,7 @@ fn write_files<F: Files>(alloc: Global, files: &mut F, writes: &[PlannedWrite]) 
 /// Writes the plan's files in order, then puts its text on `out`, and answers its status.
 ///
 /// `Failed` where a file could not be written: none behind it was begun and `out` is as before; or where the output failed: all
-/// files are written, and it holds a prefix of the text. `Memory` at any point.
+/// files are written, and it holds a prefix of the text. `Memory` for the same reasons, each for want of memory.
 pub fn finish_plan<F: Files, O: Sink>(
     alloc: Global,
     files: &mut F,

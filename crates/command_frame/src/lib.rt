@@ -1,9 +1,11 @@
 //! What every command of the program does: it reads files, decides, writes files, prints its text, and says why it stopped.
 //!
-//! A command's own part only reads and decides. It answers a [`Plan`] (the files to write, the text, the status) or a
-//! [`Stop`]. What then happens to files, output and errors is done and proved here, once for all commands.
+//! A command's own part only reads and decides, over files, links to peers and other programs. It answers a [`Plan`] (the files to write,
+//! the text, the status) or a [`Stop`]. What then happens to files, output and errors is done and proved here, once for all commands. A command
+//! that has to write before it can decide calls [`write_files`] itself.
 #![tactic(auto)]
 
+mod breach;
 mod finish;
 mod object;
 mod plan;
@@ -13,11 +15,12 @@ mod saying;
 mod status;
 mod stop;
 
-pub use finish::finish_plan;
+pub use breach::Breach;
+pub use finish::{finish_plan, write_files};
 pub use object::Object;
 pub use plan::{Plan, PlannedWrite};
 pub use reading::read_file;
 pub use refusal::Refusal;
 pub use saying::{ended_status, say};
 pub use status::Status;
-pub use stop::{Stop, refused};
+pub use stop::{Stop, breached, refused};

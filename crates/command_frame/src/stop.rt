@@ -1,9 +1,9 @@
 ghost use Rattle.std.specs.Prelude.{◌≡◌, true, IfOk, IfErr, string_bytes};
-ghost use Rattle.command_frame.specs.Status.{can_refuse};
-ghost use Rattle.command_frame.specs.Stops.{status_of, line_of, IsFileStop, IsRefusalFor};
+ghost use Rattle.command_frame.specs.Status.{can_breach, can_refuse};
+ghost use Rattle.command_frame.specs.Stops.{status_of, line_of, IsBreachFor, IsFileStop, IsRefusalFor};
 ghost use Rattle.command_frame.specs.declared.stop.Stop.TheVariants.{Memory};
 
-use crate::{Object, Refusal, Status};
+use crate::{Breach, Object, Refusal, Status};
 use std::alloc::{AllocError, AllocFailed, Global};
 
 /// Why a command stopped before its end.
@@ -14,6 +14,8 @@ pub enum Stop {
     Usage,
     /// What was read is refused.
     Refused(Refusal),
+    /// A peer, a child or a miner's text is not what it must be.
+    Breached(Breach),
     /// An object that the command reaches failed.
     Failed(Object),
 }
@@ -22,7 +24,8 @@ pub enum Stop {
 impl Drop for Stop {
     fn drop(self) {
         match self {
-            Stop::Memory | Stop::Usage | Stop::Refused(_) | Stop::Failed(_) => {}
+            Stop::Memory | Stop::Usage => {}
+            Stop::Refused(_) | Stop::Breached(_) | Stop::Failed(_) => {}
         }
     }
 }
@@ -52,6 +55,7 @@ impl Stop {
             Stop::Memory => Status::Memory,
             Stop::Usage => Status::Usage,
             Stop::Refused(refusal) => refusal.status,
+            Stop::Breached(breach) => breach.status,
             Stop::Failed(object) => object.status(),
         }
     }
@@ -65,6 +69,7 @@ impl Stop {
             Stop::Memory => b"error: memory\n",
             Stop::Usage => b"error: usage\n",
             Stop::Refused(refusal) => refusal.line.as_bytes(),
+            Stop::Breached(breach) => breach.line.as_bytes(),
             Stop::Failed(object) => object.line(),
         }
     }
@@ -89,6 +94,18 @@ pub fn refused(status: Status, line: Result<String, AllocError>) -> Stop
 {
     match line {
         Ok(line) => Stop::Refused(Refusal { status, line }),
+        Err(_) => Stop::Memory,
+    }
+}
+
+/// The stop of what another miner did, with this status and this line; `Memory` where the line could not be made.
+pub fn breached(status: Status, line: Result<String, AllocError>) -> Stop
+    requires { can_breach status ≡ true }
+    ensures breach { IfOk line (λ text. IsBreachFor (record { status = status; line = string_bytes text }) result) }
+    ensures memory { IfErr line (λ e. result ≡ Memory) }
+{
+    match line {
+        Ok(line) => Stop::Breached(Breach { status, line }),
         Err(_) => Stop::Memory,
     }
 }

@@ -28,6 +28,7 @@ pub stops_in : {X Y : Type 0} (a b c : FilesState) (stop : Stop) (part : Result 
     → (a.told ≡ true → (why : Cause) → part ≡ Err why → whole ≡ Err why) → Stops a c stop whole
 stops_in a b c stops.Memory part whole read s up = tt
 stops_in a b c (stops.Refused r) part whole read s up = λ t. up t (cause_of r) (s (read.same.told ∙ t))
+stops_in a b c (stops.Breached x) part whole read s up = s
 stops_in a b c stops.Usage part whole read s up = s
 stops_in a b c (stops.Failed (objects.File line)) part whole read s up = record {
   rose = omega (arith, read.later, s.rose);

@@ -19,4 +19,5 @@ Judges view (Ok x) decided = decided ≡ Ok (view x)
 Judges view (Err stops.Memory) decided = Unit {0}
 Judges view (Err stops.Usage) decided = ⊥
 Judges view (Err (stops.Refused r)) decided = decided ≡ Err (cause_of r)
+Judges view (Err (stops.Breached b)) decided = ⊥
 Judges view (Err (stops.Failed object)) decided = ⊥

@@ -48,6 +48,7 @@ pub unnamed_refusal : (paths : List (List ℕ)) (cause : Cause) (stop : Stop) �
 unnamed_refusal paths cause stops.Memory for = unnamed_memory paths stops.Memory refl
 unnamed_refusal paths cause stops.Usage for = absurd for
 unnamed_refusal paths cause (stops.Refused r) for = record { named = λ line is. absurd cc }
+unnamed_refusal paths cause (stops.Breached b) for = absurd for
 unnamed_refusal paths cause (stops.Failed object) for = absurd for
 
 -- ---- tapes, whose paths hang on their source, and what is read behind them

@@ -49,6 +49,7 @@ pub refused_so : {Y : Type 0} (old new : FilesState) (stop : Stop) (decided : Re
 refused_so old new stops.Memory decided for is = tt
 refused_so old new stops.Usage decided for is = absurd for
 refused_so old new (stops.Refused r) decided for is = λ t. is t ∙ ap (λ (c : Cause). Err c) (sym for)
+refused_so old new (stops.Breached b) decided for is = absurd for
 refused_so old new (stops.Failed object) decided for is = absurd for
 
 -- the bytes as they are lent

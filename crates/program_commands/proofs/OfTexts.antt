@@ -28,12 +28,14 @@ pub refuses_so : {Y : Type 0} (stop : Stop) (decided : Result Y Cause) {cause : 
 refuses_so stops.Memory decided for is = tt
 refuses_so stops.Usage decided for is = absurd for
 refuses_so (stops.Refused r) decided for is = is ∙ ap (λ (c : Cause). Err c) (sym for)
+refuses_so (stops.Breached b) decided for is = absurd for
 refuses_so (stops.Failed object) decided for is = absurd for
 
 pub own_refusal : (cause : Cause) (stop : Stop) → IsRefusalFor cause stop → IsOwnStop stop
 own_refusal cause stops.Memory for = tt
 own_refusal cause stops.Usage for = absurd for
 own_refusal cause (stops.Refused r) for = tt
+own_refusal cause (stops.Breached b) for = absurd for
 own_refusal cause (stops.Failed object) for = absurd for
 
 -- a step behind a refused one isn't made
@@ -41,6 +43,7 @@ pub stops_behind : {X Y : Type 0} (stop : Stop) (decided : Result X Cause) (more
 stops_behind stops.Memory decided more s = tt
 stops_behind stops.Usage decided more s = absurd s
 stops_behind (stops.Refused r) decided more s = rw s refl
+stops_behind (stops.Breached b) decided more s = absurd s
 stops_behind (stops.Failed object) decided more s = absurd s
 
 -- a stop that is handed on
@@ -55,6 +58,7 @@ pub only_memory : {Y : Type 0} (stop : Stop) (decided : Result Y Cause) (y : Y) 
 only_memory stops.Memory decided y is s = refl
 only_memory stops.Usage decided y is s = absurd s
 only_memory (stops.Refused r) decided y is s = absurd (let wrong : Ok y ≡ Err _ = sym is ∙ s in cc)
+only_memory (stops.Breached b) decided y is s = absurd s
 only_memory (stops.Failed object) decided y is s = absurd s
 
 -- ---- a text that is refused
@@ -63,6 +67,7 @@ no_stop : (stop : Stop) (tree : ProgramTree) → NotForMemory stop → StopsSo s
 no_stop stops.Memory tree told s = told
 no_stop stops.Usage tree told s = s
 no_stop (stops.Refused r) tree told s = absurd cc
+no_stop (stops.Breached b) tree told s = s
 no_stop (stops.Failed object) tree told s = s
 
 abbrev AllStop : List ℕ → Stop → Type 0
@@ -153,6 +158,7 @@ module _ (old new : FilesState) (path bytes : List ℕ) (there : old.told ≡ tr
   stops_at_file stops.Memory found s own = tt
   stops_at_file stops.Usage found s own = own
   stops_at_file (stops.Refused r) found s own = λ t. at_file old.contents path bytes (there t) found ∙ s t
+  stops_at_file (stops.Breached b) found s own = absurd own
   stops_at_file (stops.Failed object) found s own = absurd own
 
   -- what is decided of the text is decided of the file
@@ -168,6 +174,7 @@ module _ (old new : FilesState) (path bytes : List ℕ) (there : old.told ≡ tr
   told_so stops.Memory own tells = tells
   told_so stops.Usage own tells = absurd own
   told_so (stops.Refused r) own tells = tt
+  told_so (stops.Breached b) own tells = absurd own
   told_so (stops.Failed object) own tells = absurd own
 
   pub found_of_file : {X : Type 0} (r : Result X Stop) → IfErr r IsOwnStop → (HasDecided r → IsFoundSo bytes) → old.told ≡ true → Tells old r
@@ -180,6 +187,7 @@ own_reading old new (Ok x) own = tt
 own_reading old new (Err stops.Memory) own = tt
 own_reading old new (Err stops.Usage) own = absurd own
 own_reading old new (Err (stops.Refused r)) own = tt
+own_reading old new (Err (stops.Breached b)) own = absurd own
 own_reading old new (Err (stops.Failed object)) own = absurd own
 
 pub own_names : {X : Type 0} (paths : List (List ℕ)) (r : Result X Stop) → IfErr r IsOwnStop → IfErr r (StopNames paths)
@@ -194,6 +202,7 @@ unfolding program_at tree_at
 unread_stops old new path stops.Memory found s = tt
 unread_stops old new path stops.Usage found s = s
 unread_stops old new path (stops.Refused r) found s = λ t. rw (s t) refl
+unread_stops old new path (stops.Breached b) found s = s
 unread_stops old new path (stops.Failed (objects.File line)) found s = record { rose = s.rose; missing = λ steady t. rw (s.missing steady t) refl }
 unread_stops old new path (stops.Failed objects.Output) found s = s
 unread_stops old new path (stops.Failed objects.Links) found s = s
@@ -214,6 +223,7 @@ unread : (files new : FilesState) (path : List ℕ) (stop : Stop) → Stops file
 unread files new path stops.Memory s t tells = absurd tells
 unread files new path stops.Usage s t tells = absurd s
 unread files new path (stops.Refused r) s t tells = found_none files.contents path _ (s t)
+unread files new path (stops.Breached b) s t tells = absurd s
 unread files new path (stops.Failed (objects.File line)) s t tells = found_none files.contents path _ (s.missing tells t)
 unread files new path (stops.Failed objects.Output) s t tells = absurd s
 unread files new path (stops.Failed objects.Links) s t tells = absurd s

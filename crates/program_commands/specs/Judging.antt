@@ -70,6 +70,7 @@ abbrev pub StopTells : FilesState → Stop → Type 0
 StopTells files stops.Memory = ⊥
 StopTells files stops.Usage = Unit {0}
 StopTells files (stops.Refused r) = Unit {0}
+StopTells files (stops.Breached b) = Unit {0}
 StopTells files (stops.Failed object) = OfObject (λ line. files.steady ≡ true) (Unit {0}) (Unit {0}) (Unit {0}) object
 
 abbrev pub Tells : {X : Type 0} → FilesState → Result X Stop → Type 0

@@ -27,6 +27,7 @@ abbrev pub StopsSo : {Y : Type 0} → Stop → Result Y Cause → Type 0
 StopsSo stops.Memory decided = Unit {0}
 StopsSo stops.Usage decided = ⊥
 StopsSo (stops.Refused r) decided = decided ≡ Err (cause_of r)
+StopsSo (stops.Breached b) decided = ⊥
 StopsSo (stops.Failed object) decided = ⊥
 
 -- what the function returned, seen by `view`, is what is decided
@@ -39,6 +40,7 @@ abbrev pub IsOwnStop : Stop → Type 0
 IsOwnStop stops.Memory = Unit {0}
 IsOwnStop stops.Usage = ⊥
 IsOwnStop (stops.Refused r) = Unit {0}
+IsOwnStop (stops.Breached b) = ⊥
 IsOwnStop (stops.Failed object) = ⊥
 
 -- memory did not run out
@@ -46,6 +48,7 @@ abbrev pub NotForMemory : Stop → Type 0
 NotForMemory stops.Memory = ⊥
 NotForMemory stops.Usage = Unit {0}
 NotForMemory (stops.Refused r) = Unit {0}
+NotForMemory (stops.Breached b) = Unit {0}
 NotForMemory (stops.Failed object) = Unit {0}
 
 abbrev pub HasDecided : {X : Type 0} → Result X Stop → Type 0

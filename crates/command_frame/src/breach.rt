@@ -1,0 +1,12 @@
+ghost use Rattle.std.specs.Prelude.{◌≡◌, true};
+ghost use Rattle.command_frame.specs.Status.{can_breach};
+
+use crate::Status;
+
+/// What another miner did that stops a command: the status, and the line for the error stream with its newline.
+#[derive(Drop)]
+pub struct Breach {
+    pub status: Status,
+    pub line: String,
+    pub ghost breaches: { can_breach status ≡ true },
+}
