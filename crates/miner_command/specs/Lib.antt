@@ -1,2 +1,4 @@
 pub mod Files
+pub mod Miner
+pub mod Playing
 pub mod Views

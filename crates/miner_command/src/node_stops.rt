@@ -2,7 +2,7 @@
 ghost use Rattle.std.specs.Prelude.{◌≡◌};
 ghost use Rattle.command_frame.specs.Stops.{IsBreachFor};
 ghost use Rattle.miner_command.specs.Miner.{bad_peer, hello_field, message_fault};
-ghost use Rattle.miner_command.specs.Views.{IsNodeStop};
+ghost use Rattle.miner_command.specs.Playing.{IsNodeStop};
 
 use command_frame::{Object, Status, Stop, breached};
 use miner_node::NodeErr;
