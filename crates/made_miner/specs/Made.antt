@@ -1,5 +1,5 @@
 -- A miner, and the hello that it sends, by its share file.
-use Rattle.std.specs.Prelude.{◌≡◌, ℕ, nat_le, if◌then◌else◌, List, [], false, Option, Some, None}
+use Rattle.std.specs.Prelude.{ℕ, nat_le, if◌then◌else◌, List, [], false, Option, Some, None}
 use Rattle.sha2.specs.Sha256.{sha256}
 use Rattle.sc_text.specs.declared.end.Ending.{Ending}
 use Rattle.sc_text.specs.declared.end.Ending.TheVariants.{Tape}
@@ -21,7 +21,7 @@ use Rattle.verified_code.specs.Settled.{settled}
 use Rattle.wire.specs.declared.fields.Hello.{Hello}
 use Rattle.wire.specs.Digests.{public_text}
 use Rattle.driven_nodes.specs.Steps.{Stopped}
-use Rattle.miner_core.specs.Places.{Place, first_place}
+use Rattle.miner_core.specs.Places.{first_place}
 use Rattle.miner_core.specs.OwnCode.{Ended, Reached}
 use Rattle.miner_core.specs.Story.{Story, strand_in}
 

@@ -1,8 +1,8 @@
 //! A miner, and the hello that it sends its peers, made of its share file.
 #![tactic(auto)]
 
-mod hello;
-mod miner;
+mod greeting;
+mod making;
 
-pub use hello::hello;
-pub use miner::{Made, miner};
+pub use greeting::hello;
+pub use making::{Made, miner};
