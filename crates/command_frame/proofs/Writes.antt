@@ -1,15 +1,15 @@
 -- Writing files one after another.
-use Rattle.std.proofs.Common.{◌≡◌, ℕ, ◌+◌, ◌<◌, ◌≤◌, List, [], ◌∷◌, ◌++◌, length, get_or, drop, take, take_all, take-suc, take-append-drop, map, true}
+use Rattle.std.proofs.Common.{◌≡◌, ◌≢◌, ℕ, zero, suc, ◌+◌, ◌<◌, ◌≤◌, List, [], ◌∷◌, ◌++◌, length, get_or, drop, take, take_all, take-suc, take-append-drop, map, true}
 use Rattle.std.proofs.Common.{refl, ap, sym, ◌∙◌, arith, add-one, drop-cons, string_bytes, Contains}
 use Rattle.std.proofs.lemmas.List.{get_or-map, length-map, map-append}
+use Rattle.outside.proofs.MapFiles.{other_file}
 use Rattle.outside.specs.Files.{Contents, FilesState, Wrote, OnlyAt, with_file, file_at}
-use Rattle.sc_text.specs.Fault.{file_line}
 use Rattle.command_frame.specs.Answer.{Written, writes_of, after_writes, paths_in}
 use Rattle.command_frame.specs.declared.object.Object.TheVariants as objects
 use Rattle.command_frame.specs.declared.plan.PlannedWrite.{PlannedWrite}
 use Rattle.command_frame.specs.declared.stop.Stop.{Stop}
 use Rattle.command_frame.specs.declared.stop.Stop.TheVariants as stops
-use Rattle.command_frame.specs.Finish.{BreaksOff, OnlyAmong, StopsWriting, StopsWritingOne, WroteAll}
+use Rattle.command_frame.specs.Finish.{OnlyAmong, StopsMidway, StopsWriting, StopsWritingOne, WroteAll}
 
 abbrev seen : PlannedWrite → Written
 seen w = record { path = string_bytes w.path; bytes = w.bytes.items }
@@ -19,7 +19,7 @@ paths ws = paths_in (writes_of ws)
 
 -- ---- the list of writes, cut at one
 
-after_append : (ws vs : List Written) (files : Contents) → after_writes (ws ++ vs) files ≡ after_writes vs (after_writes ws files)
+pub after_append : (ws vs : List Written) (files : Contents) → after_writes (ws ++ vs) files ≡ after_writes vs (after_writes ws files)
 after_append [] vs files = refl
 after_append (w ∷ ws) vs files = after_append ws vs (with_file files w.path w.bytes)
 
@@ -68,15 +68,14 @@ wrote_more ws i e a b c bytes same lt is told done w = λ t.
 pub wrote_all : (ws : List PlannedWrite) (i : ℕ) (a b : FilesState) → length ws ≤ i → WroteAll (writes_of (take i ws)) a b → WroteAll (writes_of ws) a b
 wrote_all ws i a b most done = λ t. done t ∙ ap (λ (v : List PlannedWrite). after_writes (writes_of v) a.contents) (take_all i ws most)
 
-breaks_off : (ws : List PlannedWrite) (i : ℕ) (e : PlannedWrite) (a b c : FilesState) (line : List ℕ) → i < length ws → e ≡ get_or ws i e → b.told ≡ a.told
-    → WroteAll (writes_of (take i ws)) a b
-    → OnlyAt b c (string_bytes e.path) → line ≡ file_line (string_bytes e.path) → BreaksOff (writes_of ws) line a c
-breaks_off ws i e a b c line lt is told done only named = record {
+midway : (ws : List PlannedWrite) (i : ℕ) (e : PlannedWrite) (a b c : FilesState) → i < length ws → e ≡ get_or ws i e → b.told ≡ a.told
+    → WroteAll (writes_of (take i ws)) a b → OnlyAt b c (string_bytes e.path) → StopsMidway (writes_of ws) (string_bytes e.path) a c
+midway ws i e a b c lt is told done only = record {
   before = writes_of (take i ws);
   broken = seen e;
   behind = writes_of (drop (i + 1) ws);
   order = cut ws i e lt is;
-  named = named;
+  at = refl;
   told = only.told ∙ told;
   others = λ t q other. only.others (told ∙ t) q other ∙ ap (λ (m : Contents). file_at m q) (done t);
 }
@@ -85,14 +84,30 @@ pub stops_here : (ws : List PlannedWrite) (i : ℕ) (e : PlannedWrite) (a b c : 
     → OnlyAmong (paths ws) a b
     → WroteAll (writes_of (take i ws)) a b → OnlyAt b c (string_bytes e.path) → StopsWritingOne (string_bytes e.path) b c stop
     → StopsWriting (writes_of ws) a c stop
-stops_here ws i e a b c stops.Memory lt is p done only s = tt
+stops_here ws i e a b c stops.Memory lt is p done only s = (string_bytes e.path, midway ws i e a b c lt is p.told done only)
 stops_here ws i e a b c stops.Usage lt is p done only s = s
 stops_here ws i e a b c (stops.Refused r) lt is p done only s = s
+stops_here ws i e a b c (stops.Breached x) lt is p done only s = s
 stops_here ws i e a b c (stops.Failed (objects.File line)) lt is p done only s = record {
   rose = omega (arith, p.later, s.0);
   unsteady = λ t. s.1 (p.still t);
-  breaks = breaks_off ws i e a b c (string_bytes line) lt is p.told done only s.2;
+  breaks = record { path = string_bytes e.path; named = s.2; midway = midway ws i e a b c lt is p.told done only };
 }
 stops_here ws i e a b c (stops.Failed objects.Output) lt is p done only s = s
 stops_here ws i e a b c (stops.Failed objects.Links) lt is p done only s = s
 stops_here ws i e a b c (stops.Failed objects.Children) lt is p done only s = s
+
+-- ---- files that are not written
+
+-- q is none of the paths of a list
+elsewhere : (w : Written) (ws : List Written) (q : List ℕ) → (Contains (paths_in (w ∷ ws)) q → ⊥) → q ≢ w.path
+elsewhere w ws q away is = away (zero, omega arith, sym is)
+
+later_none : (w : Written) (ws : List Written) (q : List ℕ) → (Contains (paths_in (w ∷ ws)) q → ⊥) → Contains (paths_in ws) q → ⊥
+later_none w ws q away (k, lt, is) = away (suc k, omega arith, is)
+
+pub others_after : (ws : List Written) (files : Contents) (q : List ℕ) → (Contains (paths_in ws) q → ⊥)
+    → file_at (after_writes ws files) q ≡ file_at files q
+others_after [] files q away = refl
+others_after (w ∷ ws) files q away =
+    others_after ws (with_file files w.path w.bytes) q (later_none w ws q away) ∙ other_file files w.path w.bytes q (elsewhere w ws q away)

@@ -1,9 +1,8 @@
 -- What a command did until it had decided: it read, wrote the files that its course has first, and asked peers and other programs.
-use Rattle.std.specs.Prelude.{ℕ, ◌≡◌, ◌⊎◌, List, true, Result, Ok, Err, string_bytes}
+use Rattle.std.specs.Prelude.{ℕ, ◌≡◌, ◌⊎◌, List, true, Result, Ok, Err}
 use Rattle.outside.specs.Causes.{Rose}
 use Rattle.outside.specs.Files.{FilesState, SameFiles}
 use Rattle.command_frame.specs.declared.plan.Plan.{Plan}
-use Rattle.command_frame.specs.declared.status.Status.{Status}
 use Rattle.command_frame.specs.declared.status.Status.TheVariants.{File}
 use Rattle.command_frame.specs.declared.stop.Stop.{Stop}
 use Rattle.command_frame.specs.declared.stop.Stop.TheVariants as stops

@@ -4,7 +4,7 @@
 -- reaches tells. m is the moment before, m' the one after.
 use Rattle.std.specs.Prelude.{ℕ, ◌≡◌, ◌≤◌, ◌⊎◌, List, true, Option, None, IsSome, Result, Ok, Err, IsOkAnd, MatchResult, Contains, string_bytes}
 use Rattle.outside.specs.Causes.{Rose}
-use Rattle.outside.specs.Files.{FilesState, SameFiles, file_at}
+use Rattle.outside.specs.Files.{SameFiles, file_at}
 use Rattle.outside.specs.Sink.{SinkState, SameSink, Appends}
 use Rattle.sc_text.specs.Fault.{file_line}
 use Rattle.command_frame.specs.declared.object.Object.TheVariants as objects
@@ -14,17 +14,18 @@ use Rattle.command_frame.specs.declared.stop.Stop.TheVariants as stops
 use Rattle.command_frame.specs.Answer.{Answer, Course, Effect, Written, after_writes, behind, breach_of, cause_of, missing, paths_in, whole_of, writes_in}
 use Rattle.command_frame.specs.Decides.{AfterWrites, ChildrenFailed, FileFailed, LinksFailed, RefusesFor}
 use Rattle.command_frame.specs.Finish.{BreaksOff, PutLine, PutPrefix, ShortOfMemory}
-use Rattle.command_frame.specs.Moments.{AreTold, Moment, Reach}
+use Rattle.command_frame.specs.Moments.{AreTold, Moment, Reach, Sources}
 use Rattle.command_frame.specs.Objects.{OfObject, TellsFault}
 use Rattle.command_frame.specs.Reads.{IsLineOf}
 use Rattle.command_frame.specs.Status.{is_end}
 use Rattle.command_frame.specs.Stops.{status_of, line_of}
 
 -- only the files that the course writes are changed
-pub record OnlyWritten (course : Course) (f f' : FilesState) : Type 0 where
-  pub told : f'.told ≡ f.told
-  pub others : f.told ≡ true → (q : List ℕ) → (Contains (paths_in (writes_in course)) q → ⊥) → file_at f'.contents q ≡ file_at f.contents q
-  pub later : f.faults ≤ f'.faults
+pub record OnlyWritten (reach : Reach) (course : Course) (s s' : Sources) : Type 0 where
+  pub told : s'.files.told ≡ s.files.told
+  pub others :
+      AreTold reach s → (q : List ℕ) → (Contains (paths_in (writes_in course)) q → ⊥) → file_at s'.files.contents q ≡ file_at s.files.contents q
+  pub later : s.files.faults ≤ s'.files.faults
 
 module _ (m m' : Moment) where
   -- the whole effect: all files, the text, and this status
@@ -137,14 +138,18 @@ pub record Paths : Type 0 where
   pub written : List (List ℕ)
   pub later : List (List ℕ)
 
-module _ (paths : Paths) (Courses : Course → Type 0) (f f' : FilesState) where
+module _ (paths : Paths) (reach : Reach) (Courses : Course → Type 0) (s s' : Sources) where
+  -- this is so in each course, where what is reached tells
+  abbrev pub InEach : (Course → Type 0) → Type 0
+  InEach So = (course : Course) → Courses course → AreTold reach s → So course
+
   -- the line names a file that is read, and no file changed; or one that is written, and in each course it is the first that is not written
   -- whole; or one that is read later, and the first files are written
   abbrev pub FileFaulted : List ℕ → Type 0
   FileFaulted line =
-      (IsLineOf paths.read line × SameFiles f f')
-      ⊎ ((IsLineOf paths.written line × ((course : Course) → Courses course → f.told ≡ true → BreaksOff (writes_in course) line f f'))
-      ⊎ (IsLineOf paths.later line × ((course : Course) → Courses course → f.told ≡ true → AfterWrites course.first f f')))
+      (IsLineOf paths.read line × SameFiles s.files s'.files)
+      ⊎ ((IsLineOf paths.written line × InEach (λ course. BreaksOff (writes_in course) line s.files s'.files))
+      ⊎ (IsLineOf paths.later line × InEach (λ course. AfterWrites course.first s.files s'.files)))
 
   -- where a command stops at a file
   pub record StopsAtFile (stop : Stop) : Type 0 where
@@ -179,8 +184,8 @@ module _ (m m' : Moment) (given : Status) where
   CarriedOut course = CarriedSo course.first course.answer
 
 -- the error stream names the file that failed
-abbrev pub FileTold : Paths → (Course → Type 0) → (m m' : Moment) → Type 0
-FileTold paths Courses m m' = (line : List ℕ) × FileFaulted paths Courses m.sources.files m'.sources.files line × PutLine line m.err m'.err
+abbrev pub FileTold : Paths → Reach → (Course → Type 0) → (m m' : Moment) → Type 0
+FileTold paths reach Courses m m' = (line : List ℕ) × FileFaulted paths reach Courses m.sources m'.sources line × PutLine line m.err m'.err
 
 -- the command is refused because a file that it reads is missing
 abbrev pub IsMissed : Course → (m m' : Moment) → Type 0
