@@ -220,8 +220,8 @@ need_with_tape = refl
 
 -- map, the miner's number, p.sc, and all options that must be there
 abbrev pub map_with : Text → List Text → Option Ask
-map_with miner more =
-    words_of (codes "map" ∷ miner ∷ codes "p.sc" ∷ codes "--input=i" ∷ codes "--tape=t" ∷ codes "--sim=s" ∷ codes "--public=p" ∷ codes "--opened=o" ∷ more)
+map_with number more =
+    words_of (codes "map" ∷ number ∷ codes "p.sc" ∷ codes "--input=i" ∷ codes "--tape=t" ∷ codes "--sim=s" ∷ codes "--public=p" ∷ codes "--opened=o" ∷ more)
 
 map_words : map_with (codes "003") (codes "--budget=6" ∷ [])
     ≡ Some (map_tape (record {

@@ -419,9 +419,11 @@ fn me_in(matches: &ArgMatches) -> Option<Number>
 fn read_miner(alloc: Global, matches: &ArgMatches) -> Result<Command, WordsErr>
     ensures { Reads ask_of (option_map miner_words (miner_ask_of (rows_of (found_of matches.now)))) result }
 {
-    let (Some(me), Some(port), Some(budget)) =
-        (me_in(matches), port_in(matches), budget_in(matches))
-    else {
+    let (Some(me), Some(port), Some(budget)) = (
+        me_in(matches),
+        port_in(matches),
+        budget_in(matches),
+    ) else {
         return Err(WordsErr::Usage);
     };
     Ok(Command::Miner(MinerWords {
