@@ -8,6 +8,7 @@ use Rattle.command_frame.specs.declared.stop.Stop.TheVariants as stops
 use Rattle.command_frame.specs.Answer.{Answer, breach_of, effect_of}
 use Rattle.command_frame.specs.Objects.{OfObject}
 use Rattle.command_frame.specs.Reads.{LinksFaulted}
+use Rattle.command_frame.specs.Status.{of_peers}
 use Rattle.command_frame.specs.Stops.{IsBreachFor}
 use Rattle.command_words.specs.Ask.{MinerAsk}
 use Rattle.miner_node.specs.declared.node_err.NodeErr.{NodeErr}
@@ -54,7 +55,7 @@ AnswersSo old new (Ok plan) decided = old.told ≡ true → decided ≡ Ok (effe
 AnswersSo old new (Err stops.Memory) decided = Unit {0}
 AnswersSo old new (Err stops.Usage) decided = ⊥
 AnswersSo old new (Err (stops.Refused r)) decided = ⊥
-AnswersSo old new (Err (stops.Breached b)) decided = old.told ≡ true → decided ≡ Err (breach_of b)
+AnswersSo old new (Err (stops.Breached b)) decided = (of_peers b.status ≡ true) × (old.told ≡ true → decided ≡ Err (breach_of b))
 AnswersSo old new (Err (stops.Failed object)) decided = OfObject (λ line. ⊥) ⊥ (LinksFaulted (old.told ≡ true) old new decided) ⊥ object
 
 -- a miner has played its part with what it has read
