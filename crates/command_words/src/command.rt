@@ -1,5 +1,5 @@
 //! The commands, with their words.
-ghost use Rattle.std.specs.Prelude.{◌≡◌};
+ghost use Rattle.std.specs.Prelude.{◌≡◌, ◌≤◌};
 ghost use Rattle.command_words.specs.declared.command.WordsErr.TheVariants.{Memory};
 
 use crate::tape_seed::TapeSeed;
@@ -174,6 +174,8 @@ pub struct MinerWords {
     pub port: u16,
     pub out: String,
     pub budget: u64,
+    pub ghost port_from: { 1 ≤ port },
+    pub ghost port_to: { port ≤ 65533 },
 }
 
 /// The words of `trio`: the paths of the program, the input file and the tape file, the start of the paths that are written, the first of the

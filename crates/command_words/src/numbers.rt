@@ -1,5 +1,5 @@
 //! Numbers, miners and seeds as text.
-ghost use Rattle.std.specs.Prelude.{◌≡◌};
+ghost use Rattle.std.specs.Prelude.{◌≡◌, ◌≤◌, IfSome};
 ghost use Rattle.std.specs.List.{list_all};
 ghost use Rattle.std.specs.Char.{is_ascii_digit};
 ghost use Rattle.command_words.specs.Numbers.{number_of, miner_of, port_of, seed_of, is_lower_hex};
@@ -48,7 +48,9 @@ const MOST_PORT: u64 = 65_533;
 /// The first of three ports, which decimal digits spell: 1 to 65,533.
 #[tactic(auto, unfolding(crate::specs::Numbers::port_of))]
 pub(crate) fn port(text: &str) -> Option<u16>
-    ensures { result ≡ port_of text.now }
+    ensures value { result ≡ port_of text.now }
+    ensures from { IfSome result (λ port. 1 ≤ port) }
+    ensures to { IfSome result (λ port. port ≤ 65533) }
 {
     let port = number(text)?;
     if 1 <= port && port <= MOST_PORT {

@@ -1,5 +1,5 @@
 //! What a command's words give, once `clap` has matched them.
-ghost use Rattle.std.specs.Prelude.{◌≡◌, drop, map, option_map, IfOk, string_bytes, codes};
+ghost use Rattle.std.specs.Prelude.{◌≡◌, ◌≤◌, drop, map, option_map, IfOk, IfSome, string_bytes, codes};
 ghost use Rattle.clap.specs.Words.{found_of, first_of, rows_of};
 ghost use Rattle.command_words.specs.Ask.{required_of, default_budget, number_or, seeded_source, source_of, order_of, run_of, deal_of, check_of};
 ghost use Rattle.command_words.specs.Ask.{gather, gather_of, others_of};
@@ -401,7 +401,9 @@ fn read_join(alloc: Global, matches: &ArgMatches) -> Result<Command, WordsErr>
 // The first of the three ports at which miners join.
 #[tactic(auto, unfolding(crate::specs::Ask::required_of))]
 fn port_in(matches: &ArgMatches) -> Option<u16>
-    ensures { result ≡ port_of (required_of (codes "port") (rows_of (found_of matches.now))) }
+    ensures value { result ≡ port_of (required_of (codes "port") (rows_of (found_of matches.now))) }
+    ensures from { IfSome result (λ port. 1 ≤ port) }
+    ensures to { IfSome result (λ port. port ≤ 65533) }
 {
     port(value(matches, "port").unwrap_or(""))
 }

@@ -1,5 +1,5 @@
 -- The children that `trio` starts.
-use Rattle.std.specs.Prelude.{◌≡◌, ℕ, ℤ, List, [], ◌∷◌, ◌++◌, Result, Ok, Err}
+use Rattle.std.specs.Prelude.{◌≡◌, ◌⊎◌, ℕ, ℤ, List, [], ◌∷◌, ◌++◌, Result, Ok, Err}
 use Rattle.outside.specs.Spawner.{ChildCall, SpawnerState, awaited}
 use Rattle.proto_core.specs.declared.party.Number.{Number}
 use Rattle.trio.specs.Launches.{Launched, of_all, starts}
@@ -18,7 +18,7 @@ pub record AreRun (words : Number → List (List ℕ)) (old new : SpawnerState) 
   pub child : Number → ℕ
   pub calls : new.calls ≡ old.calls ++ (starts (of_all words) (of_all child) ++ of_all (λ i. awaited (child i)))
 
--- what was launched: where files are dealt three miners, or the first of them where one could not be started; else none
+-- three miners are run where files are dealt, and no child is started where not
 abbrev pub LaunchesFor : (words : Number → List (List ℕ)) → (old new : SpawnerState) → Result Prepared Cause → Type 0
 LaunchesFor words old new (Ok (dealt writes)) = AreRun words old new
 LaunchesFor words old new (Ok (undealt need have)) = new ≡ old

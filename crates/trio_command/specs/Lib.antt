@@ -1,3 +1,4 @@
 pub mod Deciding
 pub mod Launching
 pub mod Trio
+pub mod inner

@@ -30,6 +30,10 @@ use Rattle.program_commands.specs.Reading.{inputs_at, tape_file_at}
 unfoldable pub compile_part : TrioAsk → CompileAsk
 compile_part ask = record { program = ask.program; code = path_to ask.to (codes ".code") }
 
+-- the file that it is
+unfoldable pub code_writes : Finding → TrioAsk → Contents → Result (List Written) Cause
+code_writes found ask files = compile_of found (compile_part ask) files >>= λ compiled. Ok compiled.writes
+
 -- the files with which three miners run; or a dealer's tape that has fewer words than are needed
 pub data Prepared : Type 0 where
   dealt : List Written → Prepared
@@ -44,10 +48,10 @@ preparation code prefix entries tapes =
 -- each file is read and then checked: the program and its size, the input, the tape
 unfoldable pub prepared_of : Finding → TrioAsk → Contents → Result Prepared Cause
 prepared_of found ask files = do
-  compiled ← compile_of found (compile_part ask) files
+  code ← code_writes found ask files
   entries ← inputs_at files ask.input
   tapes ← tape_file_at files ask.tape
-  Ok (preparation compiled.writes ask.to entries tapes)
+  Ok (preparation code ask.to entries tapes)
 
 -- a run that could not be dealt has ended before it costs anything
 abbrev pub undealt_end : (need have : ℕ) → End
