@@ -1,0 +1,4 @@
+pub mod Joins
+pub mod Idles
+pub mod Ends
+pub mod Answered
