@@ -17,10 +17,10 @@ _secrec_used() {
   return 1
 }
 _secrec() {
-  local current=${COMP_WORDS[COMP_CWORD]} before=$((COMP_CWORD - 1)) options used=' ' left='' option program='' miner=none list='' k
+  local current=${COMP_WORDS[COMP_CWORD]} before=$((COMP_CWORD - 1)) options used=' ' left='' option program='' miner=none list='' code='' k
   COMPREPLY=()
   if [ "$COMP_CWORD" -eq 1 ]; then
-    _secrec_words 'check compile eval need run deal map simulate twin load gather help'
+    _secrec_words 'check compile eval need run deal map simulate twin load gather join miner trio help'
     return
   fi
   case ${COMP_WORDS[1]} in
@@ -34,15 +34,18 @@ _secrec() {
     twin) options='--input --second --tape --to --budget' miner='' ;;
     load) options='--number' program=none ;;
     gather) options='--me --to' list=yes ;;
-    help) [ "$COMP_CWORD" -ne 2 ] || _secrec_words 'check compile eval need run deal map simulate twin load gather'; return ;;
+    join) options='' list=yes ;;
+    miner) options='--me --share --tape --port --out --budget' code=yes ;;
+    trio) options='--input --tape --to --port --budget' ;;
+    help) [ "$COMP_CWORD" -ne 2 ] || _secrec_words 'check compile eval need run deal map simulate twin load gather join miner trio'; return ;;
     *) return ;;
   esac
   # (`--name=value` comes in three words)
   if [ "$current" = '=' ]; then current=''; elif [ "${COMP_WORDS[before]}" = '=' ]; then before=$((before - 1)); fi
   case ${COMP_WORDS[before]} in
     --input | --second | --public) _secrec_files '*.json'; return ;;
-    --code | --tape | --to | --schedule | --record | --views | --sim | --opened | --view) _secrec_files '*'; return ;;
-    --seed | --words | --budget | --shuffle | --number) return ;;
+    --code | --tape | --to | --schedule | --record | --views | --sim | --opened | --view | --share | --out) _secrec_files '*'; return ;;
+    --seed | --words | --budget | --shuffle | --number | --port) return ;;
     --me) _secrec_words '1 2 3'; return ;;
   esac
   for ((k = 2; k < COMP_CWORD; k++)); do
@@ -68,6 +71,7 @@ _secrec() {
     *)
       if [ -n "$list" ]; then _secrec_files '*'
       elif [ -z "$miner" ]; then _secrec_words '1 2 3'
+      elif [ -z "$program" ] && [ -n "$code" ]; then _secrec_files '*'
       elif [ -z "$program" ]; then _secrec_files '*.sc'
       else _secrec_words "$left"
       fi

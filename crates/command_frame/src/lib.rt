@@ -23,4 +23,4 @@ pub use reading::read_file;
 pub use refusal::Refusal;
 pub use saying::{ended_status, say};
 pub use status::Status;
-pub use stop::{Stop, breached, refused};
+pub use stop::{Stop, breached, file_stop, refused};

@@ -3,7 +3,7 @@ use Rattle.std.specs.Prelude.{ℕ, List, [], ◌∷◌, codes, drop, Option, Som
 use Rattle.std.specs.Str.{bytes_eq}
 use Rattle.clap.specs.Words.{Kinds, Row, Text, all_of, fault_of, first_of, subcommand_of}
 use Rattle.proto_core.specs.declared.party.Number.{Number}
-use Rattle.command_words.specs.Numbers.{number_of, miner_of, seed_of}
+use Rattle.command_words.specs.Numbers.{number_of, miner_of, port_of, seed_of}
 use Rattle.command_words.specs.Shapes.{secrec_app}
 
 -- where the tapes come from: a tape file, or a seed and how many words each tape has
@@ -90,6 +90,34 @@ pub record GatherAsk : Type 0 where
   -- where the share file of all is written
   pub to : Text
 
+pub record JoinAsk : Type 0 where
+  -- the texts of miners 1, 2 and 3
+  pub first : Text
+  pub second : Text
+  pub third : Text
+
+pub record MinerAsk : Type 0 where
+  pub code : Text
+  -- whose part of the run it is
+  pub me : Number
+  pub share : Text
+  pub tape : Text
+  -- the first of the three ports at which the miners join
+  pub port : ℕ
+  -- where the miner's text is written
+  pub out : Text
+  pub budget : ℕ
+
+pub record TrioAsk : Type 0 where
+  pub program : Text
+  pub input : Text
+  pub tape : Text
+  -- what the paths of the miners' files begin with
+  pub to : Text
+  -- the first of the three ports at which the miners join
+  pub port : ℕ
+  pub budget : ℕ
+
 -- a command, without where its words lie in memory
 pub data Ask : Type 0 where
   run : RunAsk → Ask
@@ -103,6 +131,9 @@ pub data Ask : Type 0 where
   twin : TwinAsk → Ask
   load : LoadAsk → Ask
   gather : GatherAsk → Ask
+  join : JoinAsk → Ask
+  miner : MinerAsk → Ask
+  trio : TrioAsk → Ask
 
 infixl 10 ◌>>=◌
 abbrev pub ◌>>=◌ : {A B : Type 0} → Option A → (A → Option B) → Option B
@@ -189,10 +220,10 @@ eval_of rows = do
 
 unfoldable pub map_of : List Row → Option MapAsk
 map_of rows = do
-  miner ← miner_of (required_of (codes "miner") rows)
+  number ← miner_of (required_of (codes "miner") rows)
   budget ← number_or default_budget (first_of (codes "budget") rows)
   Some (record {
-    miner = miner;
+    miner = number;
     program = required_of (codes "program") rows;
     input = required_of (codes "input") rows;
     tape = required_of (codes "tape") rows;
@@ -204,11 +235,11 @@ map_of rows = do
 
 unfoldable pub simulate_of : List Row → Option SimulateAsk
 simulate_of rows = do
-  miner ← miner_of (required_of (codes "miner") rows)
+  number ← miner_of (required_of (codes "miner") rows)
   order ← order_of (first_of (codes "schedule") rows) (first_of (codes "shuffle") rows)
   budget ← number_or default_budget (first_of (codes "budget") rows)
   Some (record {
-    miner = miner;
+    miner = number;
     program = required_of (codes "program") rows;
     public = required_of (codes "public") rows;
     opened = required_of (codes "opened") rows;
@@ -220,10 +251,10 @@ simulate_of rows = do
 
 unfoldable pub twin_of : List Row → Option TwinAsk
 twin_of rows = do
-  miner ← miner_of (required_of (codes "miner") rows)
+  number ← miner_of (required_of (codes "miner") rows)
   budget ← number_or default_budget (first_of (codes "budget") rows)
   Some (record {
-    miner = miner;
+    miner = number;
     program = required_of (codes "program") rows;
     input = required_of (codes "input") rows;
     second = required_of (codes "second") rows;
@@ -239,12 +270,47 @@ load_of rows = do
 
 unfoldable pub gather_of : List Row → Option GatherAsk
 gather_of rows = do
-  miner ← miner_of (required_of (codes "me") rows)
+  number ← miner_of (required_of (codes "me") rows)
   Some (record {
-    miner = miner;
+    miner = number;
     first = required_of (codes "share") rows;
     more = others_of (codes "share") rows;
     to = required_of (codes "to") rows;
+  })
+
+unfoldable pub join_of : List Row → Option JoinAsk
+join_of rows = Some (record {
+  first = required_of (codes "first") rows;
+  second = required_of (codes "second") rows;
+  third = required_of (codes "third") rows;
+})
+
+unfoldable pub miner_ask_of : List Row → Option MinerAsk
+miner_ask_of rows = do
+  me ← miner_of (required_of (codes "me") rows)
+  port ← port_of (required_of (codes "port") rows)
+  budget ← number_or default_budget (first_of (codes "budget") rows)
+  Some (record {
+    code = required_of (codes "code") rows;
+    me = me;
+    share = required_of (codes "share") rows;
+    tape = required_of (codes "tape") rows;
+    port = port;
+    out = required_of (codes "out") rows;
+    budget = budget;
+  })
+
+unfoldable pub trio_of : List Row → Option TrioAsk
+trio_of rows = do
+  port ← port_of (required_of (codes "port") rows)
+  budget ← number_or default_budget (first_of (codes "budget") rows)
+  Some (record {
+    program = required_of (codes "program") rows;
+    input = required_of (codes "input") rows;
+    tape = required_of (codes "tape") rows;
+    to = required_of (codes "to") rows;
+    port = port;
+    budget = budget;
   })
 
 -- the command of this name, with what `clap` matched behind its name
@@ -261,6 +327,9 @@ named name rows =
     else if bytes_eq name (codes "twin") then option_map twin (twin_of rows)
     else if bytes_eq name (codes "load") then option_map load (load_of rows)
     else if bytes_eq name (codes "gather") then option_map gather (gather_of rows)
+    else if bytes_eq name (codes "join") then option_map join (join_of rows)
+    else if bytes_eq name (codes "miner") then option_map miner (miner_ask_of rows)
+    else if bytes_eq name (codes "trio") then option_map trio (trio_of rows)
     else None
 
 -- this, where nothing refuses the words

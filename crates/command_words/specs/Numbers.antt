@@ -25,6 +25,17 @@ miner_numbered n =
 unfoldable pub miner_of : List ℕ → Option Number
 miner_of text = option_and_then miner_numbered (number_of text)
 
+abbrev pub most_port : ℕ
+most_port = 65533
+
+-- the first of three ports that follow one another
+abbrev pub port_numbered : ℕ → Option ℕ
+port_numbered n = if nat_le 1 n && nat_le n most_port then Some n else None
+
+-- decimal digits with a value from 1 to 65,533
+unfoldable pub port_of : List ℕ → Option ℕ
+port_of text = option_and_then port_numbered (number_of text)
+
 -- `0` to `9` and `a` to `f`
 abbrev pub is_lower_hex : ℕ → Bool
 is_lower_hex c = (nat_le 48 c && nat_le c 57) || (nat_le 97 c && nat_le c 102)

@@ -87,6 +87,24 @@ gather_required = codes "me" ∷ codes "to" ∷ []
 unfoldable pub gather_app : App
 gather_app = with_rule (command_app (codes "gather") [] gather_required []) (words_rule (codes "share"))
 
+-- join T1 T2 T3
+unfoldable pub join_app : App
+join_app = command_app (codes "join") (codes "first" ∷ codes "second" ∷ codes "third" ∷ []) [] []
+
+unfoldable pub miner_required : List Text
+miner_required = codes "me" ∷ codes "share" ∷ codes "tape" ∷ codes "port" ∷ codes "out" ∷ []
+
+-- miner CODE --me I --share F --tape F --port P --out F, and the budget
+unfoldable pub miner_app : App
+miner_app = command_app (codes "miner") (codes "code" ∷ []) miner_required eval_options
+
+unfoldable pub trio_required : List Text
+trio_required = codes "input" ∷ codes "tape" ∷ codes "to" ∷ codes "port" ∷ []
+
+-- trio PROGRAM --input F --tape F --to PREFIX --port P, and the budget
+unfoldable pub trio_app : App
+trio_app = command_app (codes "trio") (codes "program" ∷ []) trio_required eval_options
+
 -- no command yet: the words begin after the program's name, and `help` is no command
 unfoldable pub bare_app : App
 bare_app = record (new_app (codes "secrec")) { top = record (new_app (codes "secrec")).top { no_binary_name = true; disable_help_subcommand = true } }
@@ -115,6 +133,10 @@ viewing_app = with_subcommand (with_subcommand (with_subcommand program_app map_
 unfoldable pub loading_app : App
 loading_app = with_subcommand viewing_app load_app.top
 
--- all commands
+-- and the one that puts share files end to end
+unfoldable pub gathering_app : App
+gathering_app = with_subcommand loading_app gather_app.top
+
+-- and those of three miners that run as programs of their own: all commands
 unfoldable pub secrec_app : App
-secrec_app = with_subcommand loading_app gather_app.top
+secrec_app = with_subcommand (with_subcommand (with_subcommand gathering_app miner_app.top) trio_app.top) join_app.top

@@ -9,9 +9,11 @@ use Rattle.command_words.specs.Ask.{scheduled, shuffled, words_of, named_in, nam
 use Rattle.command_words.specs.Ask.{run_of, deal_of, check_of, compile_of, eval_of, map_of, simulate_of, twin_of, load_of, source_of, seeded_source}
 use Rattle.command_words.specs.Ask.{gather, gather_of, others_of}
 use Rattle.command_words.specs.Ask.{order_of, number_or, required_of}
-use Rattle.command_words.specs.Numbers.{number_of, miner_of, seed_of}
+use Rattle.command_words.specs.Ask.{join, join_of, miner, miner_ask_of, trio, trio_of}
+use Rattle.command_words.specs.Numbers.{number_of, miner_of, port_of, seed_of}
 use Rattle.proto_core.specs.declared.party.Number.TheVariants.{One, Two, Three}
-use Rattle.command_words.specs.Shapes.{gather_app, gather_required, loading_app, words_rule}
+use Rattle.command_words.specs.Shapes.{gather_app, gather_required, gathering_app, loading_app, words_rule}
+use Rattle.command_words.specs.Shapes.{join_app, miner_app, miner_required, trio_app, trio_required}
 use Rattle.command_words.specs.Shapes.{secrec_app, viewing_app, program_app, checking_app, clear_app, input_app, run_app, deal_app, check_app}
 use Rattle.command_words.specs.Shapes.{compile_app, evaluation_app, view_app, map_app, simulate_app, twin_app}
 use Rattle.command_words.specs.Shapes.{load_app, command_app, bare_app, run_options, eval_options, map_required, simulate_options, with_options}
@@ -23,6 +25,7 @@ unfolding clap_on_literals hex_on_literals secrec_app viewing_app program_app ch
     evaluation_app view_app map_app simulate_app twin_app load_app command_app bare_app run_options eval_options map_required simulate_options
     with_options word_rule option_rule words_of named_in named matched run_of deal_of check_of compile_of eval_of map_of simulate_of twin_of load_of
     source_of seeded_source order_of number_or required_of number_of miner_of seed_of gather_app gather_required loading_app words_rule gather_of others_of
+    gathering_app join_app miner_app miner_required trio_app trio_required join_of miner_ask_of trio_of port_of
 words_on_literals = tt
 
 -- run p.sc --input i, and then these words
@@ -217,8 +220,8 @@ need_with_tape = refl
 
 -- map, the miner's number, p.sc, and all options that must be there
 abbrev pub map_with : Text → List Text → Option Ask
-map_with miner more =
-    words_of (codes "map" ∷ miner ∷ codes "p.sc" ∷ codes "--input=i" ∷ codes "--tape=t" ∷ codes "--sim=s" ∷ codes "--public=p" ∷ codes "--opened=o" ∷ more)
+map_with number more =
+    words_of (codes "map" ∷ number ∷ codes "p.sc" ∷ codes "--input=i" ∷ codes "--tape=t" ∷ codes "--sim=s" ∷ codes "--public=p" ∷ codes "--opened=o" ∷ more)
 
 map_words : map_with (codes "003") (codes "--budget=6" ∷ [])
     ≡ Some (map_tape (record {
@@ -308,6 +311,89 @@ gather_of_none = refl
 gather_for_nobody : words_of (codes "gather" ∷ codes "--to" ∷ codes "f" ∷ codes "a" ∷ []) ≡ None
 unfolding words_on_literals
 gather_for_nobody = refl
+
+join_words : words_of (codes "join" ∷ codes "a" ∷ codes "b" ∷ codes "c" ∷ [])
+    ≡ Some (join (record { first = codes "a"; second = codes "b"; third = codes "c" }))
+unfolding words_on_literals
+join_words = refl
+
+join_of_two : words_of (codes "join" ∷ codes "a" ∷ codes "b" ∷ []) ≡ None
+unfolding words_on_literals
+join_of_two = refl
+
+join_of_four : words_of (codes "join" ∷ codes "a" ∷ codes "b" ∷ codes "c" ∷ codes "d" ∷ []) ≡ None
+unfolding words_on_literals
+join_of_four = refl
+
+-- miner c, all options that must be there but the miner and the port, and then these words
+abbrev pub miner_with : List Text → Option Ask
+miner_with more = words_of (codes "miner" ∷ codes "c" ∷ codes "--share=s" ∷ codes "--tape=t" ∷ codes "--out=o" ∷ more)
+
+-- what those ask for of miner 2
+abbrev pub second_miner : (port budget : ℕ) → Option Ask
+second_miner port budget = Some (miner (record {
+  code = codes "c";
+  me = Two;
+  share = codes "s";
+  tape = codes "t";
+  port = port;
+  out = codes "o";
+  budget = budget;
+}))
+
+miner_words : miner_with (codes "--me" ∷ codes "2" ∷ codes "--port" ∷ codes "47310" ∷ []) ≡ second_miner 47310 1000000
+unfolding words_on_literals
+miner_words = refl
+
+-- its budget, and the last port behind which two more stand
+last_port : miner_with (codes "--me=2" ∷ codes "--port=065533" ∷ codes "--budget" ∷ codes "6" ∷ []) ≡ second_miner 65533 6
+unfolding words_on_literals
+last_port = refl
+
+port_too_large : miner_with (codes "--me=2" ∷ codes "--port=65534" ∷ []) ≡ None
+unfolding words_on_literals
+port_too_large = refl
+
+port_zero : miner_with (codes "--me=2" ∷ codes "--port=0" ∷ []) ≡ None
+unfolding words_on_literals
+port_zero = refl
+
+signed_port : miner_with (codes "--me=2" ∷ codes "--port=+7" ∷ []) ≡ None
+unfolding words_on_literals
+signed_port = refl
+
+miner_of_nobody : miner_with (codes "--me=0" ∷ codes "--port=7" ∷ []) ≡ None
+unfolding words_on_literals
+miner_of_nobody = refl
+
+miner_without_port : miner_with (codes "--me=2" ∷ []) ≡ None
+unfolding words_on_literals
+miner_without_port = refl
+
+-- trio p.sc, all options that must be there but the port, and then these words
+abbrev pub trio_with : List Text → Option Ask
+trio_with more = words_of (codes "trio" ∷ codes "p.sc" ∷ codes "--input=i" ∷ codes "--tape=t" ∷ codes "--to=x" ∷ more)
+
+trio_words : trio_with (codes "--port" ∷ codes "47310" ∷ [])
+    ≡ Some (trio (record {
+      program = codes "p.sc";
+      input = codes "i";
+      tape = codes "t";
+      to = codes "x";
+      port = 47310;
+      budget = 1000000;
+    }))
+unfolding words_on_literals
+trio_words = refl
+
+trio_port_too_large : trio_with (codes "--port=65534" ∷ []) ≡ None
+unfolding words_on_literals
+trio_port_too_large = refl
+
+-- the miners' text files are named by the prefix
+trio_with_out : trio_with (codes "--port=7" ∷ codes "--out=o" ∷ []) ≡ None
+unfolding words_on_literals
+trio_with_out = refl
 
 no_words : words_of [] ≡ None
 unfolding words_on_literals

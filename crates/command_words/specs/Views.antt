@@ -19,11 +19,15 @@ use Rattle.command_words.specs.declared.command.SimulateWords.{SimulateWords}
 use Rattle.command_words.specs.declared.command.TwinWords.{TwinWords}
 use Rattle.command_words.specs.declared.command.LoadWords.{LoadWords}
 use Rattle.command_words.specs.declared.command.GatherWords.{GatherWords}
+use Rattle.command_words.specs.declared.command.JoinWords.{JoinWords}
+use Rattle.command_words.specs.declared.command.MinerWords.{MinerWords}
+use Rattle.command_words.specs.declared.command.TrioWords.{TrioWords}
 use Rattle.command_words.specs.declared.command.Command.{Command}
 use Rattle.command_words.specs.declared.command.Command.TheVariants as commands
 use Rattle.command_words.specs.declared.command.WordsErr.{WordsErr}
 use Rattle.command_words.specs.declared.command.WordsErr.TheVariants.{Usage, Memory}
 use Rattle.command_words.specs.Ask.{Ask, CheckAsk, CompileAsk, DealAsk, EvalAsk, Order, RunAsk, Source, check, compile, deal, eval, file, in_turn, need, run}
+use Rattle.command_words.specs.Ask.{JoinAsk, MinerAsk, TrioAsk, join, miner, trio}
 use Rattle.command_words.specs.Ask.{GatherAsk, gather, LoadAsk, MapAsk, SimulateAsk, TwinAsk, load, map_tape, scheduled, seeded, shuffled, simulate, twin}
 
 abbrev pub source_ask : TapeSource → Source
@@ -104,6 +108,30 @@ gather_ask w = record {
   to = string_bytes w.to;
 }
 
+abbrev pub join_ask : JoinWords → JoinAsk
+join_ask w = record { first = string_bytes w.first; second = string_bytes w.second; third = string_bytes w.third }
+
+abbrev pub miner_ask : MinerWords → MinerAsk
+miner_ask w = record {
+  code = string_bytes w.code;
+  me = w.me;
+  share = string_bytes w.share;
+  tape = string_bytes w.tape;
+  port = w.port;
+  out = string_bytes w.out;
+  budget = w.budget;
+}
+
+abbrev pub trio_ask : TrioWords → TrioAsk
+trio_ask w = record {
+  program = string_bytes w.program;
+  input = string_bytes w.input;
+  tape = string_bytes w.tape;
+  to = string_bytes w.to;
+  port = w.port;
+  budget = w.budget;
+}
+
 abbrev pub ask_of : Command → Ask
 ask_of (commands.Run w) = run (run_ask w)
 ask_of (commands.Deal w) = deal (deal_ask w)
@@ -116,6 +144,9 @@ ask_of (commands.Simulate w) = simulate (simulate_ask w)
 ask_of (commands.Twin w) = twin (twin_ask w)
 ask_of (commands.Load w) = load (load_ask w)
 ask_of (commands.Gather w) = gather (gather_ask w)
+ask_of (commands.Join w) = join (join_ask w)
+ask_of (commands.Miner w) = miner (miner_ask w)
+ask_of (commands.Trio w) = trio (trio_ask w)
 
 -- the answer, seen by `view`, is the value that is wanted; Usage says that there is none, and Memory says nothing
 abbrev pub Reads : {X Y : Type 0} → (X → Y) → Option Y → Result X WordsErr → Type 0

@@ -1,6 +1,7 @@
 //! The `clap` command that reads the words.
 ghost use Rattle.std.specs.Prelude.{◌≡◌, IfOk, map};
-ghost use Rattle.command_words.specs.Shapes.{gather_app, gather_required, loading_app, words_rule};
+ghost use Rattle.command_words.specs.Shapes.{gather_app, gather_required, gathering_app, loading_app, words_rule};
+ghost use Rattle.command_words.specs.Shapes.{join_app, miner_app, miner_required, trio_app, trio_required};
 ghost use Rattle.command_words.specs.Shapes.{word_rule, option_rule, run_options, run_app, deal_app, check_app, compile_app, eval_options};
 ghost use Rattle.command_words.specs.Shapes.{evaluation_app, view_app, map_required, map_app, simulate_options, simulate_app, twin_app, load_app};
 ghost use Rattle.command_words.specs.Shapes.{with_options, bare_app, input_app, clear_app, checking_app, program_app, viewing_app, secrec_app};
@@ -244,6 +245,50 @@ fn gather_command<'a>(alloc: Global) -> Result<Command<'a>, AllocError>
     with_words(alloc, command, "share")
 }
 
+fn join_command<'a>(alloc: Global) -> Result<Command<'a>, AllocError>
+    ensures { IfOk result (λ c. Builds join_app c) }
+{
+    let command = with_word(alloc, Ok(Command::new(alloc, "join")), "first");
+    let command = with_word(alloc, command, "second");
+    with_word(alloc, command, "third")
+}
+
+static MINER_REQUIRED: [&str; 5] = ["me", "share", "tape", "port", "out"];
+
+// The options of `miner` that must be there.
+#[tactic(auto, unfolding(crate::specs::Shapes::miner_required))]
+fn miner_required() -> &'static [&'static str]
+    ensures { map (λ s. s.now) result.now ≡ miner_required }
+{
+    MINER_REQUIRED.as_slice()
+}
+
+fn miner_command<'a>(alloc: Global) -> Result<Command<'a>, AllocError>
+    ensures { IfOk result (λ c. Builds miner_app c) }
+{
+    let command = with_word(alloc, Ok(Command::new(alloc, "miner")), "code");
+    let command = with_options(alloc, command, true, miner_required());
+    with_options(alloc, command, false, eval_options())
+}
+
+static TRIO_REQUIRED: [&str; 4] = ["input", "tape", "to", "port"];
+
+// The options of `trio` that must be there.
+#[tactic(auto, unfolding(crate::specs::Shapes::trio_required))]
+fn trio_required() -> &'static [&'static str]
+    ensures { map (λ s. s.now) result.now ≡ trio_required }
+{
+    TRIO_REQUIRED.as_slice()
+}
+
+fn trio_command<'a>(alloc: Global) -> Result<Command<'a>, AllocError>
+    ensures { IfOk result (λ c. Builds trio_app c) }
+{
+    let command = with_word(alloc, Ok(Command::new(alloc, "trio")), "program");
+    let command = with_options(alloc, command, true, trio_required());
+    with_options(alloc, command, false, eval_options())
+}
+
 // The command with one more command behind it; without memory for either there is none.
 fn with_command<'a>(
     command: Result<Command<'a>, AllocError>,
@@ -312,9 +357,18 @@ fn loading_commands<'a>(alloc: Global) -> Result<Command<'a>, AllocError>
     with_command(viewing_commands(alloc), load_command(alloc))
 }
 
-/// The whole command.
+// Those, and the one that puts share files end to end.
+fn gathering_commands<'a>(alloc: Global) -> Result<Command<'a>, AllocError>
+    ensures { IfOk result (λ c. Builds gathering_app c) }
+{
+    with_command(loading_commands(alloc), gather_command(alloc))
+}
+
+/// The whole command: those, and the ones of three miners that run as programs of their own.
 pub(crate) fn secrec_command<'a>(alloc: Global) -> Result<Command<'a>, AllocError>
     ensures { IfOk result (λ c. Builds secrec_app c) }
 {
-    with_command(loading_commands(alloc), gather_command(alloc))
+    let served = with_command(gathering_commands(alloc), miner_command(alloc));
+    let launched = with_command(served, trio_command(alloc));
+    with_command(launched, join_command(alloc))
 }

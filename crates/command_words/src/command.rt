@@ -1,5 +1,5 @@
 //! The commands, with their words.
-ghost use Rattle.std.specs.Prelude.{◌≡◌};
+ghost use Rattle.std.specs.Prelude.{◌≡◌, ◌≤◌};
 ghost use Rattle.command_words.specs.declared.command.WordsErr.TheVariants.{Memory};
 
 use crate::tape_seed::TapeSeed;
@@ -155,6 +155,41 @@ pub struct GatherWords {
     pub to: String,
 }
 
+/// The words of `join`: the paths of the texts of miners 1, 2 and 3.
+#[derive(Drop)]
+pub struct JoinWords {
+    pub first: String,
+    pub second: String,
+    pub third: String,
+}
+
+/// The words of `miner`: the path of the code, whose part of the run it is, the paths of the miner's share file and of its own tape, the first
+/// of the three ports at which the miners join, the path to which the miner's text is written, and the most that the run may cost.
+#[derive(Drop)]
+pub struct MinerWords {
+    pub code: String,
+    pub me: Number,
+    pub share: String,
+    pub tape: String,
+    pub port: u16,
+    pub out: String,
+    pub budget: u64,
+    pub ghost port_from: { 1 ≤ port },
+    pub ghost port_to: { port ≤ 65533 },
+}
+
+/// The words of `trio`: the paths of the program, the input file and the tape file, the start of the paths that are written, the first of the
+/// three ports at which the miners join, and the most that the run may cost.
+#[derive(Drop)]
+pub struct TrioWords {
+    pub program: String,
+    pub input: String,
+    pub tape: String,
+    pub to: String,
+    pub port: u16,
+    pub budget: u64,
+}
+
 /// A command, with its words.
 pub enum Command {
     Check(CheckWords),
@@ -168,6 +203,9 @@ pub enum Command {
     Twin(TwinWords),
     Load(LoadWords),
     Gather(GatherWords),
+    Join(JoinWords),
+    Miner(MinerWords),
+    Trio(TrioWords),
 }
 
 // Written out, so that an early exit calls this once.
@@ -184,7 +222,10 @@ impl Drop for Command {
             | Command::Simulate(_)
             | Command::Twin(_)
             | Command::Load(_)
-            | Command::Gather(_) => {}
+            | Command::Gather(_)
+            | Command::Join(_)
+            | Command::Miner(_)
+            | Command::Trio(_) => {}
         }
     }
 }

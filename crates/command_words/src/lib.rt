@@ -12,8 +12,9 @@ mod tape_seed;
 mod values;
 
 pub use command::{
-    CheckWords, Command, CompileWords, DealWords, DeliveryOrder, EvalWords, GatherWords, LoadWords,
-    MapWords, RunWords, SimulateWords, TapeSource, TwinWords, WordsErr,
+    CheckWords, Command, CompileWords, DealWords, DeliveryOrder, EvalWords, GatherWords, JoinWords,
+    LoadWords, MapWords, MinerWords, RunWords, SimulateWords, TapeSource, TrioWords, TwinWords,
+    WordsErr,
 };
 pub use reading::read;
 pub use tape_seed::TapeSeed;

@@ -1,8 +1,8 @@
 //! Numbers, miners and seeds as text.
-ghost use Rattle.std.specs.Prelude.{◌≡◌};
+ghost use Rattle.std.specs.Prelude.{◌≡◌, ◌≤◌, IfSome};
 ghost use Rattle.std.specs.List.{list_all};
 ghost use Rattle.std.specs.Char.{is_ascii_digit};
-ghost use Rattle.command_words.specs.Numbers.{number_of, miner_of, seed_of, is_lower_hex};
+ghost use Rattle.command_words.specs.Numbers.{number_of, miner_of, port_of, seed_of, is_lower_hex};
 
 use hex::FromHex;
 use proto_core::Number;
@@ -40,6 +40,23 @@ pub(crate) fn miner(text: &str) -> Option<Number>
         2 => Some(Number::Two),
         3 => Some(Number::Three),
         _ => None,
+    }
+}
+
+const MOST_PORT: u64 = 65_533;
+
+/// The first of three ports, which decimal digits spell: 1 to 65,533.
+#[tactic(auto, unfolding(crate::specs::Numbers::port_of))]
+pub(crate) fn port(text: &str) -> Option<u16>
+    ensures value { result ≡ port_of text.now }
+    ensures from { IfSome result (λ port. 1 ≤ port) }
+    ensures to { IfSome result (λ port. port ≤ 65533) }
+{
+    let port = number(text)?;
+    if 1 <= port && port <= MOST_PORT {
+        Some(port as u16)
+    } else {
+        None
     }
 }
 

@@ -35,7 +35,7 @@ fn matches_of<'a>(alloc: Global, words: &'a [String]) -> Result<ArgMatches<'a>, 
 /// The command that the words after the program's name ask for.
 ///
 /// `Usage` comes exactly where they ask for none: `clap` has no matches for them, no command is named, a number isn't
-/// decimal digits with a value below 2^64 (16,777,216 at most for `--words`, 1 to 3 for a miner), a seed isn't 64
+/// decimal digits with a value below 2^64 (16,777,216 at most for `--words`, 1 to 3 for a miner, 1 to 65,533 for `--port`), a seed isn't 64
 /// lower-case hexadecimal digits, `run` has both or none of `--tape` and `--seed`, `--words` comes without `--seed`, or
 /// both `--schedule` and `--shuffle` are given. A request for help is `Usage`. `Memory` comes where memory ran out,
 /// whatever the words are.

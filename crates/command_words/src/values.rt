@@ -1,18 +1,20 @@
 //! What a command's words give, once `clap` has matched them.
-ghost use Rattle.std.specs.Prelude.{◌≡◌, drop, map, option_map, IfOk, string_bytes, codes};
+ghost use Rattle.std.specs.Prelude.{◌≡◌, ◌≤◌, drop, map, option_map, IfOk, IfSome, string_bytes, codes};
 ghost use Rattle.clap.specs.Words.{found_of, first_of, rows_of};
 ghost use Rattle.command_words.specs.Ask.{required_of, default_budget, number_or, seeded_source, source_of, order_of, run_of, deal_of, check_of};
 ghost use Rattle.command_words.specs.Ask.{gather, gather_of, others_of};
+ghost use Rattle.command_words.specs.Ask.{join, join_of, miner as miner_words, miner_ask_of, trio, trio_of};
 ghost use Rattle.command_words.specs.Ask.{compile_of, eval_of, map_of, simulate_of, twin_of, load_of, named};
 ghost use Rattle.command_words.specs.Ask.{run, deal, check, compile, eval, need, map_tape, simulate, twin, load};
-ghost use Rattle.command_words.specs.Numbers.{miner_of};
+ghost use Rattle.command_words.specs.Numbers.{miner_of, port_of};
 ghost use Rattle.command_words.specs.Views.{Reads, text_in, source_ask, order_ask, eval_ask, ask_of};
 
 use crate::command::{
-    CheckWords, Command, CompileWords, DealWords, DeliveryOrder, EvalWords, GatherWords, LoadWords,
-    MapWords, RunWords, SimulateWords, TapeSource, TwinWords, WordsErr,
+    CheckWords, Command, CompileWords, DealWords, DeliveryOrder, EvalWords, GatherWords, JoinWords,
+    LoadWords, MapWords, MinerWords, RunWords, SimulateWords, TapeSource, TrioWords, TwinWords,
+    WordsErr,
 };
-use crate::numbers::{miner, number, seed};
+use crate::numbers::{miner, number, port, seed};
 use crate::tape_seed::TapeSeed;
 use clap::ArgMatches;
 use proto_core::Number;
@@ -384,6 +386,80 @@ fn read_gather(alloc: Global, matches: &ArgMatches) -> Result<Command, WordsErr>
     }))
 }
 
+// `join`, with its words.
+#[tactic(auto, unfolding(crate::specs::Ask::join_of))]
+fn read_join(alloc: Global, matches: &ArgMatches) -> Result<Command, WordsErr>
+    ensures { Reads ask_of (option_map join (join_of (rows_of (found_of matches.now)))) result }
+{
+    Ok(Command::Join(JoinWords {
+        first: required(alloc, matches, "first")?,
+        second: required(alloc, matches, "second")?,
+        third: required(alloc, matches, "third")?,
+    }))
+}
+
+// The first of the three ports at which miners join.
+#[tactic(auto, unfolding(crate::specs::Ask::required_of))]
+fn port_in(matches: &ArgMatches) -> Option<u16>
+    ensures value { result ≡ port_of (required_of (codes "port") (rows_of (found_of matches.now))) }
+    ensures from { IfSome result (λ port. 1 ≤ port) }
+    ensures to { IfSome result (λ port. port ≤ 65533) }
+{
+    port(value(matches, "port").unwrap_or(""))
+}
+
+// The miner whose number `--me` tells.
+#[tactic(auto, unfolding(crate::specs::Ask::required_of))]
+fn me_in(matches: &ArgMatches) -> Option<Number>
+    ensures { result ≡ miner_of (required_of (codes "me") (rows_of (found_of matches.now))) }
+{
+    miner(value(matches, "me").unwrap_or(""))
+}
+
+// `miner`, with its words.
+#[tactic(auto, unfolding(crate::specs::Ask::miner_ask_of))]
+fn read_miner(alloc: Global, matches: &ArgMatches) -> Result<Command, WordsErr>
+    ensures { Reads ask_of (option_map miner_words (miner_ask_of (rows_of (found_of matches.now)))) result }
+{
+    let (Some(me), Some(port), Some(budget)) = (
+        me_in(matches),
+        port_in(matches),
+        budget_in(matches),
+    ) else {
+        return Err(WordsErr::Usage);
+    };
+    Ok(Command::Miner(MinerWords {
+        code: required(alloc, matches, "code")?,
+        me,
+        share: required(alloc, matches, "share")?,
+        tape: required(alloc, matches, "tape")?,
+        port,
+        out: required(alloc, matches, "out")?,
+        budget,
+    }))
+}
+
+// `trio`, with its words.
+#[tactic(auto, unfolding(crate::specs::Ask::trio_of))]
+fn read_trio(alloc: Global, matches: &ArgMatches) -> Result<Command, WordsErr>
+    ensures { Reads ask_of (option_map trio (trio_of (rows_of (found_of matches.now)))) result }
+{
+    let (Some(port), Some(budget)) = (port_in(matches), budget_in(matches)) else {
+        return Err(WordsErr::Usage);
+    };
+    let tape = required(alloc, matches, "tape")?;
+    let to = required(alloc, matches, "to")?;
+    let paths = paths_of(alloc, matches)?;
+    Ok(Command::Trio(TrioWords {
+        program: paths.program,
+        input: paths.input,
+        tape,
+        to,
+        port,
+        budget,
+    }))
+}
+
 /// The command of this name, with what `clap` matched behind its name.
 #[tactic(auto, unfolding(crate::specs::Ask::named))]
 pub(crate) fn named(alloc: Global, name: &str, matches: &ArgMatches) -> Result<Command, WordsErr>
@@ -421,6 +497,15 @@ pub(crate) fn named(alloc: Global, name: &str, matches: &ArgMatches) -> Result<C
     }
     if name == "gather" {
         return read_gather(alloc, matches);
+    }
+    if name == "join" {
+        return read_join(alloc, matches);
+    }
+    if name == "miner" {
+        return read_miner(alloc, matches);
+    }
+    if name == "trio" {
+        return read_trio(alloc, matches);
     }
     Err(WordsErr::Usage)
 }

@@ -55,8 +55,8 @@ fn add_tape(
     add_write(alloc, writes, prefix, suffix, bytes)
 }
 
-// The six files in order.
-fn writes(
+/// The six files of a dealing in order, at paths behind the prefix: the share files of miners 1, 2 and 3, then their tape files.
+pub fn deal_writes(
     alloc: Global,
     prefix: &String,
     dealt: &Dealt,
@@ -93,7 +93,7 @@ pub fn plan_deal<F: Files>(alloc: Global, files: &mut F, words: &DealWords) -> R
     let tapes = read_tape_file(alloc, files, &words.tape)?;
     match deal(alloc, &inputs, tapes.dealer(), tapes.lengths()) {
         Ok(dealt) => Ok(Plan {
-            writes: writes(alloc, &words.to, &dealt, &tapes)?,
+            writes: deal_writes(alloc, &words.to, &dealt, &tapes)?,
             text: Vec::new(alloc),
             status: Status::Done,
         }),

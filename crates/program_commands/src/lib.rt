@@ -16,7 +16,7 @@ mod writes;
 
 pub use check::plan_check;
 pub use compile::plan_compile;
-pub use deal::plan_deal;
+pub use deal::{deal_writes, plan_deal};
 pub use deliveries::delivery_stop;
 pub use ends::ending_status;
 pub use eval::{plan_eval, plan_need};

@@ -1,6 +1,12 @@
-use Rattle.command_words.specs.Shapes.{gather_app, loading_app, secrec_app}
+use Rattle.clap.specs.Words.{with_subcommand}
+use Rattle.command_words.specs.Shapes.{gathering_app, join_app, miner_app, secrec_app, trio_app}
 use Rattle.command_words.proofs.builders.secrec_command.Goals as goal
 
 pub returns : goal.returns
 unfolding secrec_app
-returns c = c.with_command.ensures loading_app gather_app c.loading_commands.ensures c.gather_command.ensures
+returns c =
+    c.with_command.ensures (with_subcommand (with_subcommand gathering_app miner_app.top) trio_app.top) join_app
+    (c.with_command-launched.ensures (with_subcommand gathering_app miner_app.top) trio_app
+    (c.with_command-served.ensures gathering_app miner_app c.gathering_commands.ensures c.miner_command.ensures)
+    c.trio_command.ensures)
+    c.join_command.ensures

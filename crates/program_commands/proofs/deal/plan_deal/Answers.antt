@@ -4,5 +4,5 @@ use Rattle.program_commands.proofs.deal.plan_deal.Goals as goal
 
 pub returns-in-Ok-clause-names : goal.returns-in-Ok-clause-names
 returns-in-Ok-clause-names g c = record {
-  written = λ path among. subst (λ (ps : List (List ℕ)). Contains ps path) (ap paths_in c.in_ok-writes-in-Ok.ensures) among;
+  written = λ path among. subst (λ (ps : List (List ℕ)). Contains ps path) (ap paths_in c.in_ok-deal_writes-in-Ok.ensures) among;
 }

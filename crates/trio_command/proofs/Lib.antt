@@ -1,0 +1,4 @@
+pub mod Ended
+pub mod Launches
+pub mod Planned
+pub mod Ran

@@ -1,0 +1,4 @@
+pub mod Deciding
+pub mod Launching
+pub mod Trio
+pub mod inner

@@ -1,0 +1,73 @@
+-- Cited by private functions alone: no contract of another crate rests on it.
+-- What comes of three miners that are started.
+use Rattle.std.specs.Prelude.{◌≡◌, ℕ, ℤ, List, [], true, Result, Ok, Err, IfOk, IfErr, string_bytes}
+use Rattle.outside.specs.Causes.{Rose}
+use Rattle.outside.specs.Files.{FilesState, OnlyRead}
+use Rattle.outside.specs.Spawner.{SpawnerState}
+use Rattle.command_frame.specs.declared.object.Object.{Object}
+use Rattle.command_frame.specs.declared.object.Object.TheVariants as objects
+use Rattle.command_frame.specs.declared.plan.Plan.{Plan}
+use Rattle.command_frame.specs.declared.status.Status.TheVariants.{File}
+use Rattle.command_frame.specs.declared.stop.Stop.{Stop}
+use Rattle.command_frame.specs.declared.stop.Stop.TheVariants as stops
+use Rattle.command_frame.specs.Answer.{Answer, breach_of, cause_of, effect_of, writes_of}
+use Rattle.command_frame.specs.Objects.{OfObject}
+use Rattle.command_frame.specs.Reads.{StopNames}
+use Rattle.command_frame.specs.Status.{of_texts}
+use Rattle.command_frame.specs.Stops.{IsBreachFor}
+use Rattle.command_words.specs.Ask.{TrioAsk}
+use Rattle.proto_core.specs.declared.party.Number.{Number}
+use Rattle.proto_core.specs.declared.party.Number.TheVariants.{One, Two, Three}
+use Rattle.trio.specs.Launches.{Launched}
+use Rattle.trio.specs.Words.{out_path}
+use Rattle.trio.specs.declared.child_err.ChildErr.{ChildErr}
+use Rattle.trio.specs.declared.child_err.ChildErr.TheVariants as child_err
+use Rattle.trio_command.specs.declared.running.OutPaths.{OutPaths}
+use Rattle.trio_command.specs.Launching.{AreStatuses}
+use Rattle.trio_command.specs.Trio.{answer_of_miners, bad_status, text_paths, words_for}
+
+-- the stop of a command whose miners did not all run to their end
+abbrev pub IsChildStop : ChildErr → Stop → Type 0
+IsChildStop child_err.Fault stop = stop ≡ stops.Failed objects.Children
+IsChildStop (child_err.Status i status) stop = IsBreachFor (bad_status i status) stop
+IsChildStop child_err.Memory stop = stop ≡ stops.Memory
+
+pub record AreOutPaths (prefix : List ℕ) (paths : OutPaths) : Type 0 where
+  pub first : string_bytes paths.first ≡ out_path prefix One
+  pub second : string_bytes paths.second ≡ out_path prefix Two
+  pub third : string_bytes paths.third ≡ out_path prefix Three
+
+-- the plan, or the breach, is what is decided; so is a file that a steady store hasn't
+abbrev pub MinersDecide : (told : Type 0) → FilesState → Result Plan Stop → Answer → Type 0
+MinersDecide told f (Ok plan) decided = told → decided ≡ Ok (effect_of plan)
+MinersDecide told f (Err stops.Memory) decided = Unit {0}
+MinersDecide told f (Err stops.Usage) decided = Unit {0}
+MinersDecide told f (Err (stops.Refused r)) decided = told → decided ≡ Err (cause_of r)
+MinersDecide told f (Err (stops.Breached b)) decided = told → decided ≡ Err (breach_of b)
+MinersDecide told f (Err (stops.Failed object)) decided =
+    OfObject (λ line. f.steady ≡ true → told → decided ≡ Err (record { status = File; line = line })) (Unit {0}) (Unit {0}) (Unit {0}) object
+
+-- the same whatever is decided
+abbrev pub StopsMiners : (f f' : FilesState) → (c c' : SpawnerState) → Stop → Type 0
+StopsMiners f f' c c' stops.Memory = Unit {0}
+StopsMiners f f' c c' stops.Usage = ⊥
+StopsMiners f f' c c' (stops.Refused r) = Unit {0}
+StopsMiners f f' c c' (stops.Breached b) = of_texts b.status ≡ true
+StopsMiners f f' c c' (stops.Failed object) =
+    OfObject (λ line. Rose f.faults f'.faults) ⊥ ⊥ (Rose c.faults c'.faults × (c.steady ≡ true → c.told ≡ true → ⊥)) object
+
+-- three miners that were launched, of whom a plan tells that all ended as runs do
+pub record WereLaunched (words : Number → List (List ℕ)) (c c' : SpawnerState) (result : Result Plan Stop) : Type 0 where
+  pub part : Result (Unit {0}) ChildErr
+  pub launched : Launched c c' words part
+  pub ended : IfOk result (λ plan. part ≡ Ok tt)
+
+pub record MinersRan (ask : TrioAsk) (f f' : FilesState) (c c' : SpawnerState) (result : Result Plan Stop) : Type 0 where
+  pub read : OnlyRead f f'
+  pub launch : WereLaunched (words_for ask) c c' result
+  pub decided :
+      (status : Number → ℤ) → AreStatuses (words_for ask) c c' status
+      → MinersDecide ((f.told ≡ true) × (c.told ≡ true)) f result (answer_of_miners ask.to f.contents status)
+  pub anyhow : IfErr result (StopsMiners f f' c c')
+  pub names : IfErr result (StopNames (text_paths ask))
+  pub nothing : IfOk result (λ plan. writes_of plan.writes.items ≡ [])

@@ -1,0 +1,8 @@
+//! The command `trio`: a program is compiled, its inputs are dealt, and three miners run it as programs of their own, whose texts are put together.
+#![tactic(auto)]
+
+mod planning;
+mod preparing;
+mod running;
+
+pub use planning::plan_trio;
