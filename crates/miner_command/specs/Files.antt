@@ -1,9 +1,10 @@
 -- The files that a miner reads: the code, its share file, its own tape.
-use Rattle.std.specs.Prelude.{ℕ, List, [], ◌∷◌, Option, Some, None, Result, Ok, Err, get_or, string_bytes}
+use Rattle.std.specs.Prelude.{ℕ, List, [], ◌∷◌, Option, Some, None, Result, Ok, Err, get_or}
 use Rattle.outside.specs.Files.{Contents}
 use Rattle.sha2.specs.Sha256.{sha256}
 use Rattle.proto_core.specs.declared.party.Number.{Number}
 use Rattle.proto_core.specs.Parties.{count_of}
+use Rattle.command_words.specs.Ask.{MinerAsk}
 use Rattle.command_frame.specs.declared.status.Status.TheVariants.{Program}
 use Rattle.command_frame.specs.Answer.{Cause, ◌>>=◌, bytes_at}
 use Rattle.node_faults.specs.Faults.{node_fault_line}
@@ -24,28 +25,6 @@ use Rattle.verified_code.specs.declared.fault.CodeProblem.TheVariants as problem
 use Rattle.input_share.specs.ShareFile.{MinerFile}
 use Rattle.tape_file.specs.Format.{read_own_of}
 use Rattle.program_commands.specs.Reading.{bad_tape, read_or, share_at}
-use Rattle.miner_command.specs.declared.words.MinerWords.{MinerWords}
-
--- what the words ask for: the paths that are read, whose part of the run it is, the path that is written, and the budget. At which port
--- the miners join changes nothing of what is told.
-pub record MinerAsk : Type 0 where
-  pub code : List ℕ
-  pub me : Number
-  pub share : List ℕ
-  pub tape : List ℕ
-  pub out : List ℕ
-  pub budget : ℕ
-
-abbrev pub miner_ask : MinerWords → MinerAsk
-miner_ask w =
-    record {
-      code = string_bytes w.code;
-      me = w.me;
-      share = string_bytes w.share;
-      tape = string_bytes w.tape;
-      out = string_bytes w.out;
-      budget = w.budget;
-    }
 
 -- ---- code
 

@@ -1,2 +1,5 @@
 pub mod Files
+pub mod Held
+pub mod Miner
+pub mod Playing
 pub mod Views

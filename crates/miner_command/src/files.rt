@@ -2,13 +2,14 @@
 ghost use Rattle.std.specs.Prelude.{◌≡◌, IfOk, IfErr};
 ghost use Rattle.command_frame.specs.Reads.{OnlyRead, Gives, StopNames};
 ghost use Rattle.input_share.specs.Reading.{AreWritable};
-ghost use Rattle.miner_command.specs.Files.{given_at, miner_ask, miner_paths, own_length};
+ghost use Rattle.command_words.specs.Views.{miner_ask};
+ghost use Rattle.miner_command.specs.Files.{given_at, miner_paths, own_length};
 ghost use Rattle.miner_command.specs.Views.{given_seen};
 
 use crate::code_file::{CodeFile, read_code_file};
 use crate::own_tape::read_own_tape;
-use crate::words::MinerWords;
 use command_frame::Stop;
+use command_words::MinerWords;
 use input_share::ShareFile;
 use outside::Files;
 use program_commands::read_share_file;

@@ -1,12 +1,16 @@
-//! The files of one miner's part of a run, read and checked: the code, its share file and its own tape.
+//! The command `miner`: one of three miners runs code on its shares, and serves the links to the other two.
+//!
+//! It reads and checks the code, its share file and its own tape, joins its peers, and says what is to be written: its text.
 #![tactic(auto)]
 
 mod code_file;
 mod files;
+mod node_stops;
 mod own_tape;
-mod words;
+mod planning;
+mod playing;
 
 pub use code_file::{CodeFile, read_code_file};
 pub use files::{MinerFiles, read_files};
 pub use own_tape::read_own_tape;
-pub use words::MinerWords;
+pub use planning::plan_miner;

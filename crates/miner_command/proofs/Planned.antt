@@ -1,0 +1,115 @@
+-- What `miner` answers is what is decided of the files and of the bytes that come.
+use Rattle.std.proofs.Common.{◌≡◌, ℕ, List, [], true, Result, Ok, Err, refl, sym, ap, ◌∙◌, subst}
+use Rattle.outside.specs.Causes.{Rose}
+use Rattle.outside.specs.Files.{Contents, FilesState}
+use Rattle.outside.specs.Links.{LinksState}
+use Rattle.proto_core.specs.declared.party.Number.{Number}
+use Rattle.proto_core.proofs.Beginnings.{append-none}
+use Rattle.command_frame.specs.declared.object.Object.TheVariants as objects
+use Rattle.command_frame.specs.declared.plan.Plan.{Plan}
+use Rattle.command_frame.specs.declared.stop.Stop.{Stop}
+use Rattle.command_frame.specs.declared.stop.Stop.TheVariants as stops
+use Rattle.command_frame.specs.Answer.{Answer, Cause, effect_of}
+use Rattle.command_frame.specs.Reads.{BothTold, GivesOfPeers, Stops, StopsReadingAmong}
+use Rattle.command_frame.specs.Status.{of_peers}
+use Rattle.command_words.specs.Ask.{MinerAsk}
+use Rattle.miner_node.specs.Peers.{Sends}
+use Rattle.node_run.specs.Nodes.{Outgoing, own_bytes, own_serving}
+use Rattle.node_run.proofs.Joining.{none_sent}
+use Rattle.miner_command.specs.Files.{Given, given_at}
+use Rattle.miner_command.specs.Miner.{miner_of, node_answer, own_of, sent_of, sent_with}
+use Rattle.miner_command.specs.Playing.{Plays, SendsSo}
+
+-- what is told, whatever is decided
+abbrev pub StopsAnyhow : (f f' : FilesState) (l l' : LinksState) → Stop → Type 0
+StopsAnyhow f f' l l' stop = StopsReadingAmong (Rose l.faults l'.faults) of_peers f f' stop
+
+-- ---- A FILE STOPS IT
+
+unread : (ask : MinerAsk) (files : Contents) (coming : ℕ → List ℕ) (cause : Cause) → given_at ask files ≡ Err cause
+    → miner_of ask files coming ≡ Err cause
+unfolding miner_of
+unread ask files coming cause is = rw is refl
+
+none_to : (i : Number) (sent : ℕ → List ℕ) → Sends i sent sent [] []
+none_to i sent = record { to_next = sym (append-none _); to_previous = sym (append-none _); others = λ p a b. refl }
+
+module _ (ask : MinerAsk) (f f' : FilesState) (l : LinksState) where
+  abbrev decided : Answer
+  decided = miner_of ask f.contents l.coming
+
+  pub file_stops : (stop : Stop) → Stops f f' stop (given_at ask f.contents) → GivesOfPeers {X = Plan} effect_of f f' l l (Err stop) decided
+  file_stops stops.Memory h = tt
+  file_stops stops.Usage h = absurd h
+  file_stops (stops.Refused r) h = λ both. unread ask f.contents l.coming _ (h both.0)
+  file_stops (stops.Breached b) h = absurd h
+  file_stops (stops.Failed (objects.File line)) h =
+      record { rose = h.rose; missing = λ st t. unread ask f.contents l.coming _ (h.missing st t) }
+  file_stops (stops.Failed objects.Output) h = absurd h
+  file_stops (stops.Failed objects.Links) h = absurd h
+  file_stops (stops.Failed objects.Children) h = absurd h
+
+  pub file_sends : (stop : Stop) → Stops f f' stop (given_at ask f.contents)
+      → SendsSo ask.me l l (sent_of ask f.contents l.coming) (Err stop)
+  file_sends stops.Memory h = none_sent ask.me l.sent l.sent _ _ refl
+  file_sends stops.Usage h = absurd h
+  file_sends (stops.Refused r) h = none_to ask.me l.sent
+  file_sends (stops.Breached b) h = absurd h
+  file_sends (stops.Failed (objects.File line)) h = none_to ask.me l.sent
+  file_sends (stops.Failed objects.Output) h = absurd h
+  file_sends (stops.Failed objects.Links) h = absurd h
+  file_sends (stops.Failed objects.Children) h = absurd h
+
+  pub file_anyhow : (stop : Stop) → Stops f f' stop (given_at ask f.contents) → StopsAnyhow f f' l l stop
+  file_anyhow stops.Memory h = tt
+  file_anyhow stops.Usage h = absurd h
+  file_anyhow (stops.Refused r) h = tt
+  file_anyhow (stops.Breached b) h = absurd h
+  file_anyhow (stops.Failed (objects.File line)) h = h.rose
+  file_anyhow (stops.Failed objects.Output) h = absurd h
+  file_anyhow (stops.Failed objects.Links) h = absurd h
+  file_anyhow (stops.Failed objects.Children) h = absurd h
+
+-- ---- THE FILES ARE READ
+
+reads_on : (ask : MinerAsk) (files : Contents) (coming : ℕ → List ℕ) (given : Given) → given_at ask files ≡ Ok given
+    → miner_of ask files coming ≡ node_answer ask (own_serving ask.me (own_of ask given) coming)
+unfolding miner_of
+reads_on ask files coming given is = rw is refl
+
+sends_on : (ask : MinerAsk) (files : Contents) (coming : ℕ → List ℕ) (given : Given) → given_at ask files ≡ Ok given
+    → sent_of ask files coming ≡ own_bytes ask.me (own_of ask given) coming
+unfolding sent_of
+sends_on ask files coming given is = ap (λ (g : Result Given Cause). sent_with ask g coming) is
+
+module _ (ask : MinerAsk) (f f' : FilesState) (l l' : LinksState) (given : Given) (read : f.told ≡ true → given_at ask f.contents ≡ Ok given) where
+  on : (both : BothTold f l) → miner_of ask f.contents l.coming ≡ node_answer ask (own_serving ask.me (own_of ask given) l.coming)
+  on both = reads_on ask f.contents l.coming given (read both.0)
+
+  pub played_gives : (result : Result Plan Stop) → Plays ask given l l' result
+      → GivesOfPeers effect_of f f' l l' result (miner_of ask f.contents l.coming)
+  played_gives (Ok plan) h = λ both. on both ∙ h.answers both.1
+  played_gives (Err stops.Memory) h = tt
+  played_gives (Err stops.Usage) h = absurd h.answers
+  played_gives (Err (stops.Refused r)) h = absurd h.answers
+  played_gives (Err (stops.Breached b)) h = λ both. on both ∙ h.answers.1 both.1
+  played_gives (Err (stops.Failed (objects.File line))) h = absurd h.answers
+  played_gives (Err (stops.Failed objects.Output)) h = absurd h.answers
+  played_gives (Err (stops.Failed objects.Links)) h =
+      record { rose = h.answers.rose; dry = λ st both. on both ∙ h.answers.dry st both.1 }
+  played_gives (Err (stops.Failed objects.Children)) h = absurd h.answers
+
+  pub played_sends : (result : Result Plan Stop) → Plays ask given l l' result → BothTold f l
+      → SendsSo ask.me l l' (sent_of ask f.contents l.coming) result
+  played_sends result h both =
+      subst (λ (out : Outgoing). SendsSo ask.me l l' out result) (sym (sends_on ask f.contents l.coming given (read both.0))) (h.sends both.1)
+
+  pub played_anyhow : (stop : Stop) → Plays ask given l l' (Err stop) → StopsAnyhow f f' l l' stop
+  played_anyhow stops.Memory h = tt
+  played_anyhow stops.Usage h = absurd h.answers
+  played_anyhow (stops.Refused r) h = tt
+  played_anyhow (stops.Breached b) h = h.answers.0
+  played_anyhow (stops.Failed (objects.File line)) h = absurd h.answers
+  played_anyhow (stops.Failed objects.Output) h = absurd h.answers
+  played_anyhow (stops.Failed objects.Links) h = h.answers.rose
+  played_anyhow (stops.Failed objects.Children) h = absurd h.answers

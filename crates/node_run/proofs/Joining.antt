@@ -1,0 +1,90 @@
+-- A node that joins its peers before it serves its links.
+use Rattle.std.proofs.Common.{◌≡◌, ◌≤◌, ℕ, List, [], ◌++◌, true, Result, Ok, Err, refl, sym, ap, ◌∙◌, subst}
+use Rattle.outside.specs.Causes.{Rose}
+use Rattle.outside.specs.Links.{LinksState, SameLinks}
+use Rattle.proto_core.specs.declared.party.Number.{Number}
+use Rattle.proto_core.proofs.Beginnings.{append-none, begins-self}
+use Rattle.sc_text.specs.declared.end.Ending.{Ending}
+use Rattle.wire.specs.declared.fields.Hello.{Hello}
+use Rattle.miner_core.specs.Story.{Story, strand_in}
+use Rattle.miner_node.specs.declared.node_err.NodeErr.{NodeErr}
+use Rattle.miner_node.specs.declared.node_err.NodeErr.TheVariants as stop
+use Rattle.miner_node.specs.Faults.{IsFault, IsLater}
+use Rattle.miner_node.specs.Peers.{Sends, SendsFronts}
+use Rattle.miner_node.specs.Serving.{Outcome, CutOff, Serving, serving, bytes_to_next, bytes_to_previous}
+use Rattle.miner_node.specs.Answers.{IsStop}
+use Rattle.miner_node.specs.Serves.{HasServed, HasStopped}
+use Rattle.miner_node.specs.Turns.{HasFinished}
+use Rattle.miner_node.proofs.Faulting.{fault_on}
+
+-- ---- NOTHING, AND ALL, AS FRONTS
+
+pub none_sent : (i : Number) (before now : ℕ → List ℕ) (next previous : List ℕ) → now ≡ before → SendsFronts i before now next previous
+none_sent i before now next previous same =
+    record {
+      to_next = ([], (tt, ap (λ f. f _) same ∙ sym (append-none _)));
+      to_previous = ([], (tt, ap (λ f. f _) same ∙ sym (append-none _)));
+      others = λ p a b. ap (λ f. f p) same;
+    }
+
+pub all_sent : (i : Number) (before now : ℕ → List ℕ) (next previous : List ℕ) → Sends i before now next previous
+    → SendsFronts i before now next previous
+all_sent i before now next previous h =
+    record { to_next = (next, (begins-self next, h.to_next)); to_previous = (previous, (begins-self previous, h.to_previous)); others = h.others }
+
+-- ---- JOINING
+
+module _ (i : Number) (a b : LinksState) (same : SameLinks a b) (later : IsLater a b) where
+  module _ (hello : Hello) (first : Story) where
+    -- the peers could not be joined
+    pub unjoined : Rose a.faults b.faults → (a.steady ≡ true → ⊥) → HasStopped i hello a b first stop.LinkFault
+    unjoined rose unsteady =
+        (record { rose = rose; steady = λ st. absurd (unsteady st) }, λ t. none_sent i a.sent b.sent _ _ same.sent)
+
+    module _ (c : LinksState) where
+      pub joined_so : (s : Story) (ending : Ending) → HasServed i hello b c first s ending → HasServed i hello a c first s ending
+      joined_so s ending h =
+          record {
+            going = h.going;
+            task = h.task;
+            ended = h.ended;
+            served = λ t.
+              subst (λ (coming : ℕ → List ℕ). HasFinished i s (serving i hello (strand_in i first) coming)) same.coming
+              (h.served (same.told ∙ t));
+            sent = λ t. sent_so t;
+          }
+        where
+          SentBy : (before coming : ℕ → List ℕ) → Type 0
+          SentBy before coming =
+              let r = serving i hello (strand_in i first) coming in
+              Sends i before c.sent (bytes_to_next i hello r.acts) (bytes_to_previous i hello r.acts)
+
+          sent_so : a.told ≡ true → SentBy a.sent a.coming
+          sent_so t =
+              subst (λ (before : ℕ → List ℕ). SentBy before a.coming) same.sent
+              (subst (λ (coming : ℕ → List ℕ). SentBy b.sent coming) same.coming (h.sent (same.told ∙ t)))
+
+      -- one that stops after it has joined, and comes to this
+      stop_by : (o : Outcome) (next previous : List ℕ) (e : NodeErr) → IsStop i b c o next previous e → IsStop i a c o next previous e
+      stop_by o next previous stop.LinkFault h =
+          (
+            fault_on later h.0 (λ why t. why (same.told ∙ t)),
+            λ t. subst (λ (before : ℕ → List ℕ). SendsFronts i before c.sent next previous) same.sent (h.1 (same.told ∙ t)),
+          )
+      stop_by o next previous (stop.PeerMismatch field mine theirs) h = λ t. sent_by o next previous _ (h (same.told ∙ t))
+      stop_by o next previous (stop.BadFrame place) h = λ t. sent_by o next previous _ (h (same.told ∙ t))
+      stop_by o next previous (stop.BadMessage link cause) h = λ t. sent_by o next previous _ (h (same.told ∙ t))
+      stop_by o next previous stop.Memory h =
+          λ t. subst (λ (before : ℕ → List ℕ). SendsFronts i before c.sent next previous) same.sent (h (same.told ∙ t))
+
+      sent_by : (o : Outcome) (next previous : List ℕ) (is : Type 0) → is × Sends i b.sent c.sent next previous → is × Sends i a.sent c.sent next previous
+      sent_by o next previous is h = (h.0, subst (λ (before : ℕ → List ℕ). Sends i before c.sent next previous) same.sent h.1)
+
+      pub stopped_so : (e : NodeErr) → HasStopped i hello b c first e → HasStopped i hello a c first e
+      stopped_so e h =
+          let r = λ (coming : ℕ → List ℕ). serving i hello (strand_in i first) coming in
+          subst
+          (λ (coming : ℕ → List ℕ).
+          IsStop i a c (r coming).outcome (bytes_to_next i hello (r coming).acts) (bytes_to_previous i hello (r coming).acts) e)
+          same.coming
+          (stop_by (r b.coming).outcome (bytes_to_next i hello (r b.coming).acts) (bytes_to_previous i hello (r b.coming).acts) e h)

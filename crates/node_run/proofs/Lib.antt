@@ -1,0 +1,4 @@
+pub mod Joining
+pub mod Idling
+pub mod Ending
+pub mod Running

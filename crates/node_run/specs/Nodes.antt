@@ -1,0 +1,100 @@
+-- One miner's part of a run, by what it has: what its node comes to, what it sends, and its text.
+use Rattle.std.specs.Prelude.{◌≡◌, ℕ, ◌-◌, List, Option, Some, None, Result, true, IfOk, IfErr, IfSome, IfNone}
+use Rattle.outside.specs.Links.{LinksState}
+use Rattle.sc_text.specs.declared.end.End.{End}
+use Rattle.sc_text.specs.declared.end.Ending.{Ending}
+use Rattle.proto_core.specs.declared.party.Number.{Number}
+use Rattle.proto_core.specs.Strand.{Act, Strand, told_in}
+use Rattle.bytecode.specs.Raw.{RawCode}
+use Rattle.input_share.specs.ShareFile.{MinerFile}
+use Rattle.driven_nodes.specs.Steps.{Running, Stopped, Short}
+use Rattle.own_code.specs.OwnCode.{Ended, Reached, Unfit}
+use Rattle.miner_text.specs.Lines.{text_of}
+use Rattle.told_text.specs.Told.{lines_told}
+use Rattle.wire.specs.declared.fields.Hello.{Hello}
+use Rattle.miner_core.specs.Story.{Story, AtStop, node}
+use Rattle.miner_node.specs.declared.node_err.NodeErr.{NodeErr}
+use Rattle.miner_node.specs.Peers.{Sends}
+use Rattle.miner_node.specs.Serving.{Finished, Serving, serving, bytes_to_next, bytes_to_previous}
+use Rattle.miner_node.specs.Answers.{IsStop}
+use Rattle.made_miner.specs.Made.{hello_of, strand_of}
+use Rattle.node_run.specs.declared.running.NodeText.{NodeText}
+
+-- what a miner has: its code and the digest of the file in which it stands, its share file, its own tape, and the budget of the run
+pub record Own : Type 0 where
+  pub digest : List ℕ
+  pub code : RawCode
+  pub share : MinerFile
+  pub tape : List ℕ
+  pub budget : ℕ
+
+abbrev pub own_hello : Number → Own → Hello
+own_hello me own = hello_of me own.digest own.share own.budget
+
+abbrev pub own_strand : Number → Own → Strand Ended
+own_strand me own = strand_of me own.code own.share own.tape own.budget
+
+-- what its node comes to, and what it does, by the bytes that come from its peers
+abbrev pub own_serving : Number → Own → (coming : ℕ → List ℕ) → Serving
+own_serving me own coming = serving me (own_hello me own) (own_strand me own) coming
+
+-- ---- what is sent
+
+-- the bytes to the next miner, and to the previous one
+pub record Outgoing : Type 0 where
+  pub to_next : List ℕ
+  pub to_previous : List ℕ
+
+abbrev pub served_bytes : Number → Own → List Act → Outgoing
+served_bytes me own acts =
+    record { to_next = bytes_to_next me (own_hello me own) acts; to_previous = bytes_to_previous me (own_hello me own) acts }
+
+abbrev pub own_bytes : Number → Own → (coming : ℕ → List ℕ) → Outgoing
+own_bytes me own coming = served_bytes me own (own_serving me own coming).acts
+
+-- ---- its text
+
+abbrev pub ended_at : Option Ending → (cost : ℕ) → Option End
+ended_at None cost = None
+ended_at (Some how) cost = Some (record { how = how; cost = cost })
+
+-- how the run has ended, and at which cost; other ends verified code doesn't have
+abbrev pub end_in : (budget : ℕ) → Ended → Option End
+end_in budget (Reached (Stopped p) values) = ended_at p.ended (budget - p.stage.left)
+end_in budget (Reached (Running p) values) = None
+end_in budget (Reached (Short p) values) = None
+end_in budget Unfit = None
+
+-- what it has told, and then the end
+abbrev pub node_text : List Act → End → List ℕ
+node_text acts end = text_of (lines_told (told_in acts) end)
+
+-- ---- a run
+
+-- as it ran, by what the node comes to
+module _ (me : Number) (own : Own) (old new : LinksState) (r : Serving) where
+  -- its run has ended so, with this text
+  pub record HasTextOf (told : NodeText) : Type 0 where
+    pub last : Ended
+    pub outcome : r.outcome ≡ Finished last
+    pub end : end_in own.budget last ≡ Some told.end
+    pub text : told.text.items ≡ node_text r.acts told.end
+    pub sent : Sends me old.sent new.sent (served_bytes me own r.acts).to_next (served_bytes me own r.acts).to_previous
+
+  abbrev pub HasStoppedOf : NodeErr → Type 0
+  HasStoppedOf e = IsStop me old new r.outcome (served_bytes me own r.acts).to_next (served_bytes me own r.acts).to_previous e
+
+module _ (me : Number) (own : Own) (old new : LinksState) where
+  -- the run has ended, and the text says how; or why it stopped before
+  pub record Runs (result : Result NodeText NodeErr) : Type 0 where
+    pub ok : IfOk result (λ told. old.told ≡ true → HasTextOf me own old new (own_serving me own old.coming) told)
+    pub err : IfErr result (HasStoppedOf me own old new (own_serving me own old.coming))
+
+-- ---- a miner that has ended
+
+-- the text of a miner with this story; the run has ended before it began, or as the miner's
+pub record HasTold (me : Number) (undealt : Option Ending) (s : Story) (ending : Ending) (told : NodeText) : Type 0 where
+  pub undealt_so : IfSome undealt (λ how. told.end ≡ record { how = how; cost = 0 })
+  pub ended : IfNone undealt (told.end.how ≡ ending)
+  pub cost : IfNone undealt (AtStop me s (λ p. told.end.cost ≡ s.budget - p.stage.left))
+  pub text : told.text.items ≡ node_text (node me s).acts told.end
