@@ -22,6 +22,10 @@ use Rattle.run_engine.proofs.Miners.{made_taken, maps_made, miners_run, views_ma
 use Rattle.run_engine.proofs.Promises.{check_keeps, compile_keeps, deal_keeps, eval_keeps, need_keeps, run_keeps, load_keeps}
 use Rattle.run_engine.proofs.JoinedKept.{join_keeps, mine_keeps}
 use Rattle.run_engine.proofs.TrioKept.{trio_keeps}
+use Rattle.honest_nodes.proofs.Honest.{ends_with_the_run}
+use Rattle.joined_nodes.proofs.Nodes.{joined_nodes_agree_on_programs}
+use Rattle.joined_texts.proofs.Joined.{texts_of_a_run_are_its_text}
+use Rattle.miner_node.proofs.Honest.{does_as_its_miner}
 use Rattle.run_engine.proofs.ViewLaws.{maps_correspond, simulated_so, twins_see_it}
 use Rattle.run_engine.proofs.ViewPromises.{map_keeps, simulate_keeps, twin_keeps}
 
@@ -69,6 +73,12 @@ module _ (words : List (List ℕ)) (m m' : Moment) (s : Status) (call : Call wor
 
 pub laws_kept : (words : List (List ℕ)) (files : Contents) → Laws words files
 laws_kept words files = record {
+  three_served_miners = record {
+    does_as_its_miner = does_as_its_miner;
+    agree_with_evaluation = joined_nodes_agree_on_programs;
+    end_with_honest_peers = ends_with_the_run;
+    texts_make_the_run_text = texts_of_a_run_are_its_text;
+  };
   compiled_code_means_program = λ ask program reached asks holds are. code_means ask.program files program holds reached are;
   gathered_is_one_dealing = λ ask miners owner owners asks holds. writes_one_dealing ask files miners owner owners holds;
   mapped_tapes_correspond = λ ask program entries tapes asks held. maps_correspond ask files program entries tapes held;

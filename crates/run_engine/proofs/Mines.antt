@@ -60,10 +60,10 @@ code_refused files path c is =
       | inr (bytes, e, rest) ↦ at_bytes bytes (there_or_missing files path (Ok bytes) e) (steps (code_of bytes) (made bytes) (Err c) rest)
     ]
   where
-    abbrev made : List ℕ → RawCode → Result GivenCode Cause
+    made : List ℕ → RawCode → Result GivenCode Cause
     made bytes code = Ok (record { digest = sha256 bytes; code = code })
 
-    abbrev after : List ℕ → Result GivenCode Cause
+    after : List ℕ → Result GivenCode Cause
     after bytes = code_of bytes >>= made bytes
 
     at_missing : (c2 : Cause) → IsThereOr files path (failed c2) → failed {A = GivenCode} c ≡ Err c2 → CodeRefused files path c
@@ -87,7 +87,7 @@ own_tape_refused files count path c is =
       | inr (bytes, e, rest) ↦ at_bytes bytes (there_or_missing files path (Ok bytes) e) (read_own_of count bytes) refl rest
     ]
   where
-    abbrev after : List ℕ → Result (List ℕ) Cause
+    after : List ℕ → Result (List ℕ) Cause
     after bytes = read_or bad_tape (read_own_of count bytes)
 
     at_missing : (c2 : Cause) → IsThereOr files path (failed c2) → failed {A = List ℕ} c ≡ Err c2 → ReadRefused files path bad_tape (read_own_of count) c
@@ -189,6 +189,7 @@ module _ (ask : MinerAsk) (files : Contents) (coming : ℕ → List ℕ) where
       status_in_result (Err c) = c.status
 
   code_status : (bytes : List ℕ) (cause : Cause) → code_of bytes ≡ Err cause → status_of_cause cause ≡ statuses.Program
+  unfolding bad_bytes
   code_status bytes cause is = at (decoded bytes) is
     where
       status_in_result : Result RawCode Cause → Status
@@ -197,7 +198,6 @@ module _ (ask : MinerAsk) (files : Contents) (coming : ℕ → List ℕ) where
 
       at : (d : Result RawCode DecodeFault) → (read_or bad_bytes d >>= λ code. unless_faulty (first_fault code) code) ≡ Err cause
           → status_of_cause cause ≡ statuses.Program
-      unfolding bad_bytes
       at (Ok code) is = unless_status (first_fault code) code cause is
       at (Err e) is = sym (ap status_in_result is)
 
@@ -300,7 +300,7 @@ module _ (ask : MinerAsk) (files : Contents) (coming : ℕ → List ℕ) where
 -- where files are refused, nothing is sent
 pub refused_sends_nothing : (ask : MinerAsk) (files : Contents) (coming : ℕ → List ℕ) (c : Cause) → can_refuse c.status ≡ true
     → miner_of ask files coming ≡ Err c → sent_of ask files coming ≡ nothing_sent
-unfolding miner_of sent_of
+unfolding miner_of sent_of bad_peer
 refused_sends_nothing ask files coming c refuses is =
     elim (steps (given_at ask files) (λ given. node_answer ask (node_of ask files coming given)) (Err c) is) [
       | inl (c2, e, same) ↦ ap (λ (g : Result Given Cause). sent_with ask g coming) e
@@ -311,7 +311,6 @@ refused_sends_nothing ask files coming c refuses is =
     wrong s other is = absurd (true≢false (sym refuses ∙ ap can_refuse is ∙ other))
 
     no_refusal_at : {X : Type 0} (acts : List Act) (o : Outcome) → answer_at ask acts o ≡ Err c → X
-    unfolding bad_peer
     no_refusal_at acts (Finished last) is = no_end_at (end_in ask.budget last) is
       where
         no_end_at : {X : Type 0} (end : Option End) → ended_answer ask.out acts end ≡ Err c → X

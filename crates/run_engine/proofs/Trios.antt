@@ -158,7 +158,7 @@ module _ (ask : TrioAsk) (files : Contents) (status : Number → ℤ) where
   unfolding bad_status
   ended_cause c is = at (is_end_status (status One)) refl (is_end_status (status Two)) refl (is_end_status (status Three)) refl
     where
-      abbrev cause_end : Result (Unit {0}) Cause → Bool
+      cause_end : Result (Unit {0}) Cause → Bool
       cause_end (Ok done) = false
       cause_end (Err x) = is_end x.status
 
@@ -468,8 +468,13 @@ module _ (ask : TrioAsk) (files : Contents) (status : Number → ℤ) where
       by_dealing p entries tapes h false e is =
           by_children (trio_writes ask p found.reached entries tapes)
           (record {
-            program = p; reached = found.reached; entries = entries; tapes = tapes; held = h;
-            enough = at_least (length tapes.dealer) (need_of entries) e; all = refl;
+            program = p;
+            reached = found.reached;
+            entries = entries;
+            tapes = tapes;
+            held = h;
+            enough = at_least (length tapes.dealer) (need_of entries) e;
+            all = refl;
           })
           (is ∙ rw e refl)
 

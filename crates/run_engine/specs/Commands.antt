@@ -85,26 +85,22 @@ pub record Commands (words : List (List ℕ)) (before after : Moment) (given : S
       (Keeps (TwinEffect ask (contents_in before)) (TwinRefused ask (contents_in before)) is_done before after given)
   -- `load` prints the text of the evaluation of the workload of its number, and how many messages were delivered. It is never refused.
   pub loads : (ask : LoadAsk) → Asks words before (load ask) (Keeps (LoadEffect ask) IsNeverRefused is_end before after given)
-
   -- `join` prints the text of the run of which three miners wrote these texts, with the status of its end. A text that is not of its form is a
   -- refusal of it, and else two that differ.
   pub joins :
       (ask : JoinAsk) → Asks words before (join ask)
       (KeepsOf texts_alone is_refusal (JoinEffect ask (contents_in before)) (JoinRefused ask (contents_in before)) is_end before after given)
-
   -- `miner` plays a miner's part of a run, and writes its text to its file; the status is that of the end. It is refused for the first file that
   -- is there and not as it must be, and else for what a peer sent. Files and links tell.
   pub mines :
       (ask : MinerAsk) → words_of words ≡ Some (miner ask) → AreTold files_and_links before.sources
       → KeepsOf files_and_links is_refusal (MinerEffect ask (contents_in before) before.sources.links.coming)
       (MinerRefused ask (contents_in before) before.sources.links.coming) is_end before after given
-
   -- The bytes that it sends are a hello to each peer and the frames of what its node sends on the messages that came: where its run has ended, or
   -- it is refused, exactly these, else a front of them; and nothing to anybody else.
   pub miner_sends :
       (ask : MinerAsk) → words_of words ≡ Some (miner ask) → AreTold files_and_links before.sources
       → MinerSends ask (contents_in before) before.sources.links after.sources.links given
-
   -- `trio` writes the program's code as `compile` does and the files of three miners as `deal` does, starts the miners, waits for all three, and
   -- prints their texts as one, with the status of their end. It is refused for the first file that is there and not as it must be, then for a
   -- miner that ended as no run does, and then as `join` is. Where the dealer's tape has too few words, it writes and starts nothing, and its text
@@ -112,7 +108,6 @@ pub record Commands (words : List (List ℕ)) (before after : Moment) (given : S
   pub runs_trio :
       (ask : TrioAsk) → words_of words ≡ Some (trio ask) → AreTold trio_reach before.sources
       → KeepsTrio ask (contents_in before) (statuses_in before after) before after given
-
   -- Where it has ended, it has started miners 1, 2 and 3 with the words of `miner`, all before it waited for any, and waited for each; or none.
   pub trio_starts :
       (ask : TrioAsk) → words_of words ≡ Some (trio ask) → AreTold trio_reach before.sources → is_end given ≡ true

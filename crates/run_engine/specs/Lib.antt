@@ -8,6 +8,7 @@ pub mod Moves
 pub mod Obeying
 pub mod Promises
 pub mod Runs
+pub mod Served
 pub mod SimulatePromises
 pub mod Told
 pub mod TrioPromises
