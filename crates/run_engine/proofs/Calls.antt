@@ -7,7 +7,6 @@ use Rattle.command_frame.specs.declared.status.Status.{Status}
 use Rattle.command_frame.specs.declared.status.Status.TheVariants as statuses
 use Rattle.command_frame.specs.declared.stop.Stop.{Stop}
 use Rattle.command_frame.specs.declared.stop.Stop.TheVariants as stops
-use Rattle.command_frame.specs.Answer.{Course}
 use Rattle.command_frame.specs.Moments.{Moment, Reach}
 use Rattle.command_frame.specs.Whole.{ActsAnyhow, PutsNothing, Says, status_in}
 use Rattle.command_frame.proofs.Statuses.{clash, no_breach, no_end, no_refusal}

@@ -1,6 +1,6 @@
 -- What a command did, from what its steps did.
-use Rattle.std.proofs.Common.{◌≡◌, List, ℕ, true, Some, None, Ok, Err, Result, refl, ap, subst, sym, ◌∙◌, inl, inr}
-use Rattle.std.specs.Prelude.{IfErr, IfOk}
+use Rattle.std.proofs.Common.{◌≡◌, List, ℕ, true, Some, None, Ok, Err, Result, subst, sym, inl, inr}
+use Rattle.std.specs.Prelude.{IfErr}
 use Rattle.std.specs.Result.{IsErrAnd}
 use Rattle.outside.specs.Causes.{Rose}
 use Rattle.outside.specs.Files.{FilesState}
@@ -14,8 +14,8 @@ use Rattle.command_frame.specs.Answer.{Answer, Course, at_once, effect_of, paths
 use Rattle.command_frame.specs.Decides.{Decides, StopsDecidingAnyhow}
 use Rattle.command_frame.specs.Finish.{Finishes, OnlyAmong}
 use Rattle.command_frame.specs.Moments.{Moment, Reach, Sources}
-use Rattle.command_frame.specs.Reads.{Gives, GivesOfPeers, GivesOfTexts, KeepsTo, OnlyRead, PlanNames, StopsReading, StopsReadingAmong}
-use Rattle.command_frame.specs.Whole.{Acts, ActsAnyhow, EndsAs, Paths, StopsAtFile}
+use Rattle.command_frame.specs.Reads.{Gives, GivesOfPeers, GivesOfTexts, KeepsTo, OnlyRead, StopsReading, StopsReadingAmong}
+use Rattle.command_frame.specs.Whole.{Acts, ActsAnyhow, Paths, StopsAtFile}
 use Rattle.command_frame.proofs.Deciding.{among_anyhow, decides_peers, decides_reading, decides_texts, nothing_written, reading_anyhow, reading_stops, same_sink, stops_anyhow, stops_as, unchanged}
 use Rattle.command_frame.proofs.Finishing.{among_written, at_last, ends_anyhow, ends_as, moment, writing_stops}
 use Rattle.command_frame.proofs.Wholes.{acts_anyhow, acts_as, stops_so}

@@ -1,12 +1,11 @@
 -- What each command promises, from its answer.
-use Rattle.std.proofs.Common.{◌≡◌, ◌⊎◌, ◌||◌, ℕ, List, Bool, true, false, Some, Ok, refl, ap, subst, sym, ◌∙◌, inl, inr}
+use Rattle.std.proofs.Common.{◌≡◌, ◌⊎◌, ℕ, List, Bool, true, false, Some, Ok, refl, ap, subst, sym, ◌∙◌, inl, inr}
 use Rattle.std.proofs.lemmas.Bool.{false≢true}
 use Rattle.command_frame.specs.declared.status.Status.{Status}
-use Rattle.command_frame.specs.declared.status.Status.TheVariants as statuses
 use Rattle.command_frame.specs.Answer.{Answer, Course, Effect, at_once}
 use Rattle.command_frame.specs.Moments.{AreSteady, AreTold, Moment, Reach, Sources, files_alone}
-use Rattle.command_frame.specs.Status.{can_breach, can_refuse, is_end}
-use Rattle.command_frame.specs.Whole.{CarriedOut, HasFailed, IsAnswered, IsDone}
+use Rattle.command_frame.specs.Status.{can_refuse, is_end}
+use Rattle.command_frame.specs.Whole.{CarriedOut, HasFailed, IsDone}
 use Rattle.command_words.specs.Ask.{Ask, CheckAsk, CompileAsk, DealAsk, EvalAsk, LoadAsk, RunAsk, check, compile, deal, eval, load, need, run, words_of}
 use Rattle.program_commands.specs.Eval.{end_of, eval_text, need_text, report_for}
 use Rattle.miner_commands.specs.Load.{IsNeverRefused, load_report}
@@ -17,7 +16,7 @@ use Rattle.miner_commands.specs.Run.{run_report}
 use Rattle.program_commands.specs.Held.{DealRefused, EvalRefused, ProgramRefused}
 use Rattle.run_engine.specs.Runs.{RunRefused}
 use Rattle.run_engine.specs.Told.{Outside, contents_in, outside_of}
-use Rattle.run_engine.specs.Words.{IsAnswer, HasAnswer, answer_to, reach_in, reach_of}
+use Rattle.run_engine.specs.Words.{IsAnswer, answer_to, reach_in, reach_of}
 use Rattle.run_engine.proofs.Deals.{deal_answered_so, deal_refused_only}
 use Rattle.run_engine.proofs.Evals.{eval_answered, eval_answered_so, eval_refused_so, need_answered}
 use Rattle.program_commands.proofs.Judged.{found_nothing}

@@ -1,5 +1,5 @@
 -- What `map`, `simulate` and `twin` promise, from their answers.
-use Rattle.std.proofs.Common.{◌≡◌, ℕ, List, refl, subst, sym}
+use Rattle.std.proofs.Common.{ℕ, List, refl, subst, sym}
 use Rattle.command_frame.specs.declared.status.Status.{Status}
 use Rattle.command_frame.specs.Moments.{Moment}
 use Rattle.command_frame.specs.Status.{can_refuse}
