@@ -16,7 +16,7 @@ use trio::{Joined, join_files};
 
 /// What is printed of texts that were put together: the text of the run. The status is that of its end.
 pub fn joined_plan(alloc: Global, joined: Joined) -> Plan
-    ensures { effect_of result ≡ joined_effect joined.entry }
+    ensures { effect_of result ≡ joined_effect joined }
 {
     let status = ending_status(joined.end().how);
     Plan {
