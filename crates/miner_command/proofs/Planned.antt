@@ -15,7 +15,7 @@ use Rattle.command_frame.specs.Status.{of_peers}
 use Rattle.command_words.specs.Ask.{MinerAsk}
 use Rattle.miner_node.specs.Peers.{Sends}
 use Rattle.node_run.specs.Nodes.{Outgoing, own_bytes, own_serving}
-use Rattle.node_run.proofs.Joining.{none_sent}
+use Rattle.node_run.proofs.Joins.{none_sent}
 use Rattle.miner_command.specs.Files.{Given, given_at}
 use Rattle.miner_command.specs.Miner.{miner_of, node_answer, own_of, sent_of, sent_with}
 use Rattle.miner_command.specs.Playing.{Plays, SendsSo}

@@ -20,7 +20,7 @@ use Rattle.node_faults.specs.declared.fault.NodeFault.{NodeFault}
 use Rattle.node_faults.specs.declared.fault.NodeFault.TheVariants as faults
 use Rattle.node_run.specs.declared.running.NodeText.{NodeText}
 use Rattle.node_run.specs.Nodes.{Outgoing, end_in, node_text, own_bytes, own_serving, Runs}
-use Rattle.node_run.proofs.Joining.{all_sent}
+use Rattle.node_run.proofs.Joins.{all_sent}
 use Rattle.miner_command.specs.Files.{Given}
 use Rattle.miner_command.specs.Miner.{answer_at, bad_peer, ended_answer, hello_field, message_fault, node_answer, own_of, text_effect}
 use Rattle.miner_command.specs.Playing.{IsNodeStop, Plays, SentAll}

@@ -1,4 +1,4 @@
-pub mod Joining
-pub mod Idling
-pub mod Ending
-pub mod Running
+pub mod Joins
+pub mod Idles
+pub mod Ends
+pub mod Answered

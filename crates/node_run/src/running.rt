@@ -1,9 +1,8 @@
 // One miner's part of a run.
-ghost use Rattle.std.specs.Prelude.{◌≡◌, ◌≤◌, false, IfOk, IfErr};
+ghost use Rattle.std.specs.Prelude.{◌≡◌, ◌≤◌, false, IfOk};
 ghost use Rattle.input_share.specs.Reading.{AreWritable};
 ghost use Rattle.miner_node.specs.Faults.{IsLater};
-ghost use Rattle.miner_node.specs.declared.node_err.NodeErr.TheVariants.{Memory};
-ghost use Rattle.node_run.specs.Nodes.{Runs};
+ghost use Rattle.node_run.specs.Nodes.{HasTold, Runs};
 ghost use Rattle.node_run.specs.Views.{own_seen};
 
 use crate::joining::serve_joined;

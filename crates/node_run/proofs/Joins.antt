@@ -1,17 +1,18 @@
 -- A node that joins its peers before it serves its links.
-use Rattle.std.proofs.Common.{◌≡◌, ◌≤◌, ℕ, List, [], ◌++◌, true, Result, Ok, Err, refl, sym, ap, ◌∙◌, subst}
+use Rattle.std.proofs.Common.{◌≡◌, ℕ, List, [], ◌++◌, true, Result, Ok, Err, IfOk, IfErr, refl, sym, ap, ◌∙◌, subst}
 use Rattle.outside.specs.Causes.{Rose}
 use Rattle.outside.specs.Links.{LinksState, SameLinks}
 use Rattle.proto_core.specs.declared.party.Number.{Number}
+use Rattle.proto_core.specs.Parties.{count_of, next_of, previous_of}
 use Rattle.proto_core.proofs.Beginnings.{append-none, begins-self}
 use Rattle.sc_text.specs.declared.end.Ending.{Ending}
 use Rattle.wire.specs.declared.fields.Hello.{Hello}
 use Rattle.miner_core.specs.Story.{Story, strand_in}
 use Rattle.miner_node.specs.declared.node_err.NodeErr.{NodeErr}
 use Rattle.miner_node.specs.declared.node_err.NodeErr.TheVariants as stop
-use Rattle.miner_node.specs.Faults.{IsFault, IsLater}
+use Rattle.miner_node.specs.Faults.{IsLater}
 use Rattle.miner_node.specs.Peers.{Sends, SendsFronts}
-use Rattle.miner_node.specs.Serving.{Outcome, CutOff, Serving, serving, bytes_to_next, bytes_to_previous}
+use Rattle.miner_node.specs.Serving.{Outcome, serving, bytes_to_next, bytes_to_previous}
 use Rattle.miner_node.specs.Answers.{IsStop}
 use Rattle.miner_node.specs.Serves.{HasServed, HasStopped}
 use Rattle.miner_node.specs.Turns.{HasFinished}
@@ -22,15 +23,18 @@ use Rattle.miner_node.proofs.Faulting.{fault_on}
 pub none_sent : (i : Number) (before now : ℕ → List ℕ) (next previous : List ℕ) → now ≡ before → SendsFronts i before now next previous
 none_sent i before now next previous same =
     record {
-      to_next = ([], (tt, ap (λ f. f _) same ∙ sym (append-none _)));
-      to_previous = ([], (tt, ap (λ f. f _) same ∙ sym (append-none _)));
-      others = λ p a b. ap (λ f. f p) same;
+      to_next = ([], tt, at (count_of (next_of i)));
+      to_previous = ([], tt, at (count_of (previous_of i)));
+      others = λ p a b. ap (λ (f : ℕ → List ℕ). f p) same;
     }
+  where
+    at : (p : ℕ) → now p ≡ before p ++ []
+    at p = ap (λ (f : ℕ → List ℕ). f p) same ∙ sym (append-none (before p))
 
 pub all_sent : (i : Number) (before now : ℕ → List ℕ) (next previous : List ℕ) → Sends i before now next previous
     → SendsFronts i before now next previous
 all_sent i before now next previous h =
-    record { to_next = (next, (begins-self next, h.to_next)); to_previous = (previous, (begins-self previous, h.to_previous)); others = h.others }
+    record { to_next = (next, begins-self next, h.to_next); to_previous = (previous, begins-self previous, h.to_previous); others = h.others }
 
 -- ---- JOINING
 
@@ -64,6 +68,9 @@ module _ (i : Number) (a b : LinksState) (same : SameLinks a b) (later : IsLater
               subst (λ (before : ℕ → List ℕ). SentBy before a.coming) same.sent
               (subst (λ (coming : ℕ → List ℕ). SentBy b.sent coming) same.coming (h.sent (same.told ∙ t)))
 
+      sent_by : (next previous : List ℕ) (is : Type 0) → is × Sends i b.sent c.sent next previous → is × Sends i a.sent c.sent next previous
+      sent_by next previous is h = (h.0, subst (λ (before : ℕ → List ℕ). Sends i before c.sent next previous) same.sent h.1)
+
       -- one that stops after it has joined, and comes to this
       stop_by : (o : Outcome) (next previous : List ℕ) (e : NodeErr) → IsStop i b c o next previous e → IsStop i a c o next previous e
       stop_by o next previous stop.LinkFault h =
@@ -71,14 +78,11 @@ module _ (i : Number) (a b : LinksState) (same : SameLinks a b) (later : IsLater
             fault_on later h.0 (λ why t. why (same.told ∙ t)),
             λ t. subst (λ (before : ℕ → List ℕ). SendsFronts i before c.sent next previous) same.sent (h.1 (same.told ∙ t)),
           )
-      stop_by o next previous (stop.PeerMismatch field mine theirs) h = λ t. sent_by o next previous _ (h (same.told ∙ t))
-      stop_by o next previous (stop.BadFrame place) h = λ t. sent_by o next previous _ (h (same.told ∙ t))
-      stop_by o next previous (stop.BadMessage link cause) h = λ t. sent_by o next previous _ (h (same.told ∙ t))
+      stop_by o next previous (stop.PeerMismatch field mine theirs) h = λ t. sent_by next previous _ (h (same.told ∙ t))
+      stop_by o next previous (stop.BadFrame place) h = λ t. sent_by next previous _ (h (same.told ∙ t))
+      stop_by o next previous (stop.BadMessage link cause) h = λ t. sent_by next previous _ (h (same.told ∙ t))
       stop_by o next previous stop.Memory h =
           λ t. subst (λ (before : ℕ → List ℕ). SendsFronts i before c.sent next previous) same.sent (h (same.told ∙ t))
-
-      sent_by : (o : Outcome) (next previous : List ℕ) (is : Type 0) → is × Sends i b.sent c.sent next previous → is × Sends i a.sent c.sent next previous
-      sent_by o next previous is h = (h.0, subst (λ (before : ℕ → List ℕ). Sends i before c.sent next previous) same.sent h.1)
 
       pub stopped_so : (e : NodeErr) → HasStopped i hello b c first e → HasStopped i hello a c first e
       stopped_so e h =
@@ -88,3 +92,13 @@ module _ (i : Number) (a b : LinksState) (same : SameLinks a b) (later : IsLater
           IsStop i a c (r coming).outcome (bytes_to_next i hello (r coming).acts) (bytes_to_previous i hello (r coming).acts) e)
           same.coming
           (stop_by (r b.coming).outcome (bytes_to_next i hello (r b.coming).acts) (bytes_to_previous i hello (r b.coming).acts) e h)
+
+-- ---- EITHER WAY
+
+pub if_ok_so : {T E : Type 0} (r : Result T E) (P Q : T → Type 0) → ((x : T) → P x → Q x) → IfOk r P → IfOk r Q
+if_ok_so (Ok x) P Q so h = so x h
+if_ok_so (Err e) P Q so h = tt
+
+pub if_err_so : {T E : Type 0} (r : Result T E) (P Q : E → Type 0) → ((e : E) → P e → Q e) → IfErr r P → IfErr r Q
+if_err_so (Ok x) P Q so h = tt
+if_err_so (Err e) P Q so h = so e h

@@ -15,7 +15,7 @@ use Rattle.miner_node.specs.Serving.{Finished, bytes_to_next, bytes_to_previous}
 use Rattle.miner_node.specs.Serves.{HasServed}
 use Rattle.node_run.specs.declared.running.NodeText.{NodeText}
 use Rattle.node_run.specs.Nodes.{Own, own_hello, ended_at, end_in, node_text, HasTextOf, HasTold}
-use Rattle.node_run.proofs.Idling.{made, ends_by, served_by, wanted_of, are_alike}
+use Rattle.node_run.proofs.Idles.{made, ends_by, served_by, wanted_of, are_alike}
 
 none_left : (n : ℕ) → n - n ≡ 0
 none_left n = omega arith
@@ -47,8 +47,8 @@ module _ (i : Number) (own : Own) (a c : LinksState) (s : Story) (ending : Endin
       let done = h.served t in
       record {
         last = ends_by i own u done.outcome.0;
-        outcome = alike.finished done.outcome.0 done.outcome.1.1;
-        end = ends_so u done.outcome.0 done.outcome.1.0 h.ended (ap (λ (v : Story). v.budget) h.task) is;
+        outcome = alike.finished done.outcome.0 done.outcome.2;
+        end = ends_so u done.outcome.0 done.outcome.1 h.ended (ap (λ (v : Story). v.budget) h.task) is;
         text = is.text ∙ ap (λ (acts : List Act). node_text acts told.end) (sym done.acts ∙ alike.acts);
         sent =
           subst
