@@ -10,7 +10,8 @@ use Rattle.command_frame.specs.declared.stop.Stop.TheVariants as stops
 use Rattle.command_frame.specs.Moments.{Moment, Reach}
 use Rattle.command_frame.specs.Whole.{ActsAnyhow, PutsNothing, Says, status_in}
 use Rattle.command_frame.proofs.Statuses.{clash, no_breach, no_end, no_refusal}
-use Rattle.command_frame.proofs.Wholes.{carried_out, child_breached, complete, end_says_nothing, file_counted, file_missed, file_told, link_said, links_counted}
+use Rattle.command_frame.proofs.Wholes.{carried_out, child_breached, complete, end_says_nothing, file_counted, file_missed, file_told, link_said}
+use Rattle.command_frame.proofs.Wholes.{links_counted}
 use Rattle.command_frame.proofs.Wholes.{links_cut_off, memory_leaves, memory_said, only_answered, peer_breached, refused_prints_nothing, texts_breached}
 use Rattle.command_frame.proofs.Wholes.{usage_of_unnamed, usage_said, usage_unnamed, write_counted, write_cuts, write_said}
 use Rattle.run_engine.specs.Call.{Call}
@@ -52,7 +53,8 @@ module _ (words : List (List ℕ)) (m m' : Moment) (r : Result Status Stop) (did
     file_fault_counted = file_counted (words_of words) reach m m' r did.anyhow;
     file_fault_told = file_told (words_of words) (paths_in words) reach (WordsAnswer words m.sources m'.sources) m m' r did.anyhow did.stops said;
     file_missing_if_steady = λ answer a is steady t.
-        file_missed (words_of words) (paths_in words) reach (WordsAnswer words m.sources m'.sources) m m' answer r (did.acts answer a) did.stops said is steady t;
+        file_missed (words_of words) (paths_in words) reach (WordsAnswer words m.sources m'.sources) m m' answer r (did.acts answer a) did.stops said
+        is steady t;
     write_fault_counted = write_counted (words_of words) reach m m' r did.anyhow;
     write_fault_said = write_said (words_of words) reach m m' r did.anyhow said;
     write_fault_cuts_text = λ answer a is. write_cuts (words_of words) reach answer m m' r (did.acts answer a) is;

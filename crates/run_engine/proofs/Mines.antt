@@ -26,7 +26,8 @@ use Rattle.node_run.specs.Nodes.{end_in, node_text}
 use Rattle.program_commands.specs.Ends.{ending_status}
 use Rattle.program_commands.specs.Reading.{bad_input, bad_tape, read_or, share_at}
 use Rattle.program_commands.proofs.Held.{read_there}
-use Rattle.program_commands.proofs.Refusals.{ReadRefused, end_is, input_status, refusing, share_refused, status_in_answer, status_of_cause, steps, tape_status}
+use Rattle.program_commands.proofs.Refusals.{ReadRefused, end_is, input_status, refusing, share_refused, status_in_answer, status_of_cause, steps}
+use Rattle.program_commands.proofs.Refusals.{tape_status}
 use Rattle.program_commands.proofs.Refusals.{there_or_missing, Steps}
 use Rattle.miner_command.specs.Files.{Given, GivenCode, bad_bytes, bad_step, code_at, code_of, given_at, own_length, own_tape_at, unless_faulty}
 use Rattle.miner_command.specs.Miner.{answer_at, bad_peer, ended_answer, miner_of, node_answer, sent_of, sent_with, nothing_sent, text_effect}

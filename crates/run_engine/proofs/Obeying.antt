@@ -16,7 +16,8 @@ use Rattle.command_frame.specs.Finish.{Finishes, OnlyAmong}
 use Rattle.command_frame.specs.Moments.{Moment, Reach, Sources}
 use Rattle.command_frame.specs.Reads.{Gives, GivesOfPeers, GivesOfTexts, KeepsTo, OnlyRead, StopsReading, StopsReadingAmong}
 use Rattle.command_frame.specs.Whole.{Acts, ActsAnyhow, Paths, StopsAtFile}
-use Rattle.command_frame.proofs.Deciding.{among_anyhow, decides_peers, decides_reading, decides_texts, nothing_written, reading_anyhow, reading_stops, same_sink, stops_anyhow, stops_as, unchanged}
+use Rattle.command_frame.proofs.Deciding.{among_anyhow, decides_peers, decides_reading, decides_texts, nothing_written, reading_anyhow, reading_stops}
+use Rattle.command_frame.proofs.Deciding.{same_sink, stops_anyhow, stops_as, unchanged}
 use Rattle.command_frame.proofs.Finishing.{among_written, at_last, ends_anyhow, ends_as, moment, writing_stops}
 use Rattle.command_frame.proofs.Wholes.{acts_anyhow, acts_as, stops_so}
 use Rattle.program_commands.specs.Judging.{Finding, FoundAt, HasFinding, Tells}

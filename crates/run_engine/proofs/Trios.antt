@@ -1,5 +1,6 @@
 -- What `trio` did until it had decided, what its course is for files that are as they must be, and that it is refused only for those that are not.
-use Rattle.std.proofs.Common.{◌≡◌, ◌⊎◌, ◌<◌, ◌≤◌, ℕ, ℤ, List, [], ◌∷◌, ◌++◌, length, drop, true, false, Bool, Some, Ok, Err, Result, refl, ap, subst, sym, ◌∙◌, inl, inr}
+use Rattle.std.proofs.Common.{◌≡◌, ◌⊎◌, ◌<◌, ◌≤◌, ℕ, ℤ, List, [], ◌∷◌, ◌++◌, length, drop, true, false, Bool, Some, Ok, Err, Result, refl, ap, subst}
+use Rattle.std.proofs.Common.{sym, ◌∙◌, inl, inr}
 use Rattle.std.proofs.Common.{arith}
 use Rattle.std.proofs.Math.Seq.{drop-append_seam}
 use Rattle.std.proofs.lemmas.Bool.{true≢false}
@@ -37,7 +38,8 @@ use Rattle.trio.specs.declared.join_err.JoinErr.{JoinErr}
 use Rattle.trio.specs.declared.join_err.JoinErr.TheVariants as join_err
 use Rattle.program_commands.proofs.Accepting.{ProgramRead, program_cases}
 use Rattle.program_commands.proofs.Held.{finding, found_reaching, no_program, program_there, read_there, found_of, found_there}
-use Rattle.program_commands.proofs.Refusals.{ReadRefused, end_is, input_status, inputs_refused, refusing, status_in_answer, status_of_cause, steps, tape_file_refused}
+use Rattle.program_commands.proofs.Refusals.{ReadRefused, end_is, input_status, inputs_refused, refusing, status_in_answer, status_of_cause, steps}
+use Rattle.program_commands.proofs.Refusals.{tape_file_refused}
 use Rattle.program_commands.proofs.Refusals.{tape_status}
 use Rattle.proto_core.specs.declared.party.Number.{Number}
 use Rattle.proto_core.specs.declared.party.Number.TheVariants.{One, Two, Three}
@@ -48,7 +50,8 @@ use Rattle.trio.specs.Launches.{of_all, starts}
 use Rattle.trio.specs.Words.{out_path}
 use Rattle.trio_command.specs.Deciding.{IsCourse, TrioPlanned, all_paths, sources_with, trio_reach}
 use Rattle.trio_command.specs.Launching.{AreStatuses}
-use Rattle.trio_command.specs.Trio.{Prepared, answer_of_miners, bad_status, children_ended, code_writes, compile_part, course_of, dealt, ended_so, preparation}
+use Rattle.trio_command.specs.Trio.{Prepared, answer_of_miners, bad_status, children_ended, code_writes, compile_part, course_of, dealt, ended_so}
+use Rattle.trio_command.specs.Trio.{preparation}
 use Rattle.trio_command.specs.Trio.{prepared_of, prepared_paths, trio_of, undealt, undealt_effect, words_for}
 use Rattle.typed_tree.specs.Programs.{TypedProgramTree}
 use Rattle.value_file.specs.declared.inputs.Entry.{Entry}
@@ -57,7 +60,8 @@ use Rattle.run_engine.specs.Moves.{Moves}
 use Rattle.run_engine.specs.Obeying.{CommandAnswers, Names, Planned}
 use Rattle.run_engine.specs.Promises.{is_refusal}
 use Rattle.run_engine.specs.Told.{outside_of, place_of, sources_of, statuses_since, told_of}
-use Rattle.run_engine.specs.TrioPromises.{AllEnded, HoldsTrio, IsDealt, IsUndealt, TextsRefused, TrioEffect, TrioRefused, for_child, for_input, for_program, for_tape}
+use Rattle.run_engine.specs.TrioPromises.{AllEnded, HoldsTrio, IsDealt, IsUndealt, TextsRefused, TrioEffect, TrioRefused, for_child, for_input}
+use Rattle.run_engine.specs.TrioPromises.{for_program, for_tape}
 use Rattle.run_engine.specs.TrioPromises.{for_texts, run_joined, run_undealt, trio_writes}
 use Rattle.run_engine.specs.Words.{answer_to, later_of, paths_of, question_of, reads_of, writes_of}
 use Rattle.run_engine.proofs.Joins.{texts_agree, texts_refused, texts_refused_by}
@@ -115,7 +119,8 @@ module _ (ask : TrioAsk) (l : LinksState) (f f' : FilesState) (c c' : SpawnerSta
     only = p.only;
     anyhow = p.anyhow l;
     answer = λ found at.
-        p.decides l (answer_to (trio ask) (told_of (outside_of s s') found)) (course_as (answer_to (trio ask) (told_of (outside_of s s') found)) (found, at, refl));
+        p.decides l (answer_to (trio ask) (told_of (outside_of s s') found))
+        (course_as (answer_to (trio ask) (told_of (outside_of s s') found)) (found, at, refl));
     found = p.found;
     names = names_so r p;
     moves = moves_so r p;
@@ -272,7 +277,8 @@ module _ (ask : TrioAsk) (files : Contents) (status : Number → ℤ) where
   refused_course : (c : Cause) (given : Status) → status_of_cause c ≡ given → IsPrepared (Err c) → RefusedCourse given
   refused_course c given is p = record { course = at_once (Err c); has = course_so (Err c) p; status_is = is }
 
-  bad_children : (i : Number) → is_end_status (status i) ≡ false → (cause : Cause) × (children_ended status ≡ Err cause) × (status_of_cause cause ≡ statuses.Child)
+  bad_children : (i : Number) → is_end_status (status i) ≡ false
+      → (cause : Cause) × (children_ended status ≡ Err cause) × (status_of_cause cause ≡ statuses.Child)
   unfolding bad_status
   bad_children i bad = at (is_end_status (status One)) refl (is_end_status (status Two)) refl (is_end_status (status Three)) refl i bad
     where

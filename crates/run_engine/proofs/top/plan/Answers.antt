@@ -11,49 +11,57 @@ pub returns-in-Run-clause-planned : goal.returns-in-Run-clause-planned
 unfolding answer_to question_of reads_of writes_of
 returns-in-Run-clause-planned g c =
     rw c.in-Run.is
-    (planned _ _ _ _ (λ told. refl) c.plan_run.ensures.files c.plan_run.ensures.anyhow c.plan_run.ensures.answer c.plan_run.ensures.found c.plan_run.ensures.names tt)
+    (planned _ _ _ _ (λ told. refl) c.plan_run.ensures.files c.plan_run.ensures.anyhow
+    c.plan_run.ensures.answer c.plan_run.ensures.found c.plan_run.ensures.names tt)
 
 pub returns-in-Check-clause-planned : goal.returns-in-Check-clause-planned
 unfolding answer_to question_of reads_of writes_of
 returns-in-Check-clause-planned g c =
     rw c.in-Check.is
-    (planned _ _ _ _ (λ told. refl) c.plan_check.ensures.files c.plan_check.ensures.anyhow c.plan_check.ensures.answer c.plan_check.ensures.found c.plan_check.ensures.names tt)
+    (planned _ _ _ _ (λ told. refl) c.plan_check.ensures.files c.plan_check.ensures.anyhow
+    c.plan_check.ensures.answer c.plan_check.ensures.found c.plan_check.ensures.names tt)
 
 pub returns-in-Compile-clause-planned : goal.returns-in-Compile-clause-planned
 unfolding answer_to question_of reads_of writes_of
 returns-in-Compile-clause-planned g c =
     rw c.in-Compile.is
-    (planned _ _ _ _ (λ told. refl) c.plan_compile.ensures.files c.plan_compile.ensures.anyhow c.plan_compile.ensures.answer c.plan_compile.ensures.found c.plan_compile.ensures.names tt)
+    (planned _ _ _ _ (λ told. refl) c.plan_compile.ensures.files c.plan_compile.ensures.anyhow
+    c.plan_compile.ensures.answer c.plan_compile.ensures.found c.plan_compile.ensures.names tt)
 
 pub returns-in-Eval-clause-planned : goal.returns-in-Eval-clause-planned
 unfolding answer_to question_of reads_of writes_of
 returns-in-Eval-clause-planned g c =
     rw c.in-Eval.is
-    (planned _ _ _ _ (λ told. refl) c.plan_eval.ensures.files c.plan_eval.ensures.anyhow c.plan_eval.ensures.answer c.plan_eval.ensures.found c.plan_eval.ensures.names tt)
+    (planned _ _ _ _ (λ told. refl) c.plan_eval.ensures.files c.plan_eval.ensures.anyhow
+    c.plan_eval.ensures.answer c.plan_eval.ensures.found c.plan_eval.ensures.names tt)
 
 pub returns-in-Need-clause-planned : goal.returns-in-Need-clause-planned
 unfolding answer_to question_of reads_of writes_of
 returns-in-Need-clause-planned g c =
     rw c.in-Need.is
-    (planned _ _ _ _ (λ told. refl) c.plan_need.ensures.files c.plan_need.ensures.anyhow c.plan_need.ensures.answer c.plan_need.ensures.found c.plan_need.ensures.names tt)
+    (planned _ _ _ _ (λ told. refl) c.plan_need.ensures.files c.plan_need.ensures.anyhow
+    c.plan_need.ensures.answer c.plan_need.ensures.found c.plan_need.ensures.names tt)
 
 pub returns-in-Map-clause-planned : goal.returns-in-Map-clause-planned
 unfolding answer_to question_of reads_of writes_of
 returns-in-Map-clause-planned g c =
     rw c.in-Map.is
-    (planned _ _ _ _ (λ told. refl) c.plan_map.ensures.files c.plan_map.ensures.anyhow c.plan_map.ensures.answer c.plan_map.ensures.found c.plan_map.ensures.names tt)
+    (planned _ _ _ _ (λ told. refl) c.plan_map.ensures.files c.plan_map.ensures.anyhow
+    c.plan_map.ensures.answer c.plan_map.ensures.found c.plan_map.ensures.names tt)
 
 pub returns-in-Simulate-clause-planned : goal.returns-in-Simulate-clause-planned
 unfolding answer_to question_of reads_of writes_of
 returns-in-Simulate-clause-planned g c =
     rw c.in-Simulate.is
-    (planned _ _ _ _ (λ told. refl) c.plan_simulate.ensures.files c.plan_simulate.ensures.anyhow c.plan_simulate.ensures.answer c.plan_simulate.ensures.found c.plan_simulate.ensures.names tt)
+    (planned _ _ _ _ (λ told. refl) c.plan_simulate.ensures.files c.plan_simulate.ensures.anyhow
+    c.plan_simulate.ensures.answer c.plan_simulate.ensures.found c.plan_simulate.ensures.names tt)
 
 pub returns-in-Twin-clause-planned : goal.returns-in-Twin-clause-planned
 unfolding answer_to question_of reads_of writes_of
 returns-in-Twin-clause-planned g c =
     rw c.in-Twin.is
-    (planned _ _ _ _ (λ told. refl) c.plan_twin.ensures.files c.plan_twin.ensures.anyhow c.plan_twin.ensures.answer c.plan_twin.ensures.found c.plan_twin.ensures.names tt)
+    (planned _ _ _ _ (λ told. refl) c.plan_twin.ensures.files c.plan_twin.ensures.anyhow
+    c.plan_twin.ensures.answer c.plan_twin.ensures.found c.plan_twin.ensures.names tt)
 
 pub returns-in-Deal-clause-planned : goal.returns-in-Deal-clause-planned
 unfolding answer_to question_of reads_of writes_of
