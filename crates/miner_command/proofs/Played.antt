@@ -2,27 +2,27 @@
 use Rattle.std.proofs.Common.{◌≡◌, ℕ, List, true, Option, Some, Result, Ok, Err, refl, sym, ap, ◌∙◌, subst}
 use Rattle.outside.specs.Links.{LinksState}
 use Rattle.sc_text.specs.declared.end.End.{End}
+use Rattle.proto_core.specs.declared.party.Number.{Number}
 use Rattle.command_frame.specs.declared.plan.Plan.{Plan}
 use Rattle.command_frame.specs.declared.breach.Breach.{Breach}
 use Rattle.command_frame.specs.declared.object.Object.TheVariants as objects
-use Rattle.command_frame.specs.declared.status.Status.{Status}
 use Rattle.command_frame.specs.declared.stop.Stop.{Stop}
 use Rattle.command_frame.specs.declared.stop.Stop.TheVariants as stops
-use Rattle.command_frame.specs.Answer.{Answer, Cause, Effect, breach_of, effect_of}
+use Rattle.command_frame.specs.Answer.{Cause, Effect, breach_of, effect_of}
 use Rattle.command_frame.specs.Reads.{StopNames}
 use Rattle.command_frame.specs.Status.{of_peers}
 use Rattle.command_frame.specs.Stops.{IsBreachFor}
 use Rattle.command_words.specs.Ask.{MinerAsk}
 use Rattle.miner_node.specs.declared.node_err.NodeErr.{NodeErr}
 use Rattle.miner_node.specs.declared.node_err.NodeErr.TheVariants.{LinkFault, PeerMismatch, BadFrame, BadMessage, Memory}
-use Rattle.miner_node.specs.Serving.{Outcome, Mismatch, NoFrame, Refused, CutOff, Serving}
+use Rattle.miner_node.specs.Serving.{Outcome, Mismatch, NoFrame, Refused, Serving}
 use Rattle.node_faults.specs.declared.fault.NodeFault.{NodeFault}
 use Rattle.node_faults.specs.declared.fault.NodeFault.TheVariants as faults
 use Rattle.node_run.specs.declared.running.NodeText.{NodeText}
-use Rattle.node_run.specs.Nodes.{Outgoing, end_in, node_text, own_bytes, own_serving, Runs}
+use Rattle.node_run.specs.Nodes.{Outgoing, Own, own_bytes, own_serving, Runs}
 use Rattle.node_run.proofs.Joins.{all_sent}
 use Rattle.miner_command.specs.Files.{Given}
-use Rattle.miner_command.specs.Miner.{answer_at, bad_peer, ended_answer, hello_field, message_fault, node_answer, own_of, text_effect}
+use Rattle.miner_command.specs.Miner.{answer_at, bad_peer, ended_answer, hello_field, message_fault, own_of, text_effect}
 use Rattle.miner_command.specs.Playing.{IsNodeStop, Plays, SentAll}
 
 of_a_peer : (fault : NodeFault) (b : Breach) → breach_of b ≡ bad_peer fault → of_peers b.status ≡ true
@@ -87,6 +87,23 @@ module _ (ask : MinerAsk) (given : Given) (a c : LinksState) where
   stops_so (BadMessage link cause) stop h for = breached_so (message_fault link cause) (Refused link cause) refl h.err stop for
   stops_so Memory stop h for =
       subst (λ (s : Stop). Plays ask given a c (Err s)) (sym for) (record { answers = tt; sends = h.err })
+
+-- ---- BY WHAT WAS READ
+
+module _ (ask : MinerAsk) (given : Given) (a c : LinksState) (me : Number) (is : me ≡ ask.me) (own : Own) (as : own ≡ own_of ask given) where
+  here : (result : Result NodeText NodeErr) → Runs me own a c result → Runs ask.me (own_of ask given) a c result
+  here result h =
+      subst (λ (v : Own). Runs ask.me v a c result) as (subst (λ (i : Number). Runs i own a c result) is h)
+
+  pub plays_with : (told : NodeText) (plan : Plan) → Runs me own a c (Ok told)
+      → effect_of plan ≡ text_effect ask.out told.text.items told.end → Plays ask given a c (Ok plan)
+  plays_with told plan h same = plays_so ask given a c told plan (here (Ok told) h) same
+
+  pub unplanned_with : (told : NodeText) → Runs me own a c (Ok told) → Plays ask given a c (Err stops.Memory)
+  unplanned_with told h = plays_unplanned ask given a c told (here (Ok told) h)
+
+  pub stops_with : (e : NodeErr) (stop : Stop) → Runs me own a c (Err e) → IsNodeStop e stop → Plays ask given a c (Err stop)
+  stops_with e stop h for = stops_so ask given a c e stop (here (Err e) h) for
 
 -- ---- NO FILE STOPS IT ANY MORE
 

@@ -1,5 +1,5 @@
 // What `miner` does.
-ghost use Rattle.std.specs.Prelude.{◌≡◌, ◌≤◌, IfErr};
+ghost use Rattle.std.specs.Prelude.{IfErr};
 ghost use Rattle.outside.specs.Causes.{Rose};
 ghost use Rattle.command_frame.specs.Answer.{effect_of};
 ghost use Rattle.command_frame.specs.Reads.{BothTold, OnlyRead, GivesOfPeers, KeepsTo, StopsReadingAmong};
@@ -29,8 +29,6 @@ pub fn plan_miner<F: Files, L: Links>(
     links: &mut L,
     words: &MinerWords,
 ) -> Result<Plan, Stop>
-    requires port_from { 1 ≤ words.now.port }
-    requires port_to { words.now.port ≤ 65533 }
     ensures files { OnlyRead (F.state files.old) (F.state files.new) }
     ensures later { IsLater (L.state links.old) (L.state links.new) }
     ensures answer { GivesOfPeers effect_of (F.state files.old) (F.state files.new) (L.state links.old) (L.state links.new) result

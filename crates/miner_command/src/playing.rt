@@ -1,5 +1,5 @@
 // A miner plays its part with what it has read.
-ghost use Rattle.std.specs.Prelude.{◌≡◌, ◌≤◌, IfOk, string_bytes};
+ghost use Rattle.std.specs.Prelude.{◌≡◌, IfOk, string_bytes};
 ghost use Rattle.command_frame.specs.Answer.{effect_of};
 ghost use Rattle.command_frame.specs.Reads.{KeepsTo, PlanNames};
 ghost use Rattle.command_words.specs.Views.{miner_ask};
@@ -63,8 +63,6 @@ pub(crate) fn play<P: Party, L: Links>(
 ) -> Result<Plan, Stop>
     requires me { P.me ≡ words.now.me }
     requires form { AreWritable given.share.entries }
-    requires port_from { 1 ≤ words.now.port }
-    requires port_to { words.now.port ≤ 65533 }
     ensures plays { Plays (miner_ask words.now) (given_seen given) (L.state links.old) (L.state links.new) result }
     ensures names { KeepsTo (miner_paths (miner_ask words.now)) (text_paths (miner_ask words.now)) result }
     ensures later { IsLater (L.state links.old) (L.state links.new) }

@@ -1,5 +1,5 @@
 -- What a run of a node answers.
-use Rattle.std.proofs.Common.{◌≡◌, ℕ, List, Option, true, Result, Ok, Err, refl, subst}
+use Rattle.std.proofs.Common.{◌≡◌, List, Option, Ok, Err, refl, subst}
 use Rattle.outside.specs.Links.{LinksState}
 use Rattle.sc_text.specs.declared.end.Ending.{Ending}
 use Rattle.proto_core.specs.declared.party.Number.{Number}
@@ -37,11 +37,11 @@ module _ (i : Number) (own : Own) (a : LinksState) where
           record {
             ok = tt;
             err = λ t.
-              subst
-              (λ (acts : List Act).
-              SendsFronts i a.sent c.sent (bytes_to_next i (own_hello i own) acts) (bytes_to_previous i (own_hello i own) acts))
-              (are_alike i own a.coming (undealt own.share)).acts
-              (all_sent i a.sent c.sent _ _ (h.sent t));
+                subst
+                (λ (acts : List Act).
+                SendsFronts i a.sent c.sent (bytes_to_next i (own_hello i own) acts) (bytes_to_previous i (own_hello i own) acts))
+                (are_alike i own a.coming (undealt own.share)).acts
+                (all_sent i a.sent c.sent _ _ (h.sent t));
           }
 
 -- ---- WITH THE HELLO AND THE MINER THAT WERE MADE

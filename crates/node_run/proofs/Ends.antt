@@ -1,6 +1,5 @@
 -- The text of a node that has served its links.
-use Rattle.std.proofs.Common.{◌≡◌, ◌-◌, ℕ, List, Option, Some, None, true, refl, sym, ap, ◌∙◌, subst, arith}
-use Rattle.std.specs.Prelude.{IfSome, IfNone}
+use Rattle.std.proofs.Common.{◌≡◌, ◌-◌, ℕ, List, Option, Some, None, true, sym, ap, ◌∙◌, subst, arith}
 use Rattle.outside.specs.Links.{LinksState}
 use Rattle.sc_text.specs.declared.end.End.{End}
 use Rattle.sc_text.specs.declared.end.Ending.{Ending}
@@ -9,13 +8,13 @@ use Rattle.proto_core.specs.Strand.{Act, Strand, Ends}
 use Rattle.driven_nodes.specs.Steps.{Running, Stopped, Short}
 use Rattle.own_code.specs.OwnCode.{Ended, Reached, Unfit}
 use Rattle.miner_core.specs.declared.answer.End.TheVariants as over
-use Rattle.miner_core.specs.Story.{Story, AtStop, IsEnd, HasEnded, node, strand_in}
+use Rattle.miner_core.specs.Story.{Story, AtStop, IsEnd, HasEnded, node}
 use Rattle.miner_node.specs.Peers.{Sends}
-use Rattle.miner_node.specs.Serving.{Finished, bytes_to_next, bytes_to_previous}
+use Rattle.miner_node.specs.Serving.{bytes_to_next, bytes_to_previous}
 use Rattle.miner_node.specs.Serves.{HasServed}
 use Rattle.node_run.specs.declared.running.NodeText.{NodeText}
 use Rattle.node_run.specs.Nodes.{Own, own_hello, ended_at, end_in, node_text, HasTextOf, HasTold}
-use Rattle.node_run.proofs.Idles.{made, ends_by, served_by, wanted_of, are_alike}
+use Rattle.node_run.proofs.Idles.{made, ends_by, wanted_of, are_alike}
 
 none_left : (n : ℕ) → n - n ≡ 0
 none_left n = omega arith
@@ -51,8 +50,8 @@ module _ (i : Number) (own : Own) (a c : LinksState) (s : Story) (ending : Endin
         end = ends_so u done.outcome.0 done.outcome.1 h.ended (ap (λ (v : Story). v.budget) h.task) is;
         text = is.text ∙ ap (λ (acts : List Act). node_text acts told.end) (sym done.acts ∙ alike.acts);
         sent =
-          subst
-          (λ (acts : List Act). Sends i a.sent c.sent (bytes_to_next i (own_hello i own) acts) (bytes_to_previous i (own_hello i own) acts))
-          alike.acts
-          (h.sent t);
+            subst
+            (λ (acts : List Act). Sends i a.sent c.sent (bytes_to_next i (own_hello i own) acts) (bytes_to_previous i (own_hello i own) acts))
+            alike.acts
+            (h.sent t);
       }

@@ -1,5 +1,5 @@
 -- A node that joins its peers before it serves its links.
-use Rattle.std.proofs.Common.{◌≡◌, ℕ, List, [], ◌++◌, true, Result, Ok, Err, IfOk, IfErr, refl, sym, ap, ◌∙◌, subst}
+use Rattle.std.proofs.Common.{◌≡◌, ℕ, List, [], ◌++◌, true, Result, Ok, Err, IfOk, IfErr, sym, ap, ◌∙◌, subst}
 use Rattle.outside.specs.Causes.{Rose}
 use Rattle.outside.specs.Links.{LinksState, SameLinks}
 use Rattle.proto_core.specs.declared.party.Number.{Number}
@@ -53,8 +53,8 @@ module _ (i : Number) (a b : LinksState) (same : SameLinks a b) (later : IsLater
             task = h.task;
             ended = h.ended;
             served = λ t.
-              subst (λ (coming : ℕ → List ℕ). HasFinished i s (serving i hello (strand_in i first) coming)) same.coming
-              (h.served (same.told ∙ t));
+                subst (λ (coming : ℕ → List ℕ). HasFinished i s (serving i hello (strand_in i first) coming)) same.coming
+                (h.served (same.told ∙ t));
             sent = λ t. sent_so t;
           }
         where
@@ -73,11 +73,10 @@ module _ (i : Number) (a b : LinksState) (same : SameLinks a b) (later : IsLater
 
       -- one that stops after it has joined, and comes to this
       stop_by : (o : Outcome) (next previous : List ℕ) (e : NodeErr) → IsStop i b c o next previous e → IsStop i a c o next previous e
-      stop_by o next previous stop.LinkFault h =
-          (
-            fault_on later h.0 (λ why t. why (same.told ∙ t)),
-            λ t. subst (λ (before : ℕ → List ℕ). SendsFronts i before c.sent next previous) same.sent (h.1 (same.told ∙ t)),
-          )
+      stop_by o next previous stop.LinkFault h = (
+        fault_on later h.0 (λ why t. why (same.told ∙ t)),
+        λ t. subst (λ (before : ℕ → List ℕ). SendsFronts i before c.sent next previous) same.sent (h.1 (same.told ∙ t)),
+      )
       stop_by o next previous (stop.PeerMismatch field mine theirs) h = λ t. sent_by next previous _ (h (same.told ∙ t))
       stop_by o next previous (stop.BadFrame place) h = λ t. sent_by next previous _ (h (same.told ∙ t))
       stop_by o next previous (stop.BadMessage link cause) h = λ t. sent_by next previous _ (h (same.told ∙ t))

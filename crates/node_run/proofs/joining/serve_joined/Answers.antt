@@ -1,5 +1,4 @@
 use Rattle.std.proofs.lemmas.Result.{err_from_is_err_and}
-use Rattle.miner_node.specs.Serves.{HasServed, HasStopped}
 use Rattle.node_run.proofs.Joins.{unjoined, joined_so, stopped_so, if_ok_so, if_err_so}
 use Rattle.node_run.proofs.joining.serve_joined.Goals as goal
 

@@ -19,13 +19,13 @@ returns-in_err-served-clause-runs g c =
     let own = own_seen c.args.own in
     let me = g.P.Party.me in
     let says : c.in_ok-hello.hello ≡ own_hello me own =
-        c.in_ok-hello.ensures ∙ ap (λ (i : Number). hello_of i own.digest own.share own.budget) c.number.ensures in
+    c.in_ok-hello.ensures ∙ ap (λ (i : Number). hello_of i own.digest own.share own.budget) c.number.ensures in
     let e1 = c.in_ok-miner.miner-is in
     let e2 = c.in_ok-miner.ensures.miner in
-    let is : c.in_ok-miner.miner ≡ made me own (undealt own.share) = cc in
+    let is : c.in_ok-miner.field-0.miner ≡ made me own (undealt own.share) = cc in
     let p = err_from_is_err_and c.from_residual-in_err-served.result c.from_residual-in_err-served.ensures.1 in
     rw (p.1, p.2)
-    (run_stops me own (state c.args.links.now) (state c.serve_joined.new.links) c.in_ok-hello.hello c.in_ok-miner.miner says is
+    (run_stops me own (state c.args.links.now) (state c.serve_joined.new.links) c.in_ok-hello.hello c.in_ok-miner.field-0.miner says is
     c.in_err-served.field-0.0 c.in_err-served.ensures.stopped)
 
 pub returns-in_err-text_served-clause-runs : goal.returns-in_err-text_served-clause-runs
@@ -34,13 +34,13 @@ returns-in_err-text_served-clause-runs g c =
     let own = own_seen c.args.own in
     let me = g.P.Party.me in
     let says : c.in_ok-hello.hello ≡ own_hello me own =
-        c.in_ok-hello.ensures ∙ ap (λ (i : Number). hello_of i own.digest own.share own.budget) c.number.ensures in
+    c.in_ok-hello.ensures ∙ ap (λ (i : Number). hello_of i own.digest own.share own.budget) c.number.ensures in
     let e1 = c.in_ok-miner.miner-is in
     let e2 = c.in_ok-miner.ensures.miner in
-    let is : c.in_ok-miner.miner ≡ made me own (undealt own.share) = cc in
+    let is : c.in_ok-miner.field-0.miner ≡ made me own (undealt own.share) = cc in
     let p = err_from_is_err_and c.from_residual-in_err-text_served.result c.from_residual-in_err-text_served.ensures.1 in
     rw (p.1, p.2)
-    (run_untold me own (state c.args.links.now) (state c.serve_joined.new.links) c.in_ok-hello.hello c.in_ok-miner.miner says is
+    (run_untold me own (state c.args.links.now) (state c.serve_joined.new.links) c.in_ok-hello.hello c.in_ok-miner.field-0.miner says is
     c.in_ok-served.served.miner c.in_ok-served.served.ending c.in_ok-served.ensures.served)
 
 pub returns-clause-runs : goal.returns-clause-runs
@@ -49,13 +49,13 @@ returns-clause-runs g c =
     let own = own_seen c.args.own in
     let me = g.P.Party.me in
     let says : c.in_ok-hello.hello ≡ own_hello me own =
-        c.in_ok-hello.ensures ∙ ap (λ (i : Number). hello_of i own.digest own.share own.budget) c.number.ensures in
+    c.in_ok-hello.ensures ∙ ap (λ (i : Number). hello_of i own.digest own.share own.budget) c.number.ensures in
     let e1 = c.in_ok-miner.miner-is in
     let e2 = c.in_ok-miner.ensures.miner in
-    let is : c.in_ok-miner.miner ≡ made me own (undealt own.share) = cc in
+    let is : c.in_ok-miner.field-0.miner ≡ made me own (undealt own.share) = cc in
     let e3 = c.in_ok-miner.undealt-is in
     let e4 = c.in_ok-miner.ensures.undealt in
-    let same : c.in_ok-miner.undealt ≡ undealt own.share = cc in
-    run_ends me own (state c.args.links.now) (state c.serve_joined.new.links) c.in_ok-hello.hello c.in_ok-miner.miner says is
-    c.in_ok-served.served.miner c.in_ok-served.served.ending c.in_ok-served.ensures.served c.in_ok-miner.undealt same
+    let same : c.in_ok-miner.field-0.undealt ≡ undealt own.share = cc in
+    run_ends me own (state c.args.links.now) (state c.serve_joined.new.links) c.in_ok-hello.hello c.in_ok-miner.field-0.miner says is
+    c.in_ok-served.served.miner c.in_ok-served.served.ending c.in_ok-served.ensures.served c.in_ok-miner.field-0.undealt same
     c.in_ok-text_served.field-0 c.in_ok-text_served.ensures
