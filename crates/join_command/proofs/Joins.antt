@@ -1,5 +1,5 @@
 -- What comes of texts that are read and put together.
-use Rattle.std.proofs.Common.{◌≡◌, ℕ, List, true, Option, None, Ok, Err, Result, refl, ap, subst, sym, ◌∙◌, string_bytes, Contains}
+use Rattle.std.proofs.Common.{◌≡◌, ℕ, List, true, Option, None, Ok, Err, Result, refl, ap, subst, sym, ◌∙◌, string_bytes, Contains, arith}
 use Rattle.outside.specs.Files.{FilesState, file_at}
 use Rattle.command_frame.specs.declared.breach.Breach.{Breach}
 use Rattle.command_frame.specs.declared.object.Object.TheVariants as objects
@@ -12,6 +12,8 @@ use Rattle.command_frame.specs.Status.{of_texts}
 use Rattle.sc_text.specs.Fault.{file_line}
 use Rattle.command_frame.specs.Stops.{IsBreachFor, IsFileStop}
 use Rattle.miner_text.specs.declared.line.MinerLine.{MinerLine}
+use Rattle.command_words.specs.Ask.{JoinAsk}
+use Rattle.proto_core.specs.Parties.{of_three}
 use Rattle.proto_core.specs.declared.party.Number.{Number}
 use Rattle.proto_core.specs.declared.party.Number.TheVariants.{One, Two, Three}
 use Rattle.trio.specs.Answers.{FileFailed, Passed, TextsRead, and_then, found_in, join_second, join_third, text_in, without}
@@ -19,7 +21,7 @@ use Rattle.trio.specs.Answers.{join_of as all_joined}
 use Rattle.trio.specs.Joining.{Joined}
 use Rattle.trio.specs.declared.join_err.JoinErr.{JoinErr}
 use Rattle.trio.specs.declared.join_err.JoinErr.TheVariants as join_err
-use Rattle.join_command.specs.Join.{IsJoinStop, bad_text, join_cause, joined_effect, texts_differ, texts_joined}
+use Rattle.join_command.specs.Join.{IsJoinStop, bad_text, join_cause, join_paths, joined_effect, texts_differ, texts_joined}
 
 -- ---- files are only read
 
@@ -104,17 +106,17 @@ module _ (f g : FilesState) (path : Number → List ℕ) where
       breach_stops (texts_differ d.line) stop (λ told. refused_so (join_err.Disagree d) (t.1 told)) for
   join_stops join_err.Memory stop t for = subst (λ (s : Stop). StopsAmong (f.told ≡ true) ⊥ f g s decided) (sym for) tt
 
-  -- ---- the same whatever is decided
+  -- ---- the same whatever is decided, and at whatever path
 
-  file_anyhow : (i : Number) (stop : Stop) → FileFailed f g (path i) → IsFileStop (path i) stop → StopsReadingAmong ⊥ of_texts f g stop
-  file_anyhow i stops.Memory t for = tt
-  file_anyhow i stops.Usage t for = for
-  file_anyhow i (stops.Refused r) t for = tt
-  file_anyhow i (stops.Breached b) t for = absurd for
-  file_anyhow i (stops.Failed (objects.File line)) t for = t.rose
-  file_anyhow i (stops.Failed objects.Output) t for = for
-  file_anyhow i (stops.Failed objects.Links) t for = for
-  file_anyhow i (stops.Failed objects.Children) t for = for
+  file_anyhow : (i : Number) (other : List ℕ) (stop : Stop) → FileFailed f g (path i) → IsFileStop other stop → StopsReadingAmong ⊥ of_texts f g stop
+  file_anyhow i other stops.Memory t for = tt
+  file_anyhow i other stops.Usage t for = for
+  file_anyhow i other (stops.Refused r) t for = tt
+  file_anyhow i other (stops.Breached b) t for = absurd for
+  file_anyhow i other (stops.Failed (objects.File line)) t for = t.rose
+  file_anyhow i other (stops.Failed objects.Output) t for = for
+  file_anyhow i other (stops.Failed objects.Links) t for = for
+  file_anyhow i other (stops.Failed objects.Children) t for = for
 
   breach_anyhow : (cause : Cause) (stop : Stop) → of_texts cause.status ≡ true → IsBreachFor cause stop → StopsReadingAmong ⊥ of_texts f g stop
   breach_anyhow cause stops.Memory is for = tt
@@ -123,12 +125,13 @@ module _ (f g : FilesState) (path : Number → List ℕ) where
   breach_anyhow cause (stops.Breached b) is for = ap (λ (c : Cause). of_texts c.status) for ∙ is
   breach_anyhow cause (stops.Failed object) is for = absurd for
 
-  pub join_anyhow : (err : JoinErr) (stop : Stop) → TextsRead f g path (Err err) → IsJoinStop path err stop → StopsReadingAmong ⊥ of_texts f g stop
+  pub join_anyhow : (other : Number → List ℕ) (err : JoinErr) (stop : Stop) → TextsRead f g path (Err err) → IsJoinStop other err stop
+      → StopsReadingAmong ⊥ of_texts f g stop
   unfolding bad_text texts_differ
-  join_anyhow (join_err.File i) stop t for = file_anyhow i stop t.0 for
-  join_anyhow (join_err.BadText i line) stop t for = breach_anyhow (bad_text i line) stop refl for
-  join_anyhow (join_err.Disagree d) stop t for = breach_anyhow (texts_differ d.line) stop refl for
-  join_anyhow join_err.Memory stop t for = subst (λ (s : Stop). StopsReadingAmong ⊥ of_texts f g s) (sym for) tt
+  join_anyhow other (join_err.File i) stop t for = file_anyhow i (other i) stop t.0 for
+  join_anyhow other (join_err.BadText i line) stop t for = breach_anyhow (bad_text i line) stop refl for
+  join_anyhow other (join_err.Disagree d) stop t for = breach_anyhow (texts_differ d.line) stop refl for
+  join_anyhow other join_err.Memory stop t for = subst (λ (s : Stop). StopsReadingAmong ⊥ of_texts f g s) (sym for) tt
 
 -- ---- the path that is named
 
@@ -160,3 +163,10 @@ module _ (path : Number → List ℕ) (paths : List (List ℕ)) (among : (i : Nu
   join_names join_err.Memory stop for = record {
     named = λ line is. let wrong : stops.Memory ≡ stops.Failed (objects.File line) = sym for ∙ is in absurd cc;
   }
+
+-- the paths of the three texts are those that `join` reads
+pub three_named : (ask : JoinAsk) (a b c : List ℕ) → a ≡ ask.first → b ≡ ask.second → c ≡ ask.third → (i : Number) → Contains (join_paths ask) (of_three a b c i)
+unfolding join_paths
+three_named ask a b c x y z One = (0, omega arith, sym x)
+three_named ask a b c x y z Two = (1, omega arith, sym y)
+three_named ask a b c x y z Three = (2, omega arith, sym z)

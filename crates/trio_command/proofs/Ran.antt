@@ -101,7 +101,7 @@ module _ (ask : TrioAsk) (f f' : FilesState) (c c' : SpawnerState) where
     decided = λ status are.
         texts_decide stop (decided status) (λ t. ended_well status (launch_means (words_for ask) c c' status are (Ok tt) launched t.1))
         (join_stops f f' (out_path ask.to) err stop read for);
-    anyhow = texts_anyhow stop (join_anyhow f f' (out_path ask.to) err stop read for);
+    anyhow = texts_anyhow stop (join_anyhow f f' (out_path ask.to) (out_path ask.to) err stop read for);
     names = join_names (out_path ask.to) (text_paths ask) (among ask) err stop for;
     nothing = tt;
   }
