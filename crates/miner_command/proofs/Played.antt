@@ -90,14 +90,14 @@ module _ (ask : MinerAsk) (given : Given) (a c : LinksState) where
 
 -- ---- BY WHAT WAS READ
 
-module _ (ask : MinerAsk) (given : Given) (a c : LinksState) (me : Number) (is : me ≡ ask.me) (own : Own) (as : own ≡ own_of ask given) where
+module _ (ask : MinerAsk) (given : Given) (a c : LinksState) (me : Number) (is : me ≡ ask.me) (own : Own) (same : own ≡ own_of ask given) where
   here : (result : Result NodeText NodeErr) → Runs me own a c result → Runs ask.me (own_of ask given) a c result
   here result h =
-      subst (λ (v : Own). Runs ask.me v a c result) as (subst (λ (i : Number). Runs i own a c result) is h)
+      subst (λ (v : Own). Runs ask.me v a c result) same (subst (λ (i : Number). Runs i own a c result) is h)
 
   pub plays_with : (told : NodeText) (plan : Plan) → Runs me own a c (Ok told)
       → effect_of plan ≡ text_effect ask.out told.text.items told.end → Plays ask given a c (Ok plan)
-  plays_with told plan h same = plays_so ask given a c told plan (here (Ok told) h) same
+  plays_with told plan h effect = plays_so ask given a c told plan (here (Ok told) h) effect
 
   pub unplanned_with : (told : NodeText) → Runs me own a c (Ok told) → Plays ask given a c (Err stops.Memory)
   unplanned_with told h = plays_unplanned ask given a c told (here (Ok told) h)
