@@ -1,19 +1,17 @@
 -- What `join` and `miner` promise, from their answers.
-use Rattle.std.proofs.Common.{◌≡◌, ◌⊎◌, ℕ, List, true, false, Some, Ok, Err, refl, ap, subst, sym, ◌∙◌, inl, inr}
+use Rattle.std.proofs.Common.{◌≡◌, ℕ, List, true, false, Some, refl, ap, subst, sym, ◌∙◌}
 use Rattle.std.proofs.lemmas.Bool.{false≢true}
-use Rattle.outside.specs.Files.{Contents}
 use Rattle.command_frame.specs.declared.status.Status.{Status}
 use Rattle.command_frame.specs.Answer.{Answer, Effect}
 use Rattle.command_frame.specs.Moments.{AreTold, Moment, Sources}
 use Rattle.command_frame.specs.Status.{is_end}
 use Rattle.command_words.specs.Ask.{JoinAsk, MinerAsk, join, miner, words_of}
 use Rattle.join_command.specs.Held.{JoinEffect, JoinRefused, no_text, unlike_texts}
-use Rattle.join_command.specs.Join.{join_of, joined_effect, text_path}
+use Rattle.join_command.specs.Join.{join_of, text_path}
 use Rattle.miner_command.specs.Held.{MinerEffect, MinerRefused}
 use Rattle.miner_command.specs.Miner.{miner_of}
 use Rattle.program_commands.proofs.Judged.{found_nothing}
 use Rattle.program_commands.proofs.Refusals.{end_is, status_in_answer}
-use Rattle.trio.specs.Joining.{Joined}
 use Rattle.run_engine.specs.Call.{Call}
 use Rattle.run_engine.specs.Commands.{Asks}
 use Rattle.run_engine.specs.Promises.{KeepsOf, is_refusal}

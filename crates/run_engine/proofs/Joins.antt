@@ -1,10 +1,10 @@
 -- What comes of three texts: for texts that agree, and that they are refused only where one is none, or two differ.
-use Rattle.std.proofs.Common.{◌≡◌, ◌⊎◌, ◌<◌, ℕ, List, true, false, Option, Some, None, Ok, Err, Result, refl, ap, subst, sym, ◌∙◌, inl, inr, arith}
+use Rattle.std.proofs.Common.{◌≡◌, ◌<◌, ℕ, List, true, false, Option, Some, None, Ok, Err, Result, refl, ap, sym, ◌∙◌, arith}
 use Rattle.std.proofs.lemmas.Bool.{true≢false}
 use Rattle.outside.specs.Files.{Contents, file_at}
 use Rattle.command_frame.specs.declared.status.Status.{Status}
 use Rattle.command_frame.specs.declared.status.Status.TheVariants as statuses
-use Rattle.command_frame.specs.Answer.{Answer, Cause}
+use Rattle.command_frame.specs.Answer.{Answer}
 use Rattle.command_frame.specs.Status.{is_end}
 use Rattle.miner_text.specs.Reading.{read_of}
 use Rattle.miner_text.specs.declared.line.MinerLine.{MinerLine}
@@ -16,7 +16,7 @@ use Rattle.trio.specs.Answers.{and_then, join_of, join_second, join_third, named
 use Rattle.trio.specs.Joining.{Difference, Joined, joined_of}
 use Rattle.trio.specs.declared.join_err.JoinErr.{JoinErr}
 use Rattle.trio.specs.declared.join_err.JoinErr.TheVariants as join_err
-use Rattle.join_command.specs.Held.{HoldTexts, HoldsBadText, HoldsText, TogetherAre}
+use Rattle.join_command.specs.Held.{HoldTexts, HoldsText, TogetherAre}
 use Rattle.join_command.specs.Join.{bad_text, join_cause, joined_effect, texts_differ, texts_joined}
 use Rattle.run_engine.specs.TrioPromises.{TextsRefused, bad_text as no_text, texts_differ as unlike_texts}
 use Rattle.std.specs.Prelude.{[]}

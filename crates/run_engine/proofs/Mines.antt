@@ -1,6 +1,6 @@
 -- What the answer of `miner` is: for files and peers that are as they must be, and that it is refused only for those that are not.
 use Rattle.std.proofs.Common.{◌≡◌, ◌⊎◌, ℕ, List, true, false, Option, Some, None, Ok, Err, Result, refl, ap, subst, sym, ◌∙◌, inl, inr}
-use Rattle.std.proofs.lemmas.Bool.{false≢true, true≢false}
+use Rattle.std.proofs.lemmas.Bool.{true≢false}
 use Rattle.outside.specs.Files.{Contents, file_at}
 use Rattle.sha2.specs.Sha256.{sha256}
 use Rattle.sc_text.specs.declared.end.End.{End}
@@ -21,9 +21,8 @@ use Rattle.command_frame.specs.declared.status.Status.TheVariants as statuses
 use Rattle.command_frame.specs.Answer.{Answer, Cause, Effect, bytes_at, missing, ◌>>=◌}
 use Rattle.command_frame.specs.Status.{can_refuse, is_end}
 use Rattle.command_words.specs.Ask.{MinerAsk}
-use Rattle.miner_node.specs.Serving.{Outcome, Finished, Mismatch, NoFrame, Refused, CutOff, Serving}
+use Rattle.miner_node.specs.Serving.{Outcome, Finished, Mismatch, NoFrame, Refused, CutOff}
 use Rattle.node_run.specs.Nodes.{end_in, node_text}
-use Rattle.program_commands.specs.Ends.{ending_status}
 use Rattle.program_commands.specs.Reading.{bad_input, bad_tape, read_or, share_at}
 use Rattle.program_commands.proofs.Held.{read_there}
 use Rattle.program_commands.proofs.Refusals.{ReadRefused, end_is, input_status, refusing, share_refused, status_in_answer, status_of_cause, steps}

@@ -1,7 +1,6 @@
 -- What a command sent to peers, and which programs it started, also once its files are written and its text is printed.
-use Rattle.std.proofs.Common.{◌≡◌, ◌⊎◌, ℕ, List, [], ◌++◌, true, false, Ok, Err, Result, refl, ap, subst, sym, ◌∙◌, inl, inr}
+use Rattle.std.proofs.Common.{◌≡◌, ◌⊎◌, [], true, false, Ok, Err, Result, refl, subst, sym, inl, inr}
 use Rattle.std.proofs.lemmas.List.{append-nil}
-use Rattle.std.specs.Prelude.{IfErr, IfOk}
 use Rattle.outside.specs.Files.{Contents, FilesState}
 use Rattle.outside.specs.Links.{LinksState}
 use Rattle.outside.specs.Sink.{SinkState}
@@ -14,14 +13,14 @@ use Rattle.command_frame.specs.declared.status.Status.{Status}
 use Rattle.command_frame.specs.declared.status.Status.TheVariants as statuses
 use Rattle.command_frame.specs.declared.stop.Stop.{Stop}
 use Rattle.command_frame.specs.declared.stop.Stop.TheVariants as stops
-use Rattle.command_frame.specs.Answer.{Answer, cause_of, effect_of}
+use Rattle.command_frame.specs.Answer.{cause_of, effect_of}
 use Rattle.command_frame.specs.Finish.{Finishes}
 use Rattle.command_frame.specs.Moments.{Sources}
 use Rattle.command_frame.specs.Reads.{BothTold, GivesOfPeers}
 use Rattle.command_frame.specs.Status.{is_end}
 use Rattle.command_frame.specs.Whole.{status_in}
 use Rattle.command_frame.proofs.Finishing.{at_last}
-use Rattle.command_frame.proofs.Statuses.{breach_ends, never}
+use Rattle.command_frame.proofs.Statuses.{never}
 use Rattle.command_words.specs.Ask.{Ask, MinerAsk, TrioAsk, check, compile, deal, eval, gather, join, load, map_tape, miner, need, run, simulate, trio, twin}
 use Rattle.miner_command.specs.Miner.{miner_of, nothing_sent, sent_of}
 use Rattle.miner_command.specs.Playing.{SendsSo, SentAll, SentFronts}

@@ -1,5 +1,5 @@
 -- What a command did, from what its steps did.
-use Rattle.std.proofs.Common.{◌≡◌, List, ℕ, true, Some, None, Ok, Err, Result, subst, sym, inl, inr}
+use Rattle.std.proofs.Common.{◌≡◌, List, ℕ, true, Some, None, Ok, Err, Result, subst, sym, inl, inr, ◌∙◌}
 use Rattle.std.specs.Prelude.{IfErr}
 use Rattle.std.specs.Result.{IsErrAnd}
 use Rattle.outside.specs.Causes.{Rose}
@@ -151,8 +151,8 @@ module _ (ask : Ask) (a b : Sources) where
 
 -- ---- what the words ask for
 
-same_ask : {words : List (List ℕ)} {ask other : Ask} → words_of words ≡ Some ask → words_of words ≡ Some other → ask ≡ other
-same_ask e is = let same : Some _ ≡ Some _ = sym e ∙ is in cc
+same_ask : (words : List (List ℕ)) (ask other : Ask) → words_of words ≡ Some ask → words_of words ≡ Some other → ask ≡ other
+same_ask words ask other e is = let same : Some ask ≡ Some other = sym e ∙ is in cc
 
 module _ (words : List (List ℕ)) (ask : Ask) (m m' : Moment) (e : words_of words ≡ Some ask) where
   named_stops : (r : Result Status Stop)
@@ -178,7 +178,7 @@ module _ (words : List (List ℕ)) (ask : Ask) (m m' : Moment) (e : words_of wor
     stops = named_stops r b.stops;
     found = λ t tells. found_by words ask m.sources.files.contents e (b.found t tells);
     out = found_so words ask m m' e b.out;
-    moves = λ other is. subst (λ (x : Ask). Moves x m.sources m'.sources r) (same_ask e is) b.moves;
+    moves = λ other is. subst (λ (x : Ask). Moves x m.sources m'.sources r) (same_ask words ask other e is) b.moves;
   }
 
 no_file_usage : (paths : Paths) (reach : Reach) (Courses : Course → Type 0) (s s' : Sources) → StopsAtFile paths reach Courses s s' stops.Usage

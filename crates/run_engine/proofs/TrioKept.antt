@@ -1,31 +1,30 @@
 -- What `trio` promises, from its courses.
 use Rattle.std.proofs.Common.{◌≡◌, ◌⊎◌, ℕ, ℤ, List, true, false, Some, Ok, Err, Result, refl, ap, subst, sym, ◌∙◌, inl, inr}
-use Rattle.std.proofs.lemmas.Bool.{false≢true, true≢false}
-use Rattle.outside.specs.Files.{Contents}
+use Rattle.std.proofs.lemmas.Bool.{false≢true}
 use Rattle.command_frame.specs.declared.object.Object.TheVariants as objects
 use Rattle.command_frame.specs.declared.status.Status.{Status}
 use Rattle.command_frame.specs.declared.status.Status.TheVariants as statuses
 use Rattle.command_frame.specs.declared.stop.Stop.{Stop}
 use Rattle.command_frame.specs.declared.stop.Stop.TheVariants as stops
-use Rattle.command_frame.specs.Answer.{Answer, Cause, Course, Effect, Written, behind, cause_of, whole_of, wholly}
+use Rattle.command_frame.specs.Answer.{Answer, Cause, Course, Effect, Written, behind, cause_of, wholly}
 use Rattle.command_frame.specs.Moments.{AreSteady, AreTold, Moment, Reach}
 use Rattle.command_frame.specs.Status.{is_end}
 use Rattle.command_frame.specs.Whole.{Acts, CarriedOut, CarriedSo, ChildrenRose, HasFailed, IsAnswered, IsDone, status_in}
 use Rattle.command_frame.proofs.Statuses.{breach_ends, never}
 use Rattle.command_words.specs.Ask.{TrioAsk, trio, words_of}
 use Rattle.program_commands.specs.Judging.{Finding, FoundAt, its_program}
-use Rattle.program_commands.proofs.Refusals.{status_in_answer, status_of_cause}
+use Rattle.program_commands.proofs.Refusals.{status_in_answer}
 use Rattle.proto_core.specs.declared.party.Number.{Number}
 use Rattle.trio_command.specs.Deciding.{trio_reach}
-use Rattle.trio_command.specs.Launching.{AreRun, LaunchesFor}
+use Rattle.trio_command.specs.Launching.{LaunchesFor}
 use Rattle.trio_command.specs.Trio.{Prepared, dealt, prepared_of, trio_of, undealt, words_for}
 use Rattle.run_engine.specs.Call.{Call}
 use Rattle.run_engine.specs.Commands.{statuses_in}
 use Rattle.run_engine.specs.Moves.{Moves}
 use Rattle.run_engine.specs.Obeying.{Acted}
 use Rattle.run_engine.specs.Promises.{Gives, is_refusal}
-use Rattle.run_engine.specs.Told.{Outside, contents_in, outside_of, told_of}
-use Rattle.run_engine.specs.TrioPromises.{IsDealt, IsUndealt, KeepsTrio, StartsMiners, TrioEffect, TrioRefused}
+use Rattle.run_engine.specs.Told.{Outside, contents_in, outside_of}
+use Rattle.run_engine.specs.TrioPromises.{KeepsTrio, StartsMiners, TrioEffect, TrioRefused}
 use Rattle.run_engine.specs.Words.{IsAnswer, answer_to, question_of, reach_in}
 use Rattle.run_engine.proofs.Runs.{carried_status, course_answers, is_answer, no_fault_end, reach_by, refused_if}
 use Rattle.run_engine.proofs.Tops.{no_file, no_memory}
@@ -60,7 +59,8 @@ ends_so m m' s effect first (Err c) is status = absurd cc
 
 done_so : (m m' : Moment) (s : Status) (effect : Effect) (first : List Written) (answer : Answer) → wholly first answer ≡ Ok effect
     → CarriedSo m m' s first answer → IsDone m m' effect s
-done_so m m' s effect first (Ok e) is carried = subst (λ (x : Effect). IsDone m m' x s) cc carried.0
+done_so m m' s effect first (Ok e) is carried =
+    let same : behind first e ≡ effect = cc in subst (λ (x : Effect). IsDone m m' x s) same carried.0
 done_so m m' s effect first (Err c) is carried = absurd cc
 
 module _ (words : List (List ℕ)) (m m' : Moment) (s : Status) (call : Call words m m' s)
@@ -125,8 +125,8 @@ module _ (words : List (List ℕ)) (m m' : Moment) (s : Status) (call : Call wor
 
 module _ (words : List (List ℕ)) (m m' : Moment) (r : Result Status Stop) (did : Acted words m m' r)
     (ask : TrioAsk) (asks : words_of words ≡ Some (trio ask)) (told : AreTold trio_reach m.sources) where
-  abbrev status : Number → ℤ
-  status = statuses_in m m'
+  abbrev ends_with : Number → ℤ
+  ends_with = statuses_in m m'
 
   abbrev Launched : Result Prepared Cause → Type 0
   Launched p = LaunchesFor (words_for ask) m.sources.children m'.sources.children p
@@ -134,16 +134,16 @@ module _ (words : List (List ℕ)) (m m' : Moment) (r : Result Status Stop) (did
   no_end_at : {X : Type 0} (w : Status) → is_end w ≡ false → is_end w ≡ true → X
   no_end_at w other ends = never (is_end w) ends other
 
-  -- a refusal has no status of an end
+  -- a refusal has no ends_with of an end
   not_refused : {X : Type 0} (x : _) (found : Finding) → FoundAt (its_program ask.program) (contents_in m) found → r ≡ Err (stops.Refused x)
       → is_end x.status ≡ true → X
   unfolding answer_to question_of
   not_refused x found at is ends =
-      let answer : Course = trio_of found ask (contents_in m) status in
+      let answer : Course = trio_of found ask (contents_in m) ends_with in
       let a : IsAnswer words (outside_of m.sources m'.sources) answer = is_answer words (trio ask) (outside_of m.sources m'.sources) found asks at in
       let acts = subst (λ (y : Result Status Stop). Acts (reach_in words) answer m m' (words_of words) y) is (did.acts answer a) in
       let all_told : AreTold (reach_in words) m.sources = subst (λ (y : Reach). AreTold y m.sources) (sym (reach_by words (trio ask) asks)) told in
-      no_end_at x.status (no_end_refused ask (contents_in m) status found at (cause_of x) (acts.1.0 all_told).0) ends
+      no_end_at x.status (no_end_refused ask (contents_in m) ends_with found at (cause_of x) (acts.1.0 all_told).0) ends
 
   launches : (found : Finding) → FoundAt (its_program ask.program) (contents_in m) found → (y : Result Status Stop) → r ≡ y → is_end (status_in y) ≡ true
       → Launched (prepared_of found ask (contents_in m))
@@ -158,11 +158,11 @@ module _ (words : List (List ℕ)) (m m' : Moment) (r : Result Status Stop) (did
   launches found at (Err (stops.Failed objects.Links)) is ends = no_end_at statuses.Link refl ends
   launches found at (Err (stops.Failed objects.Children)) is ends = no_end_at statuses.Child refl ends
 
-  prepared_so : (wanted : Result Prepared Cause) → IsPrepared ask (contents_in m) status wanted → is_end (status_in r) ≡ true → Launched wanted
+  prepared_so : (wanted : Result Prepared Cause) → IsPrepared ask (contents_in m) ends_with wanted → is_end (status_in r) ≡ true → Launched wanted
   prepared_so wanted p ends = subst Launched p.is (launches p.found p.at r refl ends)
 
   pub trio_started : is_end (status_in r) ≡ true → StartsMiners ask (contents_in m) m.sources.children m'.sources.children
   trio_started ends = record {
-    dealt = λ writes d. prepared_so (Ok (dealt writes)) (is_dealt ask (contents_in m) status writes d) ends;
-    undealt = λ need have u. prepared_so (Ok (undealt need have)) (is_undealt ask (contents_in m) status need have u) ends;
+    dealt = λ writes d. prepared_so (Ok (dealt writes)) (is_dealt ask (contents_in m) ends_with writes d) ends;
+    undealt = λ need have u. prepared_so (Ok (undealt need have)) (is_undealt ask (contents_in m) ends_with need have u) ends;
   }

@@ -1,12 +1,11 @@
 -- What `trio` did until it had decided, what its course is for files that are as they must be, and that it is refused only for those that are not.
-use Rattle.std.proofs.Common.{◌≡◌, ◌⊎◌, ◌<◌, ◌≤◌, ℕ, ℤ, List, [], ◌∷◌, ◌++◌, length, drop, true, false, Bool, Some, Ok, Err, Result, refl, ap, subst}
+use Rattle.std.proofs.Common.{◌≡◌, ◌<◌, ◌≤◌, ℕ, ℤ, List, [], ◌++◌, length, drop, true, false, Bool, Ok, Err, Result, refl, ap, subst}
 use Rattle.std.proofs.Common.{sym, ◌∙◌, inl, inr}
-use Rattle.std.proofs.Common.{arith}
+use Rattle.std.proofs.Common.{arith, get_or}
 use Rattle.std.proofs.Math.Seq.{drop-append_seam}
 use Rattle.std.proofs.lemmas.Bool.{true≢false}
 use Rattle.std.proofs.lemmas.Bool.Decides.{nat_tests}
 use Rattle.std.specs.Prelude.{nat_lt}
-use Rattle.std.specs.Prelude.{IfErr, IfOk, Contains}
 use Rattle.outside.specs.Files.{Contents, FilesState, file_at}
 use Rattle.outside.specs.Links.{LinksState}
 use Rattle.outside.specs.Spawner.{ChildCall, SpawnerState, given_in}
@@ -17,10 +16,9 @@ use Rattle.command_frame.specs.declared.status.Status.{Status}
 use Rattle.command_frame.specs.declared.status.Status.TheVariants as statuses
 use Rattle.command_frame.specs.declared.stop.Stop.{Stop}
 use Rattle.command_frame.specs.Answer.{Answer, Cause, Course, Effect, Written, after_writes, at_once, bytes_at, missing, whole_of, ◌>>=◌}
-use Rattle.command_frame.specs.Moments.{Moment, Sources}
+use Rattle.command_frame.specs.Moments.{Sources}
 use Rattle.command_frame.specs.Reads.{PlanNames}
 use Rattle.command_frame.specs.Status.{is_end}
-use Rattle.command_frame.specs.Whole.{StopsAtFile}
 use Rattle.command_words.specs.Ask.{TrioAsk, trio}
 use Rattle.input_share.specs.Dealing.{need_of}
 use Rattle.program_commands.specs.Compile.{compile_effect, compile_of}
@@ -38,7 +36,7 @@ use Rattle.trio.specs.declared.join_err.JoinErr.{JoinErr}
 use Rattle.trio.specs.declared.join_err.JoinErr.TheVariants as join_err
 use Rattle.program_commands.proofs.Accepting.{ProgramRead, program_cases}
 use Rattle.program_commands.proofs.Held.{finding, found_reaching, no_program, program_there, read_there, found_of, found_there}
-use Rattle.program_commands.proofs.Refusals.{ReadRefused, end_is, input_status, inputs_refused, refusing, status_in_answer, status_of_cause, steps}
+use Rattle.program_commands.proofs.Refusals.{ReadRefused, end_is, input_status, inputs_refused, status_in_answer, status_of_cause, steps}
 use Rattle.program_commands.proofs.Refusals.{tape_file_refused}
 use Rattle.program_commands.proofs.Refusals.{tape_status}
 use Rattle.proto_core.specs.declared.party.Number.{Number}
@@ -48,9 +46,9 @@ use Rattle.tape_file.specs.Tapes.{FourTapes}
 use Rattle.trio.specs.Children.{is_end_status}
 use Rattle.trio.specs.Launches.{of_all, starts}
 use Rattle.trio.specs.Words.{out_path}
-use Rattle.trio_command.specs.Deciding.{IsCourse, TrioPlanned, all_paths, sources_with, trio_reach}
+use Rattle.trio_command.specs.Deciding.{IsCourse, TrioPlanned}
 use Rattle.trio_command.specs.Launching.{AreStatuses}
-use Rattle.trio_command.specs.Trio.{Prepared, answer_of_miners, bad_status, children_ended, code_writes, compile_part, course_of, dealt, ended_so}
+use Rattle.trio_command.specs.Trio.{Prepared, answer_of_miners, bad_status, children_ended, code_writes, compile_part, course_of, dealt}
 use Rattle.trio_command.specs.Trio.{preparation}
 use Rattle.trio_command.specs.Trio.{prepared_of, prepared_paths, trio_of, undealt, undealt_effect, words_for}
 use Rattle.typed_tree.specs.Programs.{TypedProgramTree}
@@ -63,7 +61,7 @@ use Rattle.run_engine.specs.Told.{outside_of, place_of, sources_of, statuses_sin
 use Rattle.run_engine.specs.TrioPromises.{AllEnded, HoldsTrio, IsDealt, IsUndealt, TextsRefused, TrioEffect, TrioRefused, for_child, for_input}
 use Rattle.run_engine.specs.TrioPromises.{for_program, for_tape}
 use Rattle.run_engine.specs.TrioPromises.{for_texts, run_joined, run_undealt, trio_writes}
-use Rattle.run_engine.specs.Words.{answer_to, later_of, paths_of, question_of, reads_of, writes_of}
+use Rattle.run_engine.specs.Words.{answer_to, later_of, question_of, reads_of, writes_of}
 use Rattle.run_engine.proofs.Joins.{texts_agree, texts_refused, texts_refused_by}
 
 -- ---- until it had decided
@@ -74,9 +72,9 @@ statuses_are words c c' child more is i = by_number i (ap (drop (length c.calls)
   where
     by_number : (i : Number) → drop (length c.calls) c'.calls ≡ starts (of_all words) (of_all child) ++ more
         → statuses_since c c' (place_of i) ≡ c.status (child i)
-    by_number One added = rw added refl
-    by_number Two added = rw added refl
-    by_number Three added = rw added refl
+    by_number One added = ap (λ (calls : List ChildCall). c.status (get_or (given_in calls) 0 0)) added
+    by_number Two added = ap (λ (calls : List ChildCall). c.status (get_or (given_in calls) 1 0)) added
+    by_number Three added = ap (λ (calls : List ChildCall). c.status (get_or (given_in calls) 2 0)) added
 
 module _ (ask : TrioAsk) (l : LinksState) (f f' : FilesState) (c c' : SpawnerState) where
   abbrev s : Sources
@@ -356,7 +354,7 @@ module _ (ask : TrioAsk) (files : Contents) (status : Number → ℤ) where
         ]
 
     -- what was prepared, or why it was not
-    data Preparation : Preparing → Type 0 where
+    pub data Preparation : Preparing → Type 0 where
       no_program_there : (c : Cause) → ProgramRead files ask.program (Err c) → Preparation (Err c)
       no_inputs : (c : Cause) (p : TypedProgramTree) → HoldsTyped ask.program files p → ReadRefused files ask.input bad_input inputs_read_of c
           → Preparation (Err c)
@@ -448,6 +446,11 @@ module _ (ask : TrioAsk) (files : Contents) (status : Number → ℤ) where
       unfolding answer_of_miners bad_status
       by_children writes d is = at_one (is_end_status (status One)) refl (is_end_status (status Two)) refl (is_end_status (status Three)) refl
         where
+          all : is_end_status (status One) ≡ true → is_end_status (status Two) ≡ true → is_end_status (status Three) ≡ true → AllEnded status
+          all e1 e2 e3 One = e1
+          all e1 e2 e3 Two = e2
+          all e1 e2 e3 Three = e3
+
           at_one : (a : Bool) → is_end_status (status One) ≡ a → (b : Bool) → is_end_status (status Two) ≡ b
               → (c : Bool) → is_end_status (status Three) ≡ c → Why
           at_one false e1 b e2 c e3 = for_child (is ∙ rw e1 refl) writes d One e1
@@ -459,11 +462,6 @@ module _ (ask : TrioAsk) (files : Contents) (status : Number → ℤ) where
               (subst (TextsRefused (out_path ask.to) (after_writes writes files)) (sym same)
               (texts_refused_by (out_path ask.to) (after_writes writes files) (texts_joined (out_path ask.to) (after_writes writes files))
               (ap is_refusal (sym same) ∙ refusal) (ap is_end (sym same) ∙ unended) refl))
-
-          all : is_end_status (status One) ≡ true → is_end_status (status Two) ≡ true → is_end_status (status Three) ≡ true → AllEnded status
-          all e1 e2 e3 One = e1
-          all e1 e2 e3 Two = e2
-          all e1 e2 e3 Three = e3
 
       by_dealing : (p : TypedProgramTree) (entries : List Entry) (tapes : FourTapes) → HoldsTrio ask files p found.reached entries tapes
           → (b : Bool) → nat_lt (length tapes.dealer) (need_of entries) ≡ b
@@ -485,9 +483,9 @@ module _ (ask : TrioAsk) (files : Contents) (status : Number → ℤ) where
           (is ∙ rw e refl)
 
       by_preparation : (r : Preparing) → Preparation r → given ≡ status_in_answer (course_of ask files status r).answer → Why
-      by_preparation (Err c) (no_program_there c read) is = by_program c is read
-      by_preparation (Err c) (no_inputs c p held refused) is = by_input c is p held refused
-      by_preparation (Err c) (no_tapes c p held entries inputs refused) is = by_tape c is p held entries inputs refused
+      by_preparation (Err c) (no_program_there c2 read) is = by_program c is read
+      by_preparation (Err c) (no_inputs c2 p held refused) is = by_input c is p held refused
+      by_preparation (Err c) (no_tapes c2 p held entries inputs refused) is = by_tape c is p held entries inputs refused
       by_preparation (Ok made) (all_read p entries tapes h) is =
           by_dealing p entries tapes h (nat_lt (length tapes.dealer) (need_of entries)) refl is
 

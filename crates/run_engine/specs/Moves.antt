@@ -1,5 +1,5 @@
 -- What a command sent to its peers, and which other programs it started.
-use Rattle.std.specs.Prelude.{◌≡◌, List, ℕ, true, Result, Ok, Err, IfOk}
+use Rattle.std.specs.Prelude.{◌≡◌, true, Result, Ok, Err, IfOk}
 use Rattle.outside.specs.Links.{LinksState}
 use Rattle.proto_core.specs.declared.party.Number.{Number}
 use Rattle.command_frame.specs.declared.stop.Stop.{Stop}

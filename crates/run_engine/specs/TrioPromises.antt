@@ -5,10 +5,10 @@ use Rattle.outside.specs.Spawner.{SpawnerState}
 use Rattle.reached_instances.specs.Instances.{Instance}
 use Rattle.reached_instances.specs.Reached.{IsReachedList}
 use Rattle.command_frame.specs.declared.status.Status.{Status}
-use Rattle.command_frame.specs.declared.status.Status.TheVariants.{Child, Disagree, Input, Tape, TapeFile}
+use Rattle.command_frame.specs.declared.status.Status.TheVariants.{Child, Disagree, Input, TapeFile}
 use Rattle.command_frame.specs.Answer.{Effect, Written, after_writes, behind}
 use Rattle.command_frame.specs.Moments.{Moment}
-use Rattle.command_frame.specs.Status.{can_refuse, is_end}
+use Rattle.command_frame.specs.Status.{is_end}
 use Rattle.command_frame.specs.Whole.{ChildrenRose, HasFailed}
 use Rattle.command_words.specs.Ask.{TrioAsk}
 use Rattle.input_share.specs.Dealing.{need_of}

@@ -13,8 +13,11 @@ returns-clause-call g c =
 pub returns-clause-commands : goal.returns-clause-commands
 returns-clause-commands g c =
     commands_kept (texts c.args.words.now) _ _ _ (returns-clause-call g c)
-    (λ ask asks told. rw c.ended_status.ensures (miner_sends ask _ _ _ c.act-ended.result ((c.act-ended.ensures.acted _ _).moves (miner ask) asks told)))
-    (λ ask asks told. rw c.ended_status.ensures (trio_started (texts c.args.words.now) _ _ c.act-ended.result (c.act-ended.ensures.acted _ _) ask asks told))
+    (λ ask asks told. rw c.ended_status.ensures (miner_sends ask _ _ _ c.act-ended.result
+    ((c.act-ended.ensures.acted (g.E.Sink.state c.args.err.now) (g.E.Sink.state c.say.new.err)).moves (miner ask) asks told)))
+    (λ ask asks told. rw c.ended_status.ensures
+    (trio_started (texts c.args.words.now) _ _ c.act-ended.result
+    (c.act-ended.ensures.acted (g.E.Sink.state c.args.err.now) (g.E.Sink.state c.say.new.err)) ask asks told))
 
 pub returns-clause-headline : goal.returns-clause-headline
 returns-clause-headline g c = λ given is. headline_kept (texts c.args.words.now) _ _ _ (returns-clause-call g c) given is
