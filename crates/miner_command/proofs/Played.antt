@@ -1,5 +1,5 @@
 -- What a miner answers that has played its part with what it had read.
-use Rattle.std.proofs.Common.{◌≡◌, ℕ, List, true, Option, Some, Result, Ok, Err, refl, sym, ap, ◌∙◌, subst}
+use Rattle.std.proofs.Common.{◌≡◌, ℕ, List, true, Option, Result, Ok, Err, refl, sym, ap, ◌∙◌, subst}
 use Rattle.outside.specs.Links.{LinksState}
 use Rattle.sc_text.specs.declared.end.End.{End}
 use Rattle.proto_core.specs.declared.party.Number.{Number}
@@ -42,10 +42,10 @@ module _ (ask : MinerAsk) (given : Given) (a c : LinksState) where
   plays_so told plan h is =
       record {
         answers = λ t.
-          ap (λ (o : Outcome). answer_at ask served.acts o) (h.ok t).outcome
-          ∙ ap (λ (e : Option End). ended_answer ask.out served.acts e) (h.ok t).end
-          ∙ ap (λ (text : List ℕ). Ok (text_effect ask.out text told.end)) (sym (h.ok t).text)
-          ∙ ap (λ (e : Effect). Ok e) (sym is);
+            ap (λ (o : Outcome). answer_at ask served.acts o) (h.ok t).outcome
+            ∙ ap (λ (e : Option End). ended_answer ask.out served.acts e) (h.ok t).end
+            ∙ ap (λ (text : List ℕ). Ok (text_effect ask.out text told.end)) (sym (h.ok t).text)
+            ∙ ap (λ (e : Effect). Ok e) (sym is);
         sends = λ t. (h.ok t).sent;
       }
 
