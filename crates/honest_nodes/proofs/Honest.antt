@@ -93,7 +93,6 @@ shares_known me entries t =
 is_dealt : (w : World) → nat_le (dealing w) w.dealer ≡ true → undealt_in w ≡ None
 is_dealt w h = rw h refl
 
-
 module _ (p : TypedProgramTree) (entries : List Entry) (t : FourTapes) (me : Number) (own : Own) (coming : ℕ → List ℕ) (h : HasItsPart p entries t me own) where
   abbrev offer : Offered
   offer = offered entries (lengths_of t)

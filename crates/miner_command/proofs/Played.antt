@@ -1,5 +1,5 @@
 -- What a miner answers that has played its part with what it had read.
-use Rattle.std.proofs.Common.{◌≡◌, ℕ, List, true, Option, Some, Result, Ok, Err, refl, sym, ap, ◌∙◌, subst}
+use Rattle.std.proofs.Common.{◌≡◌, ℕ, List, true, Option, Result, Ok, Err, refl, sym, ap, ◌∙◌, subst}
 use Rattle.outside.specs.Links.{LinksState}
 use Rattle.sc_text.specs.declared.end.End.{End}
 use Rattle.proto_core.specs.declared.party.Number.{Number}
@@ -42,10 +42,10 @@ module _ (ask : MinerAsk) (given : Given) (a c : LinksState) where
   plays_so told plan h is =
       record {
         answers = λ t.
-          ap (λ (o : Outcome). answer_at ask served.acts o) (h.ok t).outcome
-          ∙ ap (λ (e : Option End). ended_answer ask.out served.acts e) (h.ok t).end
-          ∙ ap (λ (text : List ℕ). Ok (text_effect ask.out text told.end)) (sym (h.ok t).text)
-          ∙ ap (λ (e : Effect). Ok e) (sym is);
+            ap (λ (o : Outcome). answer_at ask served.acts o) (h.ok t).outcome
+            ∙ ap (λ (e : Option End). ended_answer ask.out served.acts e) (h.ok t).end
+            ∙ ap (λ (text : List ℕ). Ok (text_effect ask.out text told.end)) (sym (h.ok t).text)
+            ∙ ap (λ (e : Effect). Ok e) (sym is);
         sends = λ t. (h.ok t).sent;
       }
 
@@ -90,14 +90,14 @@ module _ (ask : MinerAsk) (given : Given) (a c : LinksState) where
 
 -- ---- BY WHAT WAS READ
 
-module _ (ask : MinerAsk) (given : Given) (a c : LinksState) (me : Number) (is : me ≡ ask.me) (own : Own) (as : own ≡ own_of ask given) where
+module _ (ask : MinerAsk) (given : Given) (a c : LinksState) (me : Number) (is : me ≡ ask.me) (own : Own) (same : own ≡ own_of ask given) where
   here : (result : Result NodeText NodeErr) → Runs me own a c result → Runs ask.me (own_of ask given) a c result
   here result h =
-      subst (λ (v : Own). Runs ask.me v a c result) as (subst (λ (i : Number). Runs i own a c result) is h)
+      subst (λ (v : Own). Runs ask.me v a c result) same (subst (λ (i : Number). Runs i own a c result) is h)
 
   pub plays_with : (told : NodeText) (plan : Plan) → Runs me own a c (Ok told)
       → effect_of plan ≡ text_effect ask.out told.text.items told.end → Plays ask given a c (Ok plan)
-  plays_with told plan h same = plays_so ask given a c told plan (here (Ok told) h) same
+  plays_with told plan h effect = plays_so ask given a c told plan (here (Ok told) h) effect
 
   pub unplanned_with : (told : NodeText) → Runs me own a c (Ok told) → Plays ask given a c (Err stops.Memory)
   unplanned_with told h = plays_unplanned ask given a c told (here (Ok told) h)

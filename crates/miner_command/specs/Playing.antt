@@ -1,5 +1,5 @@
 -- What a miner sent, and what it answered, by what it had read.
-use Rattle.std.specs.Prelude.{◌≡◌, ℕ, List, true, Result, Ok, Err}
+use Rattle.std.specs.Prelude.{◌≡◌, true, Result, Ok, Err}
 use Rattle.outside.specs.Links.{LinksState}
 use Rattle.proto_core.specs.declared.party.Number.{Number}
 use Rattle.command_frame.specs.declared.plan.Plan.{Plan}

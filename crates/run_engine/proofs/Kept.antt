@@ -1,23 +1,39 @@
 -- What a call keeps: the promises of each command, the headline, and the laws.
-use Rattle.std.proofs.Common.{ℕ, List}
+use Rattle.std.proofs.Common.{◌≡◌, ℕ, List, true, Some, refl}
 use Rattle.outside.specs.Files.{Contents}
 use Rattle.command_frame.specs.declared.status.Status.{Status}
-use Rattle.command_frame.specs.Moments.{Moment}
+use Rattle.command_frame.specs.Moments.{AreTold, Moment}
+use Rattle.command_frame.specs.Reads.{BothTold}
+use Rattle.command_frame.specs.Status.{is_end}
+use Rattle.command_words.specs.Ask.{MinerAsk, TrioAsk, miner, trio, words_of}
+use Rattle.trio_command.specs.Deciding.{trio_reach}
 use Rattle.gather_command.proofs.Refusals.{writes_one_dealing}
 use Rattle.program_commands.proofs.Accepted.{code_means}
 use Rattle.run_engine.specs.Call.{Call}
 use Rattle.run_engine.specs.Commands.{Commands}
 use Rattle.run_engine.specs.Headline.{Given, Headline, IsGiven}
 use Rattle.run_engine.specs.Laws.{Laws}
+use Rattle.run_engine.specs.MinerPromises.{MinerSends}
+use Rattle.run_engine.specs.TrioPromises.{StartsMiners}
 use Rattle.run_engine.specs.Told.{contents_in}
 use Rattle.run_engine.proofs.Gathers.{gather_keeps}
 use Rattle.run_engine.proofs.Headline.{ends_by_budget_and_tapes, prints, refuses, schedule_refused, writes}
 use Rattle.run_engine.proofs.Miners.{made_taken, maps_made, miners_run, views_made, views_seen}
 use Rattle.run_engine.proofs.Promises.{check_keeps, compile_keeps, deal_keeps, eval_keeps, need_keeps, run_keeps, load_keeps}
+use Rattle.run_engine.proofs.JoinedKept.{join_keeps, mine_keeps}
+use Rattle.run_engine.proofs.TrioKept.{trio_keeps}
+use Rattle.honest_nodes.proofs.Honest.{ends_with_the_run}
+use Rattle.joined_nodes.proofs.Nodes.{joined_nodes_agree_on_programs}
+use Rattle.joined_texts.proofs.Joined.{texts_of_a_run_are_its_text}
+use Rattle.miner_node.proofs.Honest.{does_as_its_miner}
 use Rattle.run_engine.proofs.ViewLaws.{maps_correspond, simulated_so, twins_see_it}
 use Rattle.run_engine.proofs.ViewPromises.{map_keeps, simulate_keeps, twin_keeps}
 
-module _ (words : List (List ℕ)) (m m' : Moment) (s : Status) (call : Call words m m' s) where
+module _ (words : List (List ℕ)) (m m' : Moment) (s : Status) (call : Call words m m' s)
+    (sends : (ask : MinerAsk) → words_of words ≡ Some (miner ask) → BothTold m.sources.files m.sources.links
+    → MinerSends ask (contents_in m) m.sources.links m'.sources.links s)
+    (starts : (ask : TrioAsk) → words_of words ≡ Some (trio ask) → AreTold trio_reach m.sources → is_end s ≡ true
+    → StartsMiners ask (contents_in m) m.sources.children m'.sources.children) where
   pub commands_kept : Commands words m m' s
   commands_kept = record {
     checks = check_keeps words m m' s call;
@@ -32,8 +48,14 @@ module _ (words : List (List ℕ)) (m m' : Moment) (s : Status) (call : Call wor
     simulates = simulate_keeps words m m' s call;
     twins = twin_keeps words m m' s call;
     loads = load_keeps words m m' s call;
+    joins = join_keeps words m m' s call;
+    mines = mine_keeps words m m' s call;
+    miner_sends = λ ask asks told. sends ask asks (told.files, told.links refl);
+    runs_trio = λ ask asks told. trio_keeps words m m' s call ask asks told;
+    trio_starts = λ ask asks told ends. starts ask asks told ends;
   }
 
+module _ (words : List (List ℕ)) (m m' : Moment) (s : Status) (call : Call words m m' s) where
   pub headline_kept : (g : Given) → IsGiven words (contents_in m) g → Headline g m m' s
   headline_kept g is = record {
     run_prints_evaluation = λ taken t steady.
@@ -51,6 +73,12 @@ module _ (words : List (List ℕ)) (m m' : Moment) (s : Status) (call : Call wor
 
 pub laws_kept : (words : List (List ℕ)) (files : Contents) → Laws words files
 laws_kept words files = record {
+  three_served_miners = record {
+    does_as_its_miner = does_as_its_miner;
+    agree_with_evaluation = joined_nodes_agree_on_programs;
+    end_with_honest_peers = ends_with_the_run;
+    texts_make_the_run_text = texts_of_a_run_are_its_text;
+  };
   compiled_code_means_program = λ ask program reached asks holds are. code_means ask.program files program holds reached are;
   gathered_is_one_dealing = λ ask miners owner owners asks holds. writes_one_dealing ask files miners owner owners holds;
   mapped_tapes_correspond = λ ask program entries tapes asks held. maps_correspond ask files program entries tapes held;

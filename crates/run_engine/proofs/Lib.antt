@@ -3,10 +3,14 @@ mod Deals
 pub mod Evals
 pub mod Gathers
 pub mod Headline
+pub mod JoinedKept
+pub mod Joins
 pub mod Kept
-pub mod MapRefusals
 pub mod Loads
+pub mod MapRefusals
 pub mod Miners
+pub mod Mines
+pub mod Moved
 pub mod Obeying
 pub mod OfWords
 pub mod Promises
@@ -15,6 +19,8 @@ pub mod Runs
 pub mod SimulateRefusals
 pub mod Texts
 pub mod Tops
+pub mod TrioKept
+pub mod Trios
 pub mod TwinRefusals
 pub mod ViewLaws
 pub mod ViewPromises

@@ -46,7 +46,7 @@ module _ (ask : LoadAsk) (s : Sources) where
   unfolding answer_to question_of reads_of writes_of
   load_planned r is memory names =
       planned (load ask) s s r (λ told. refl) (unchanged s.files) (reading r memory) (λ found at. gives r is memory)
-      (λ t tells. found_nothing s.files.contents) (keeping r memory names)
+      (λ t tells. found_nothing s.files.contents) (keeping r memory names) tt
 
 -- ---- what it answers
 

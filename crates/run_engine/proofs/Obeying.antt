@@ -1,5 +1,5 @@
 -- What a command did, from what its steps did.
-use Rattle.std.proofs.Common.{◌≡◌, List, ℕ, true, Some, None, Ok, Err, Result, subst, sym, inl, inr}
+use Rattle.std.proofs.Common.{◌≡◌, List, ℕ, true, Some, None, Ok, Err, Result, subst, sym, inl, inr, ◌∙◌}
 use Rattle.std.specs.Prelude.{IfErr}
 use Rattle.std.specs.Result.{IsErrAnd}
 use Rattle.outside.specs.Causes.{Rose}
@@ -22,9 +22,11 @@ use Rattle.command_frame.proofs.Finishing.{among_written, at_last, ends_anyhow, 
 use Rattle.command_frame.proofs.Wholes.{acts_anyhow, acts_as, stops_so}
 use Rattle.program_commands.specs.Judging.{Finding, FoundAt, HasFinding, Tells}
 use Rattle.program_commands.proofs.Judged.{found_nothing}
+use Rattle.run_engine.specs.Moves.{Moves}
 use Rattle.run_engine.specs.Obeying.{Acted, CommandAnswers, Names, Obeyed, Planned, WordsAnswer}
 use Rattle.run_engine.specs.Told.{Told, outside_of, told_of}
 use Rattle.run_engine.specs.Words.{answer_to, paths_in, paths_of, question_of, reach_in, reach_of, reads_of, writes_of, written_by}
+use Rattle.run_engine.proofs.Moved.{moves_end, moves_none, moves_stop}
 use Rattle.run_engine.proofs.Runs.{course_answers, found_by, found_of_usage, paths_by, reach_by}
 use Rattle.run_engine.proofs.Tops.{found_so, is_named}
 
@@ -49,8 +51,8 @@ pub planned : (ask : Ask) (s s' : Sources) (r : Result Plan Stop) → IsAtOnce a
     → ((found : Finding) → FoundAt (question_of ask) s.files.contents found
     → Gives effect_of s.files s'.files r (answer_to ask (told_of (outside_of s s') found)).answer)
     → (s.files.told ≡ true → Tells s.files r → HasFinding (question_of ask) s.files.contents) → KeepsTo (reads_of ask) (writes_of ask) r
-    → Planned ask s s' r
-planned ask s s' r once read anyhow answer found keeps = record {
+    → Moves ask s s' r → Planned ask s s' r
+planned ask s s' r once read anyhow answer found keeps moves = record {
   only = nothing_written (writes_of ask) s.files s'.files read;
   anyhow = anyhow_reading ask s s' r anyhow;
   answer = λ f at.
@@ -58,13 +60,14 @@ planned ask s s' r once read anyhow answer found keeps = record {
       (decides_reading (reach_of ask) (answer_to ask (told_of (outside_of s s') f)).answer s s' read r (answer f at));
   found = found;
   names = names_reading ask s s' r read keeps;
+  moves = moves;
 }
 
 -- ---- a command that also stops for what other miners did
 
 module _ (ask : Ask) (s s' : Sources) (r : Result Plan Stop) (once : IsAtOnce ask) (read : OnlyRead s.files s'.files)
     (found : s.files.told ≡ true → Tells s.files r → HasFinding (question_of ask) s.files.contents)
-    (keeps : KeepsTo (reads_of ask) (writes_of ask) r) where
+    (keeps : KeepsTo (reads_of ask) (writes_of ask) r) (moves : Moves ask s s' r) where
   abbrev answer_in : Finding → Answer
   answer_in found = (answer_to ask (told_of (outside_of s s') found)).answer
 
@@ -77,6 +80,7 @@ module _ (ask : Ask) (s s' : Sources) (r : Result Plan Stop) (once : IsAtOnce as
     answer = λ f at. subst (λ (c : Course). Decides (reach_of ask) c s s' r) (sym (once (told_of (outside_of s s') f))) (decides f at);
     found = found;
     names = names_reading ask s s' r read keeps;
+    moves = moves;
   }
 
   anyhow_among : (Lost : Type 0) → (Lost → ((reach_of ask).links ≡ true) × Rose s.links.faults s'.links.faults) → (given : Result Plan Stop)
@@ -116,6 +120,7 @@ module _ (ask : Ask) (a b : Sources) where
       stops = p.names;
       found = p.found;
       out = inl (same_sink o);
+      moves = moves_stop ask a b stop p.moves;
     }
 
     pub obeyed_stop : (stop : Stop) (r : Result Status Stop) → IsErrAnd r (λ given. given ≡ stop) → Planned ask a b (Err stop)
@@ -141,9 +146,13 @@ module _ (ask : Ask) (a b : Sources) where
       stops = finish_stops r finishes;
       found = λ t tells. p.found t tt;
       out = inr (λ t. p.found t tt);
+      moves = moves_end ask a b f o o' plan r p.moves finishes;
     }
 
 -- ---- what the words ask for
+
+same_ask : (words : List (List ℕ)) (ask other : Ask) → words_of words ≡ Some ask → words_of words ≡ Some other → ask ≡ other
+same_ask words ask other e is = let same : Some ask ≡ Some other = sym e ∙ is in cc
 
 module _ (words : List (List ℕ)) (ask : Ask) (m m' : Moment) (e : words_of words ≡ Some ask) where
   named_stops : (r : Result Status Stop)
@@ -169,6 +178,7 @@ module _ (words : List (List ℕ)) (ask : Ask) (m m' : Moment) (e : words_of wor
     stops = named_stops r b.stops;
     found = λ t tells. found_by words ask m.sources.files.contents e (b.found t tells);
     out = found_so words ask m m' e b.out;
+    moves = λ other is. subst (λ (x : Ask). Moves x m.sources m'.sources r) (same_ask words ask other e is) b.moves;
   }
 
 no_file_usage : (paths : Paths) (reach : Reach) (Courses : Course → Type 0) (s s' : Sources) → StopsAtFile paths reach Courses s s' stops.Usage
@@ -186,6 +196,7 @@ module _ (words : List (List ℕ)) (s : Sources) (o e e' : SinkState) where
     stops = no_file_usage (paths_in words) (reach_in words) (WordsAnswer words s s) s s;
     found = λ t tells. found_of_usage words s.files.contents none (found_nothing s.files.contents);
     out = inl (same_sink o);
+    moves = λ ask is. absurd (let wrong : None ≡ Some ask = sym none ∙ is in cc);
   }
 
   pub acted_memory : Acted words (moment s o e) (moment s o e') (Err stops.Memory)
@@ -196,4 +207,5 @@ module _ (words : List (List ℕ)) (s : Sources) (o e e' : SinkState) where
     stops = no_file_memory (paths_in words) (reach_in words) (WordsAnswer words s s) s s;
     found = λ t tells. absurd tells;
     out = inl (same_sink o);
+    moves = λ ask is. moves_none ask s;
   }

@@ -2,24 +2,36 @@
 --
 -- Over steady objects that hold files as they must be its effect is there whole, or memory ran out. It is refused exactly for the first file that is
 -- there and not as it must be, or a fault is told.
-use Rattle.std.specs.Prelude.{◌≡◌, ℕ, List, true, Some}
+use Rattle.std.specs.Prelude.{◌≡◌, ℕ, ℤ, List, true, Some}
 use Rattle.command_frame.specs.declared.status.Status.{Status}
 use Rattle.command_frame.specs.declared.status.Status.TheVariants.{Schedule}
-use Rattle.command_frame.specs.Moments.{Moment}
+use Rattle.command_frame.specs.Moments.{AreTold, Moment}
 use Rattle.command_frame.specs.Status.{is_end}
 use Rattle.command_words.specs.Ask.{CheckAsk, CompileAsk, EvalAsk, RunAsk, DealAsk, MapAsk, SimulateAsk, TwinAsk, check, compile, eval, need}
 use Rattle.command_words.specs.Ask.{run, deal, map_tape, simulate, twin, words_of, Ask, GatherAsk, LoadAsk, gather, load}
+use Rattle.command_words.specs.Ask.{JoinAsk, MinerAsk, TrioAsk, join, miner, trio}
 use Rattle.program_commands.specs.Eval.{eval_text, need_text}
 use Rattle.program_commands.specs.Held.{DealRefused, EvalRefused, ProgramRefused}
 use Rattle.gather_command.specs.Held.{GatherEffect, GatherRefused}
+use Rattle.join_command.specs.Held.{JoinEffect, JoinRefused}
+use Rattle.miner_command.specs.Held.{MinerEffect, MinerRefused}
 use Rattle.miner_commands.specs.Load.{IsNeverRefused}
+use Rattle.proto_core.specs.declared.party.Number.{Number}
+use Rattle.run_engine.specs.MinerPromises.{MinerSends}
+use Rattle.trio_command.specs.Deciding.{trio_reach}
 use Rattle.run_engine.specs.Headline.{ScheduleRefused}
 use Rattle.run_engine.specs.MapPromises.{MapEffect, MapRefused}
-use Rattle.run_engine.specs.Promises.{CheckEffect, CompileEffect, DealEffect, EvalEffect, RunEffect, Keeps, is_done, LoadEffect}
+use Rattle.run_engine.specs.Promises.{CheckEffect, CompileEffect, DealEffect, EvalEffect, RunEffect, Keeps, KeepsOf, is_done, is_refusal, LoadEffect}
 use Rattle.run_engine.specs.Runs.{RunRefused}
 use Rattle.run_engine.specs.SimulatePromises.{SimulateEffect, SimulateRefused}
-use Rattle.run_engine.specs.Told.{contents_in}
+use Rattle.run_engine.specs.Told.{contents_in, outside_of, place_of}
+use Rattle.run_engine.specs.TrioPromises.{KeepsTrio, StartsMiners}
+use Rattle.run_engine.specs.Words.{files_and_links, texts_alone}
 use Rattle.run_engine.specs.TwinPromises.{TwinEffect, TwinRefused}
+
+-- the statuses that the children of miners 1, 2 and 3 end with
+abbrev pub statuses_in : (before after : Moment) → Number → ℤ
+statuses_in before after i = (outside_of before.sources after.sources).status (place_of i)
 
 -- the words ask for this, over files that tell
 abbrev pub Asks : List (List ℕ) → Moment → Ask → Type 0 → Type 0
@@ -73,3 +85,30 @@ pub record Commands (words : List (List ℕ)) (before after : Moment) (given : S
       (Keeps (TwinEffect ask (contents_in before)) (TwinRefused ask (contents_in before)) is_done before after given)
   -- `load` prints the text of the evaluation of the workload of its number, and how many messages were delivered. It is never refused.
   pub loads : (ask : LoadAsk) → Asks words before (load ask) (Keeps (LoadEffect ask) IsNeverRefused is_end before after given)
+  -- `join` prints the text of the run of which three miners wrote these texts, with the status of its end. A text that is not of its form is a
+  -- refusal of it, and else two that differ.
+  pub joins :
+      (ask : JoinAsk) → Asks words before (join ask)
+      (KeepsOf texts_alone is_refusal (JoinEffect ask (contents_in before)) (JoinRefused ask (contents_in before)) is_end before after given)
+  -- `miner` plays a miner's part of a run, and writes its text to its file; the status is that of the end. It is refused for the first file that
+  -- is there and not as it must be, and else for what a peer sent. Files and links tell.
+  pub mines :
+      (ask : MinerAsk) → words_of words ≡ Some (miner ask) → AreTold files_and_links before.sources
+      → KeepsOf files_and_links is_refusal (MinerEffect ask (contents_in before) before.sources.links.coming)
+      (MinerRefused ask (contents_in before) before.sources.links.coming) is_end before after given
+  -- The bytes that it sends are a hello to each peer and the frames of what its node sends on the messages that came: where its run has ended, or
+  -- it is refused, exactly these, else a front of them; and nothing to anybody else.
+  pub miner_sends :
+      (ask : MinerAsk) → words_of words ≡ Some (miner ask) → AreTold files_and_links before.sources
+      → MinerSends ask (contents_in before) before.sources.links after.sources.links given
+  -- `trio` writes the program's code as `compile` does and the files of three miners as `deal` does, starts the miners, waits for all three, and
+  -- prints their texts as one, with the status of their end. It is refused for the first file that is there and not as it must be, then for a
+  -- miner that ended as no run does, and then as `join` is. Where the dealer's tape has too few words, it writes and starts nothing, and its text
+  -- and status say so. Files and children tell.
+  pub runs_trio :
+      (ask : TrioAsk) → words_of words ≡ Some (trio ask) → AreTold trio_reach before.sources
+      → KeepsTrio ask (contents_in before) (statuses_in before after) before after given
+  -- Where it has ended, it has started miners 1, 2 and 3 with the words of `miner`, all before it waited for any, and waited for each; or none.
+  pub trio_starts :
+      (ask : TrioAsk) → words_of words ≡ Some (trio ask) → AreTold trio_reach before.sources → is_end given ≡ true
+      → StartsMiners ask (contents_in before) before.sources.children after.sources.children

@@ -15,10 +15,13 @@ use Rattle.program_commands.specs.Compile.{CodeMeansProgram}
 use Rattle.program_commands.specs.Held.{HoldsTyped}
 use Rattle.program_views.specs.TapeMaps.{IsTwin, MapsCorrespond, twinned}
 use Rattle.run_engine.specs.MapPromises.{HoldsMap}
+use Rattle.run_engine.specs.Served.{ThreeServedMiners}
 use Rattle.run_engine.specs.SimulatePromises.{HoldsOfRun, IsOfRun}
 use Rattle.run_engine.specs.TwinPromises.{AreTaken, HoldsTwin}
 
 pub record Laws (words : List (List ℕ)) (files : Contents) : Type 0 where
+  -- Three served miners send no more than the joint run sends, and where they end they end as evaluation does.
+  pub three_served_miners : ThreeServedMiners
   -- What `compile` writes is verified code that does what the program does.
   pub compiled_code_means_program :
       (ask : CompileAsk) (program : TypedProgramTree) (reached : List Instance) → words_of words ≡ Some (compile ask)

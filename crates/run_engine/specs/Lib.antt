@@ -3,10 +3,14 @@ pub mod Commands
 pub mod Headline
 pub mod Laws
 pub mod MapPromises
+pub mod MinerPromises
+pub mod Moves
 pub mod Obeying
 pub mod Promises
 pub mod Runs
+pub mod Served
 pub mod SimulatePromises
 pub mod Told
+pub mod TrioPromises
 pub mod TwinPromises
 pub mod Words

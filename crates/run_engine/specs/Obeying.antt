@@ -1,5 +1,5 @@
 -- What the steps of a command did: until it had decided, what then came of it, and the same of words.
-use Rattle.std.specs.Prelude.{◌≡◌, ◌⊎◌, ℕ, List, true, Result, MatchResult, IfErr}
+use Rattle.std.specs.Prelude.{◌≡◌, ◌⊎◌, ℕ, List, true, Some, Result, MatchResult, IfErr}
 use Rattle.command_frame.specs.declared.plan.Plan.{Plan}
 use Rattle.command_frame.specs.declared.status.Status.{Status}
 use Rattle.command_frame.specs.declared.stop.Stop.{Stop}
@@ -11,6 +11,7 @@ use Rattle.command_frame.specs.Reads.{PlanNames}
 use Rattle.command_frame.specs.Whole.{Acts, ActsAnyhow, EndsAnyhow, EndsAs, PutsNothing, StopsAtFile}
 use Rattle.command_words.specs.Ask.{Ask, words_of}
 use Rattle.program_commands.specs.Judging.{Finding, FoundAt, HasFinding, Tells}
+use Rattle.run_engine.specs.Moves.{Moves}
 use Rattle.run_engine.specs.Told.{contents_in, outside_of, told_of}
 use Rattle.run_engine.specs.Words.{answer_to, paths_in, paths_of, question_in, question_of, reach_in, reach_of, writes_of, written_by, IsAnswer}
 
@@ -38,6 +39,7 @@ pub record Planned (ask : Ask) (s s' : Sources) (r : Result Plan Stop) : Type 0 
       → Decides (reach_of ask) (answer_to ask (told_of (outside_of s s') found)) s s' r
   pub found : s.files.told ≡ true → Tells s.files r → HasFinding (question_of ask) s.files.contents
   pub names : Names ask s s' r
+  pub moves : Moves ask s s' r
 
 -- ---- the whole command
 
@@ -48,6 +50,7 @@ pub record Obeyed (ask : Ask) (m m' : Moment) (r : Result Status Stop) : Type 0 
   pub stops : IfErr r (StopsAtFile (paths_of ask) (reach_of ask) (CommandAnswers ask m.sources m'.sources) m.sources m'.sources)
   pub found : m.sources.files.told ≡ true → Tells m.sources.files r → HasFinding (question_of ask) (contents_in m)
   pub out : PutsNothing m m' ⊎ (m.sources.files.told ≡ true → HasFinding (question_of ask) (contents_in m))
+  pub moves : Moves ask m.sources m'.sources r
 
 -- what the words ask for
 pub record Acted (words : List (List ℕ)) (m m' : Moment) (r : Result Status Stop) : Type 0 where
@@ -57,3 +60,4 @@ pub record Acted (words : List (List ℕ)) (m m' : Moment) (r : Result Status St
   pub stops : IfErr r (StopsAtFile (paths_in words) (reach_in words) (WordsAnswer words m.sources m'.sources) m.sources m'.sources)
   pub found : m.sources.files.told ≡ true → Tells m.sources.files r → HasFinding (question_in words) (contents_in m)
   pub out : PutsNothing m m' ⊎ (m.sources.files.told ≡ true → HasFinding (question_in words) (contents_in m))
+  pub moves : (ask : Ask) → words_of words ≡ Some ask → Moves ask m.sources m'.sources r

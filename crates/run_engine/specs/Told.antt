@@ -6,6 +6,8 @@ use Rattle.outside.specs.Sink.{SinkState}
 use Rattle.outside.specs.Spawner.{SpawnerState, given_in}
 use Rattle.command_frame.specs.Moments.{Moment, Sources}
 use Rattle.program_commands.specs.Judging.{Finding}
+use Rattle.proto_core.specs.declared.party.Number.{Number}
+use Rattle.proto_core.specs.declared.party.Number.TheVariants.{One, Two, Three}
 
 -- ---- moments
 
@@ -34,6 +36,12 @@ started_since before after = given_in (drop (length before.calls) after.calls)
 
 abbrev pub statuses_since : (before after : SpawnerState) → ℕ → ℤ
 statuses_since before after k = before.status (get_or (started_since before after) k 0)
+
+-- miner 1's child is started first
+abbrev pub place_of : Number → ℕ
+place_of One = 0
+place_of Two = 1
+place_of Three = 2
 
 abbrev pub outside_of : (before after : Sources) → Outside
 outside_of before after = record {

@@ -1,17 +1,23 @@
 -- What each command decides of all that is told.
-use Rattle.std.specs.Prelude.{◌≡◌, ℕ, List, [], Bool, Err}
+use Rattle.std.specs.Prelude.{◌≡◌, ℕ, List, [], Bool, true, false, Err}
 use Rattle.std.specs.Option.{option_map_or}
 use Rattle.command_frame.specs.Answer.{Course, at_once, usage}
 use Rattle.command_frame.specs.Moments.{Reach, files_alone}
+use Rattle.command_frame.specs.Status.{of_peers, of_texts}
 use Rattle.command_frame.specs.Whole.{Paths}
-use Rattle.command_words.specs.Ask.{Ask, run, deal, check, compile, eval, need, map_tape, simulate, twin, words_of, load, gather}
+use Rattle.command_words.specs.Ask.{Ask, run, deal, check, compile, eval, need, map_tape, simulate, twin, words_of, load, gather, join, miner, trio}
 use Rattle.program_commands.specs.Check.{check_of, check_paths}
 use Rattle.program_commands.specs.Compile.{compile_of, compile_paths, compiled_paths}
 use Rattle.program_commands.specs.Deal.{deal_of, deal_paths, written_paths}
 use Rattle.program_commands.specs.Eval.{eval_of, needs_of, eval_paths}
 use Rattle.program_commands.specs.Judging.{Finding, FoundAt, Question, nothing, its_program}
 use Rattle.gather_command.specs.Gather.{gather_of, gather_paths, gathered_paths}
-use Rattle.run_engine.specs.Told.{Outside, Told, told_of}
+use Rattle.join_command.specs.Join.{join_of, join_paths}
+use Rattle.miner_command.specs.Files.{miner_paths, text_paths}
+use Rattle.miner_command.specs.Miner.{miner_of}
+use Rattle.trio_command.specs.Deciding.{trio_reach}
+use Rattle.trio_command.specs.Trio.{prepared_paths, text_paths as texts_later, trio_of, trio_paths}
+use Rattle.run_engine.specs.Told.{Outside, Told, place_of, told_of}
 use Rattle.tape_commands.specs.Map.{map_of, map_paths, mapped_paths}
 use Rattle.miner_commands.specs.Load.{load_of}
 use Rattle.miner_commands.specs.Run.{ran_paths, run_of, run_paths}
@@ -31,6 +37,9 @@ answer_to (simulate ask) told = at_once (simulate_of told.found ask told.outside
 answer_to (twin ask) told = at_once (twin_of told.found ask told.outside.files)
 answer_to (load ask) told = at_once (load_of ask)
 answer_to (gather ask) told = at_once (gather_of ask told.outside.files)
+answer_to (join ask) told = at_once (join_of ask told.outside.files)
+answer_to (miner ask) told = at_once (miner_of ask told.outside.files told.outside.coming)
+answer_to (trio ask) told = trio_of told.found ask told.outside.files (λ i. told.outside.status (place_of i))
 
 -- what it asks of a program; what that of a workload is doesn't hang on any file
 unfoldable pub question_of : Ask → Question
@@ -45,6 +54,9 @@ question_of (simulate ask) = its_program ask.program
 question_of (twin ask) = its_program ask.program
 question_of (load ask) = nothing
 question_of (gather ask) = nothing
+question_of (join ask) = nothing
+question_of (miner ask) = nothing
+question_of (trio ask) = its_program ask.program
 
 -- the paths that a command reads
 unfoldable pub reads_of : Ask → List (List ℕ)
@@ -59,6 +71,9 @@ reads_of (simulate ask) = simulate_paths ask
 reads_of (twin ask) = twin_paths ask
 reads_of (load ask) = []
 reads_of (gather ask) = gather_paths ask
+reads_of (join ask) = join_paths ask
+reads_of (miner ask) = miner_paths ask
+reads_of (trio ask) = trio_paths ask
 
 -- the paths that it writes
 unfoldable pub writes_of : Ask → List (List ℕ)
@@ -73,9 +88,36 @@ writes_of (simulate ask) = simulated_paths ask.view
 writes_of (twin ask) = twinned_paths ask.to
 writes_of (load ask) = []
 writes_of (gather ask) = gathered_paths ask.to
+writes_of (join ask) = []
+writes_of (miner ask) = text_paths ask
+writes_of (trio ask) = prepared_paths ask
+
+-- the paths that it reads once its first files are written
+unfoldable pub later_of : Ask → List (List ℕ)
+later_of (run ask) = []
+later_of (deal ask) = []
+later_of (check ask) = []
+later_of (compile ask) = []
+later_of (eval ask) = []
+later_of (need ask) = []
+later_of (map_tape ask) = []
+later_of (simulate ask) = []
+later_of (twin ask) = []
+later_of (load ask) = []
+later_of (gather ask) = []
+later_of (join ask) = []
+later_of (miner ask) = []
+later_of (trio ask) = texts_later ask
 
 abbrev pub paths_of : Ask → Paths
-paths_of ask = record { read = reads_of ask; written = writes_of ask; later = [] }
+paths_of ask = record { read = reads_of ask; written = writes_of ask; later = later_of ask }
+
+-- files, and the texts of miners in them; files, and links to the peers
+abbrev pub texts_alone : Reach
+texts_alone = record { links = false; children = false; breach = of_texts }
+
+abbrev pub files_and_links : Reach
+files_and_links = record { links = true; children = false; breach = of_peers }
 
 -- what it reaches beside files and output: other miners, or other programs
 abbrev pub reach_of : Ask → Reach
@@ -90,6 +132,9 @@ reach_of (simulate ask) = files_alone
 reach_of (twin ask) = files_alone
 reach_of (load ask) = files_alone
 reach_of (gather ask) = files_alone
+reach_of (join ask) = texts_alone
+reach_of (miner ask) = files_and_links
+reach_of (trio ask) = trio_reach
 
 -- the same of words; those that ask for no command are refused as usage
 unfoldable pub answer_of : List (List ℕ) → Told → Course

@@ -13,14 +13,18 @@ ghost use Rattle.run_engine.specs.Words.{reach_miners, reach_of, start_programs}
 use command_frame::{Plan, Status, Stop, ended_status, finish_plan, say};
 use command_words::{Command, WordsErr, read};
 use gather_command::plan_gather;
+use join_command::plan_join;
+use miner_command::plan_miner;
 use miner_commands::{plan_load, plan_run};
 use outside::{Files, Links, Sink, Spawner};
 use program_commands::{plan_check, plan_compile, plan_deal, plan_eval, plan_need};
 use simulate_command::plan_simulate;
 use std::alloc::Global;
 use tape_commands::{plan_map, plan_twin};
+use trio_command::plan_trio;
 
-// Does all that a command does before its effect: it reads files, and says what is to be done.
+// Does all that a command does before its effect: it reads files, sends and reads what goes to peers and comes from them, or writes files
+// and starts other programs, and says what is to be done.
 fn plan<F: Files, L: Links, C: Spawner>(
     alloc: Global,
     files: &mut F,
@@ -45,6 +49,9 @@ fn plan<F: Files, L: Links, C: Spawner>(
         Command::Twin(words) => plan_twin(alloc, files, words),
         Command::Load(words) => plan_load(alloc, words),
         Command::Gather(words) => plan_gather(alloc, files, words),
+        Command::Join(words) => plan_join(alloc, files, words),
+        Command::Miner(words) => plan_miner(alloc, files, links, words),
+        Command::Trio(words) => plan_trio(alloc, files, children, words),
     }
 }
 

@@ -1,0 +1,168 @@
+-- What `trio` promises, from its courses.
+use Rattle.std.proofs.Common.{◌≡◌, ◌⊎◌, ℕ, ℤ, List, true, false, Some, Ok, Err, Result, refl, ap, subst, sym, ◌∙◌, inl, inr}
+use Rattle.std.proofs.lemmas.Bool.{false≢true}
+use Rattle.command_frame.specs.declared.object.Object.TheVariants as objects
+use Rattle.command_frame.specs.declared.status.Status.{Status}
+use Rattle.command_frame.specs.declared.status.Status.TheVariants as statuses
+use Rattle.command_frame.specs.declared.stop.Stop.{Stop}
+use Rattle.command_frame.specs.declared.stop.Stop.TheVariants as stops
+use Rattle.command_frame.specs.Answer.{Answer, Cause, Course, Effect, Written, behind, cause_of, wholly}
+use Rattle.command_frame.specs.Moments.{AreSteady, AreTold, Moment, Reach}
+use Rattle.command_frame.specs.Status.{is_end}
+use Rattle.command_frame.specs.Whole.{Acts, CarriedOut, CarriedSo, ChildrenRose, HasFailed, IsAnswered, IsDone, status_in}
+use Rattle.command_frame.proofs.Statuses.{breach_ends, never}
+use Rattle.command_words.specs.Ask.{TrioAsk, trio, words_of}
+use Rattle.program_commands.specs.Judging.{Finding, FoundAt, its_program}
+use Rattle.program_commands.proofs.Refusals.{status_in_answer}
+use Rattle.proto_core.specs.declared.party.Number.{Number}
+use Rattle.trio_command.specs.Deciding.{trio_reach}
+use Rattle.trio_command.specs.Launching.{LaunchesFor}
+use Rattle.trio_command.specs.Trio.{Prepared, dealt, prepared_of, trio_of, undealt, words_for}
+use Rattle.run_engine.specs.Call.{Call}
+use Rattle.run_engine.specs.Commands.{statuses_in}
+use Rattle.run_engine.specs.Moves.{Moves}
+use Rattle.run_engine.specs.Obeying.{Acted}
+use Rattle.run_engine.specs.Promises.{Gives, is_refusal}
+use Rattle.run_engine.specs.Told.{Outside, contents_in, outside_of}
+use Rattle.run_engine.specs.TrioPromises.{KeepsTrio, StartsMiners, TrioEffect, TrioRefused}
+use Rattle.run_engine.specs.Words.{IsAnswer, answer_to, question_of, reach_in}
+use Rattle.run_engine.proofs.Runs.{carried_status, course_answers, is_answer, no_fault_end, reach_by, refused_if}
+use Rattle.run_engine.proofs.Tops.{no_file, no_memory}
+use Rattle.run_engine.proofs.Trios.{EndingCourse, HasCourse, IsPrepared, is_dealt, is_undealt, no_end_refused, trio_effect, trio_refused, trio_refused_by}
+
+-- a fault that has the status of a refusal is one of other programs
+fault_child : (reach : Reach) (m m' : Moment) (s : Status) → is_refusal s ≡ true → HasFailed reach m m' s → ChildrenRose reach m m'
+fault_child reach m m' statuses.Done r failed = absurd failed
+fault_child reach m m' statuses.Trap r failed = absurd failed
+fault_child reach m m' statuses.Usage r failed = absurd failed
+fault_child reach m m' statuses.Program r failed = absurd failed
+fault_child reach m m' statuses.Input r failed = absurd failed
+fault_child reach m m' statuses.TapeFile r failed = absurd failed
+fault_child reach m m' statuses.Schedule r failed = absurd failed
+fault_child reach m m' statuses.Budget r failed = absurd failed
+fault_child reach m m' statuses.Tape r failed = absurd failed
+fault_child reach m m' statuses.File r failed = absurd (false≢true r)
+fault_child reach m m' statuses.Link r failed = absurd (false≢true r)
+fault_child reach m m' statuses.Peer r failed = absurd failed
+fault_child reach m m' statuses.Child r failed = failed
+fault_child reach m m' statuses.Disagree r failed = absurd failed
+fault_child reach m m' statuses.NotAlike r failed = absurd failed
+fault_child reach m m' statuses.OpenedShort r failed = absurd failed
+fault_child reach m m' statuses.Write r failed = absurd (false≢true r)
+fault_child reach m m' statuses.Memory r failed = absurd (false≢true r)
+
+-- a course of which this is the whole
+ends_so : (m m' : Moment) (s : Status) (effect : Effect) (first : List Written) (answer : Answer) → wholly first answer ≡ Ok effect
+    → IsAnswered (record { first = first; answer = answer }) s → s ≡ effect.status
+ends_so m m' s effect first (Ok e) is status = status ∙ ap status_in_answer is
+ends_so m m' s effect first (Err c) is status = absurd cc
+
+done_so : (m m' : Moment) (s : Status) (effect : Effect) (first : List Written) (answer : Answer) → wholly first answer ≡ Ok effect
+    → CarriedSo m m' s first answer → IsDone m m' effect s
+done_so m m' s effect first (Ok e) is carried =
+    let same : behind first e ≡ effect = cc in subst (λ (x : Effect). IsDone m m' x s) same carried.0
+done_so m m' s effect first (Err c) is carried = absurd cc
+
+module _ (words : List (List ℕ)) (m m' : Moment) (s : Status) (call : Call words m m' s)
+    (ask : TrioAsk) (asks : words_of words ≡ Some (trio ask)) (told : AreTold trio_reach m.sources) where
+  abbrev outside : Outside
+  outside = outside_of m.sources m'.sources
+
+  abbrev status : Number → ℤ
+  status = statuses_in m m'
+
+  all_told : AreTold (reach_in words) m.sources
+  all_told = subst (λ (r : Reach). AreTold r m.sources) (sym (reach_by words (trio ask) asks)) told
+
+  carried : (answer : Course) → IsAnswer words outside answer → CarriedOut m m' s answer ⊎ HasFailed trio_reach m m' s
+  carried answer a =
+      subst (λ (r : Reach). CarriedOut m m' s answer ⊎ HasFailed r m m' s) (reach_by words (trio ask) asks) (call.answer_carried_out answer a all_told)
+
+  all_steady : AreSteady trio_reach m → AreSteady (reach_in words) m
+  all_steady steady = subst (λ (r : Reach). AreSteady r m) (sym (reach_by words (trio ask) asks)) steady
+
+  course_answer : (wanted : Course) → HasCourse ask (contents_in m) status wanted → IsAnswer words outside wanted
+  unfolding answer_to question_of
+  course_answer wanted h = subst (IsAnswer words outside) h.is (is_answer words (trio ask) outside h.found asks h.at)
+
+  trio_gives : Gives trio_reach (TrioEffect ask (contents_in m) status) m m' s
+  trio_gives effect wanted steady =
+      let by : EndingCourse ask (contents_in m) status effect = trio_effect ask (contents_in m) status effect wanted in
+      let a : IsAnswer words outside by.course = course_answer by.course by.has in
+      elim (call.complete by.course a (all_steady steady) all_told) [
+        | inl is ↦ inl (at_end effect by (ends_so m m' s effect by.course.first by.course.answer by.whole is) (carried by.course a))
+        | inr memory ↦ inr memory
+      ]
+    where
+      at_end : (effect : Effect) (by : EndingCourse ask (contents_in m) status effect) → s ≡ effect.status
+          → CarriedOut m m' s by.course ⊎ HasFailed trio_reach m m' s → IsDone m m' effect s
+      at_end effect by is (inl whole) = done_so m m' s effect by.course.first by.course.answer by.whole whole
+      at_end effect by is (inr failed) = no_fault_end trio_reach m m' s (ap is_end is ∙ by.ends) failed
+
+  trio_only : is_refusal s ≡ true → is_end s ≡ false → TrioRefused ask (contents_in m) status s ⊎ ChildrenRose trio_reach m m'
+  unfolding answer_to question_of
+  trio_only refusal unended =
+      let (answer, a) = call.answered told.files (no_memory s refusal) (no_file s refusal) in
+      let (found, at, is) = course_answers words (trio ask) outside answer asks a in
+      elim (carried answer a) [
+        | inl whole ↦
+            let same : s ≡ status_in_answer (trio_of found ask (contents_in m) status).answer =
+            sym (carried_status trio_reach m m' s answer whole) ∙ ap (λ (c : Course). status_in_answer c.answer) (sym is) in
+            inl (trio_refused_by ask (contents_in m) status found at s refusal unended same)
+        | inr failed ↦ inr (fault_child trio_reach m m' s refusal failed)
+      ]
+
+  pub trio_keeps : KeepsTrio ask (contents_in m) status m m' s
+  trio_keeps = record {
+    gives = trio_gives;
+    refused_only = trio_only;
+    refused_if = λ wanted refused.
+        let by = trio_refused ask (contents_in m) status wanted refused in
+        refused_if trio_reach m m' s by.course wanted by.status_is (carried by.course (course_answer by.course by.has));
+  }
+
+-- ---- what it starts
+
+module _ (words : List (List ℕ)) (m m' : Moment) (r : Result Status Stop) (did : Acted words m m' r)
+    (ask : TrioAsk) (asks : words_of words ≡ Some (trio ask)) (told : AreTold trio_reach m.sources) where
+  abbrev ends_with : Number → ℤ
+  ends_with = statuses_in m m'
+
+  abbrev Launched : Result Prepared Cause → Type 0
+  Launched p = LaunchesFor (words_for ask) m.sources.children m'.sources.children p
+
+  no_end_at : {X : Type 0} (w : Status) → is_end w ≡ false → is_end w ≡ true → X
+  no_end_at w other ends = never (is_end w) ends other
+
+  -- a refusal has no ends_with of an end
+  not_refused : {X : Type 0} (x : _) (found : Finding) → FoundAt (its_program ask.program) (contents_in m) found → r ≡ Err (stops.Refused x)
+      → is_end x.status ≡ true → X
+  unfolding answer_to question_of
+  not_refused x found at is ends =
+      let answer : Course = trio_of found ask (contents_in m) ends_with in
+      let a : IsAnswer words (outside_of m.sources m'.sources) answer = is_answer words (trio ask) (outside_of m.sources m'.sources) found asks at in
+      let acts = subst (λ (y : Result Status Stop). Acts (reach_in words) answer m m' (words_of words) y) is (did.acts answer a) in
+      let all_told : AreTold (reach_in words) m.sources = subst (λ (y : Reach). AreTold y m.sources) (sym (reach_by words (trio ask) asks)) told in
+      no_end_at x.status (no_end_refused ask (contents_in m) ends_with found at (cause_of x) (acts.1.0 all_told).0) ends
+
+  launches : (found : Finding) → FoundAt (its_program ask.program) (contents_in m) found → (y : Result Status Stop) → r ≡ y → is_end (status_in y) ≡ true
+      → Launched (prepared_of found ask (contents_in m))
+  launches found at (Ok s) is ends =
+      subst (λ (y : Result Status Stop). Moves (trio ask) m.sources m'.sources y) is (did.moves (trio ask) asks) found at told.files (told.children refl)
+  launches found at (Err stops.Memory) is ends = no_end_at statuses.Memory refl ends
+  launches found at (Err stops.Usage) is ends = no_end_at statuses.Usage refl ends
+  launches found at (Err (stops.Refused x)) is ends = not_refused x found at is ends
+  launches found at (Err (stops.Breached b)) is ends = breach_ends b.status b.breaches ends
+  launches found at (Err (stops.Failed (objects.File line))) is ends = no_end_at statuses.File refl ends
+  launches found at (Err (stops.Failed objects.Output)) is ends = no_end_at statuses.Write refl ends
+  launches found at (Err (stops.Failed objects.Links)) is ends = no_end_at statuses.Link refl ends
+  launches found at (Err (stops.Failed objects.Children)) is ends = no_end_at statuses.Child refl ends
+
+  prepared_so : (wanted : Result Prepared Cause) → IsPrepared ask (contents_in m) ends_with wanted → is_end (status_in r) ≡ true → Launched wanted
+  prepared_so wanted p ends = subst Launched p.is (launches p.found p.at r refl ends)
+
+  pub trio_started : is_end (status_in r) ≡ true → StartsMiners ask (contents_in m) m.sources.children m'.sources.children
+  trio_started ends = record {
+    dealt = λ writes d. prepared_so (Ok (dealt writes)) (is_dealt ask (contents_in m) ends_with writes d) ends;
+    undealt = λ need have u. prepared_so (Ok (undealt need have)) (is_undealt ask (contents_in m) ends_with need have u) ends;
+  }
