@@ -1,9 +1,7 @@
 -- A miner at work, as a strand: each gate is tested before it is run, so that its part moves along its script.
-use Rattle.std.proofs.Common.{◌≡◌, ◌≤◌, ℕ, zero, suc, List, [], ◌∷◌, ◌++◌, length, drop, Bool, true, false, if◌then◌else◌, refl, sym, subst, arith}
-use Rattle.std.specs.Prelude.{◌&&◌, nat_le}
+use Rattle.std.proofs.Common.{◌≡◌, ◌≤◌, ℕ, zero, suc, List, [], ◌∷◌, ◌++◌, length, drop, Bool, true, false, if◌then◌else◌, refl, subst, arith}
+use Rattle.std.specs.Prelude.{nat_le}
 use Rattle.proto_core.specs.declared.party.Number.{Number}
-use Rattle.proto_core.specs.declared.link.Link.{Link}
-use Rattle.proto_core.specs.Standing.{Awaits, Refuses}
 use Rattle.proto_core.specs.Script.{Move, Sends, Takes, UsesOwnLinks}
 use Rattle.proto_core.specs.Strand.{Strand, Ends, then_do}
 use Rattle.proto_core.proofs.MessageFields.{first_true, second_true}
@@ -22,9 +20,9 @@ use Rattle.language_model.specs.Effects.{World}
 use Rattle.verified_code.specs.Steps.{Function}
 use Rattle.code_places.specs.Places.{Place, first_place, notices_between, step_told}
 use Rattle.driven_nodes.specs.Steps.{Went, Running, Stopped, Short, Stand, place_of, stand_of}
-use Rattle.own_code.specs.OwnCode.{Ended, gates_between, led_by, go_on, own_code, behind_gates}
+use Rattle.own_code.specs.OwnCode.{gates_between, led_by, go_on, own_code, behind_gates}
 use Rattle.miner_core.specs.Meaning.{fuel}
-use Rattle.miner_core.specs.Story.{Story, node, stands_at, strand_in, mail_in}
+use Rattle.miner_core.specs.Story.{Story, node, strand_in, mail_in}
 use Rattle.story_laws.specs.Stories.{WaitsAtItsLinks, SendsFrames}
 use Rattle.story_laws.proofs.Strands.{Behaves, RanWell, IsAtItsLinks, then_behaves, telling_behaves, script_behaves, run_behaves, stands_at_its_links}
 use Rattle.story_laws.proofs.Strands.{sent_framed, none_sent}

@@ -1,5 +1,5 @@
 -- Openings that three miners tell are of elements of 64 bits.
-use Rattle.std.proofs.Common.{◌≡◌, ℕ, suc, List, [], ◌∷◌, map}
+use Rattle.std.proofs.Common.{ℕ, suc, List, [], ◌∷◌, map}
 use Rattle.secrec_ast.specs.declared.expression.DataType.{DataType}
 use Rattle.secrec_ast.specs.declared.expression.DataType.TheVariants as datatype
 use Rattle.sc_text.specs.declared.event.Event.{Event}

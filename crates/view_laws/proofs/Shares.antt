@@ -1,6 +1,6 @@
 -- What a miner is dealt of inputs that may stand in a file has names and words.
-use Rattle.std.proofs.Common.{◌≡◌, ℕ, suc, ◌*◌, ◌+◌, ◌≤◌, ◌<◌, ◌^◌, List, [], ◌∷◌, ◌++◌, length, map, drop, take, Bool, true, false, cond, refl, sym, ap, ◌∙◌, arith}
-use Rattle.std.specs.Prelude.{Option, Some, None, ◌&&◌, not, bytes_eq}
+use Rattle.std.proofs.Common.{◌≡◌, ℕ, suc, ◌*◌, ◌+◌, ◌≤◌, List, [], ◌∷◌, ◌++◌, length, map, drop, Bool, true, false, cond, refl, arith}
+use Rattle.std.specs.Prelude.{Some, None, ◌&&◌, not, bytes_eq}
 use Rattle.std.specs.List.{list_any}
 use Rattle.std.proofs.lemmas.List.Sums.{sum_by-cons}
 use Rattle.sc_text.specs.Name.{is_name}
@@ -18,7 +18,6 @@ use Rattle.value_file.specs.declared.inputs.Entry.{Entry}
 use Rattle.value_file.specs.Values.{type_of, count_of}
 use Rattle.value_file.specs.Input.{new_name, AreEntries, name_of}
 use Rattle.value_file.specs.Input as input
-use Rattle.input_share.specs.declared.entry.ShareEntry.{ShareEntry}
 use Rattle.input_share.specs.Values.{elements_of, ring_of}
 use Rattle.input_share.specs.Dealing.{first_masks, second_masks, share_of, draws_for, draws_of, need_of, part_of, dealt_entries}
 use Rattle.view_text.specs.View.{Words, InputShare, AreInputs}

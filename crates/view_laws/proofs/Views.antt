@@ -1,11 +1,9 @@
 -- Each part of a view is of its form.
-use Rattle.std.proofs.Common.{◌≡◌, ℕ, ◌*◌, ◌+◌, ◌≤◌, ◌<◌, ◌^◌, List, [], ◌∷◌, length, map, take, Bool, true, false, if◌then◌else◌, Some, None, Ok, refl, sym, ap, ◌∙◌}
+use Rattle.std.proofs.Common.{◌≡◌, ℕ, ◌≤◌, ◌<◌, ◌^◌, List, [], length, map, Bool, true, false, if◌then◌else◌, Some, None, refl, sym, ap, ◌∙◌}
 use Rattle.std.proofs.Common.{subst, arith}
 use Rattle.std.specs.Prelude.{nat_le}
-use Rattle.sc_text.specs.declared.end.Ending.{Ending}
 use Rattle.proto_core.specs.declared.party.Number.{Number}
 use Rattle.proto_core.specs.declared.party.Number.TheVariants.{One, Two, Three}
-use Rattle.proto_core.specs.Lists.{AreWords}
 use Rattle.protocol_model.specs.Gates.{gates_script}
 use Rattle.protocol_model.specs.Network.{Delivery, order_of}
 use Rattle.protocol_model.specs.Runs.{run_messages}
@@ -16,21 +14,19 @@ use Rattle.input_share.specs.Dealing.{need_of}
 use Rattle.tape_file.specs.Tapes.{FourTapes}
 use Rattle.typed_tree.specs.Programs.{TypedProgramTree}
 use Rattle.language_model.specs.Effects.{World, Clear, RunStop, Ended, Short}
-use Rattle.language_model.specs.Reports.{Report, world_of, dealing, beginning, report_of, not_dealt}
+use Rattle.language_model.specs.Reports.{Report, world_of, beginning, report_of, not_dealt}
 use Rattle.language_model.proofs.Walk.{main_of}
 use Rattle.language_model.proofs.Kept.{cost_kept}
 use Rattle.clear_eval.specs.Offers.{offered}
 use Rattle.view_text.specs.View.{View, Words, AreInputs, AreReceived, AreOpened, IsView}
-use Rattle.view_text.specs.Text.{view_bytes}
 use Rattle.view_text.proofs.Rounds.{read_again, same_texts}
 use Rattle.view_model.specs.Dealing.{dealt_to, private_sizes}
-use Rattle.view_model.specs.TapeMaps.{miners_of, no_values, gates_dealt, is_dealt, AreTapes}
+use Rattle.view_model.specs.TapeMaps.{miners_of, no_values, gates_dealt, is_dealt}
 use Rattle.view_model.specs.Seen.{Seen, seen_by}
 use Rattle.view_model.proofs.Corresponding.{le_from, ready_with}
 use Rattle.framed_runs.specs.Framing.{CanBeFramed}
 use Rattle.framed_runs.proofs.FramedScripts.{run_gates-fit}
 use Rattle.framed_runs.proofs.FramedMessages.{run-framed}
-use Rattle.program_run.specs.Accepted.{IsAccepted}
 use Rattle.program_run.proofs.Shared.{runs_where_accepted}
 use Rattle.program_views.specs.Laws.{IsGivenTo}
 use Rattle.program_views.specs.Views.{lengths_of, run_on, received, openings, input_shares, nothing_seen, view_at, seen_of, view_of}
@@ -38,7 +34,7 @@ use Rattle.program_views.proofs.Given.{same_need}
 use Rattle.program_views.proofs.Simulated.{can_run}
 use Rattle.ending_laws.specs.Ends.{HasRoom, CanBeWritten}
 use Rattle.ending_laws.proofs.Programs.{programs_end}
-use Rattle.view_laws.specs.Views.{AreCounted, CanBeRun, ViewsAreOfTheirForm, IsSeen, IsReadAgain, AreEqualByTheirTexts}
+use Rattle.view_laws.specs.Views.{CanBeRun, ViewsAreOfTheirForm, IsSeen, IsReadAgain, AreEqualByTheirTexts}
 use Rattle.view_laws.proofs.Shares.{are_words, shares_are, need_most}
 use Rattle.view_laws.proofs.Messages.{are_received}
 use Rattle.view_laws.proofs.Openings.{openings_are}
