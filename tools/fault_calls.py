@@ -29,13 +29,7 @@ CALLS = [
     Call(["load", "--number", "3"], [], 0),
     Call(["deal", "--input", "sum.json", "--tape", "words.tape", "--to", "d"], ["d.1", "d.2", "d.3", "d.t1", "d.t2", "d.t3"], 0),
     Call(["gather", "--me", "1", "--to", "all.1", "dealt.1"], ["all.1"], 0),
-    Call(["join", "told.1", "told.2", "told.3"], [], 0),
 ]
-# Calls that start programs of their own, which read and write too: what is taken from the call would be taken from those as well.
-STARTING = [
-    Call(["trio", *SUM, "--tape", "words.tape", "--to", "e", "--port", "47310"], [f"e.{name}" for name in ("code", "1", "2", "3", "t1", "t2", "t3")], 0),
-]
-TOLD = "open 13\nshare t uint64 {}\nend done cost 9\n"
 
 
 def make_files(program, folder):
@@ -47,9 +41,6 @@ def make_files(program, folder):
     dealt = ["deal", "--input", "sum.json", "--tape", "words.tape", "--to", "dealt"]
     for words in (mapped, dealt):
         subprocess.run([program, *words], cwd=folder, check=True)
-    for miner in (1, 2, 3):
-        with open(f"{folder}/told.{miner}", "w", encoding="utf-8") as file:
-            file.write(TOLD.format(miner))
 
 
 def bytes_of(path):
