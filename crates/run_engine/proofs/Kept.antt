@@ -27,6 +27,7 @@ use Rattle.joined_nodes.proofs.Nodes.{joined_nodes_agree_on_programs}
 use Rattle.joined_texts.proofs.Joined.{texts_of_a_run_are_its_text}
 use Rattle.miner_node.proofs.Honest.{does_as_its_miner}
 use Rattle.run_engine.proofs.ViewLaws.{maps_correspond, simulated_so, twins_see_it}
+use Rattle.workload_program.proofs.Runnable.{load_is_runnable}
 use Rattle.run_engine.proofs.ViewPromises.{map_keeps, simulate_keeps, twin_keeps}
 
 module _ (words : List (List ℕ)) (m m' : Moment) (s : Status) (call : Call words m m' s)
@@ -85,4 +86,5 @@ laws_kept words files = record {
   simulated_views_are_views = λ ask program entries tapes more delivery asks held have.
       simulated_so ask files program entries tapes more delivery held have;
   twins_see_the_same = λ ask program first second tapes asks held alike. twins_see_it ask files program first second tapes held alike;
+  load_program_is_runnable = load_is_runnable;
 }

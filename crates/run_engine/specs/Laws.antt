@@ -14,6 +14,9 @@ use Rattle.miner_commands.specs.Premises.{HaveWords}
 use Rattle.program_commands.specs.Compile.{CodeMeansProgram}
 use Rattle.program_commands.specs.Held.{HoldsTyped}
 use Rattle.program_views.specs.TapeMaps.{IsTwin, MapsCorrespond, twinned}
+use Rattle.workload.specs.Load.{load_program}
+use Rattle.workload_program.specs.LoadTree.{load_typed}
+use Rattle.workload_program.specs.Runnable.{IsRunnable}
 use Rattle.run_engine.specs.MapPromises.{HoldsMap}
 use Rattle.run_engine.specs.Served.{ThreeServedMiners}
 use Rattle.run_engine.specs.SimulatePromises.{HoldsOfRun, IsOfRun}
@@ -47,3 +50,5 @@ pub record Laws (words : List (List ℕ)) (files : Contents) : Type 0 where
       (ask : TwinAsk) (program : TypedProgramTree) (first second : List Entry) (tapes : FourTapes) → words_of words ≡ Some (twin ask)
       → HoldsTwin ask files program first second tapes → AreTaken ask program first second tapes
       → IsTwin ask.miner program first second tapes (twinned ask.miner program first second tapes ask.budget) ask.budget
+  -- The text that every workload of `load` has is that of an accepted program within the limits, which is run as the typed tree of `loads`.
+  pub load_program_is_runnable : IsRunnable load_program load_typed
