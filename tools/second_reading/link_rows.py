@@ -341,8 +341,8 @@ def texts(*found: bytes) -> list[str]:
 
 def trio_group(rows: Rows, title: str, served: Served, setting: Setting, inputs: str, *lines: str, words: str = ""):
     rows.group(
-        title, f"call trio p.sc --input p.json --tape p.tape --to p --port 47310{words}", "file p.sc", *written(served.text.encode()), f"given {inputs}".rstrip(),
-        *tapes_file(setting), *lines,
+        title, f"call trio p.sc --input p.json --tape p.tape --to p --port 47310{words}", "file p.sc", *written(served.text.encode()),
+        f"given {inputs}".rstrip(), *tapes_file(setting), *lines,
     )
 
 

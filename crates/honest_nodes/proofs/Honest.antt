@@ -1,23 +1,20 @@
 -- A miner whose peers send all that the run of the three sends ends as evaluation does.
-use Rattle.std.proofs.Common.{◌≡◌, ◌-◌, ℕ, List, Bool, true, false, Option, Some, None, if◌then◌else◌, length, refl, sym, ap, ◌∙◌, subst}
-use Rattle.std.specs.Prelude.{nat_le, map}
+use Rattle.std.proofs.Common.{◌≡◌, ◌-◌, ℕ, List, true, Option, None, length, refl, ap, ◌∙◌, subst}
+use Rattle.std.specs.Prelude.{nat_le}
 use Rattle.sc_text.specs.declared.end.Ending.{Ending}
 use Rattle.proto_core.specs.declared.party.Number.{Number}
 use Rattle.proto_core.specs.declared.party.Number.TheVariants.{One, Two, Three}
-use Rattle.proto_core.specs.Strand.{Act, Mail, Strand, Ends, run, told_in}
+use Rattle.proto_core.specs.Strand.{Act, Mail, Strand, run, told_in}
 use Rattle.proto_core.specs.Net.{into, run_of}
 use Rattle.protocol_model.specs.Runs.{Tapes}
-use Rattle.bytecode.specs.Raw.{RawCode}
 use Rattle.typed_tree.specs.Programs.{TypedProgramTree}
 use Rattle.value_file.specs.declared.inputs.Entry.{Entry}
-use Rattle.value_file.specs.Public.{part_of}
 use Rattle.tape_file.specs.Tapes.{FourTapes}
-use Rattle.input_share.specs.Dealing.{dealt, dealt_entries}
+use Rattle.input_share.specs.Dealing.{dealt}
 use Rattle.input_share.specs.ShareFile.{MinerFile}
-use Rattle.input_share.specs.Shapes.{shapes_of}
 use Rattle.input_share.proofs.ShapeLaws.{shapes_of-dealt}
-use Rattle.language_model.specs.Effects.{Answers, Clear, World, GivenInput}
-use Rattle.language_model.specs.Reports.{Offered, Report, dealing, public_part, world_of}
+use Rattle.language_model.specs.Effects.{Answers, World, GivenInput}
+use Rattle.language_model.specs.Reports.{Offered, Report, dealing, world_of}
 use Rattle.blind_evaluation.proofs.Inputs.{same_dealing}
 use Rattle.clear_eval.specs.Offers.{offered, offered_part, offered_with}
 use Rattle.clear_eval.proofs.PublicParts.{entries_are_public}
@@ -30,7 +27,6 @@ use Rattle.program_run.specs.Inputs.{dealt_of}
 use Rattle.program_run.specs.Reports.{eval_with, lengths_of}
 use Rattle.program_run.proofs.Shared.{can_run_so, report_so}
 use Rattle.own_code.specs.OwnCode.{Ended}
-use Rattle.miner_core.specs.Meaning.{mean}
 use Rattle.miner_core.specs.Story.{strand_in}
 use Rattle.miner_runs.specs.Runs.{messages}
 use Rattle.miner_runs.specs.OwnRuns.{own_nodes, own_end, public_world, OwnRunAsReported}
@@ -40,7 +36,7 @@ use Rattle.miner_node.specs.Laws.{AreHonest}
 use Rattle.miner_node.specs.Serving.{Finished, Serving, serving}
 use Rattle.miner_node.proofs.Honest.{ends_with_honest_peers}
 use Rattle.made_miner.specs.Made.{first_story, known_text, share_world, strand_of, undealt, undealt_in, unless_undealt}
-use Rattle.node_run.specs.Nodes.{Own, end_in, ended_at, own_hello, own_serving, own_strand}
+use Rattle.node_run.specs.Nodes.{Own, ended_at, own_hello, own_serving, own_strand}
 use Rattle.honest_nodes.specs.Honest.{HasItsPart, EndsAsEvaluated, EndsWithTheRun, run_messages}
 use Rattle.honest_nodes.proofs.Digests.{sha256_length}
 

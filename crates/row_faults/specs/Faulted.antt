@@ -1,5 +1,6 @@
 -- What must come of a call of the program where one call of an object fails, by what comes of it where that call does not.
-use Rattle.std.specs.Prelude.{ℕ, ◌+◌, List, [], ◌++◌, Bool, true, false, ◌&&◌, ◌||◌, ◌==◌, nat_eq, if◌then◌else◌, length, take, drop, slice_get}
+use Rattle.std.specs.Prelude.{ℕ, ◌+◌, List, [], ◌++◌, Bool, true, false}
+use Rattle.std.specs.Prelude.{◌&&◌, ◌||◌, ◌==◌, nat_eq, if◌then◌else◌, length, take, drop, slice_get}
 use Rattle.std.specs.Prelude.{Option, None, Some, option_map, string_bytes, codes}
 use Rattle.std.specs.List.{flat_map, list_all, list_any, starts_with}
 use Rattle.std.specs.Str.{bytes_eq}
@@ -186,18 +187,25 @@ is_last Children call good found = true
 abbrev pub is_sent_extent : Object → Outcome → Outcome → ℕ → Bool
 is_sent_extent object good found peer = is_extent (done_extent object) (links_sent good.links peer) (links_sent found.links peer)
 
+-- whether that is so of each peer
+abbrev pub are_sent : Object → Outcome → Outcome → Bool
+are_sent object good found = is_sent_extent object good found 1 && is_sent_extent object good found 2 && is_sent_extent object good found 3
+
+-- whether the status, the output and the error stream, on which this line tells of the fault, are as they must be
+abbrev pub is_told_so : Object → List ℕ → Outcome → Outcome → Bool
+is_told_so object line good found =
+    found.status == fault_status object good.status
+    && is_extent (printed_extent object) (bytes_in good.out) (bytes_in found.out)
+    && is_line object line (bytes_in good.err) (bytes_in found.err)
+
 -- whether a call in which one call of an object failed came to what it must
 abbrev pub agrees_with_fault : Row → Outcome → Failing → Outcome → Bool
 agrees_with_fault row good failing found =
     let object = failing.object in
     let calls = log_in good.files in
-    found.status == fault_status object good.status
-    && is_extent (printed_extent object) (bytes_in good.out) (bytes_in found.out)
-    && is_line object (fault_line object (path_at calls failing.call)) (bytes_in good.err) (bytes_in found.err)
+    is_told_so object (fault_line object (path_at calls failing.call)) good found
     && files_fit_then row good (made_before object failing.call (length (log_in found.files)) (length calls)) found
     && is_extent (done_extent object) (file_calls_told calls) (file_calls_told (log_in found.files))
-    && is_sent_extent object good found 1
-    && is_sent_extent object good found 2
-    && is_sent_extent object good found 3
+    && are_sent object good found
     && are_answered object failing.call (calls_in good.children) (calls_in found.children)
     && is_last object failing.call good found

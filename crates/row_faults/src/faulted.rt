@@ -8,7 +8,7 @@ ghost use Rattle.row_files.specs.Calls.{calls_told};
 ghost use Rattle.row_faults.specs.Faulted.{agrees_with_fault, answered_told, are_answered, calls_made as calls_of_object, changes, done_extent};
 ghost use Rattle.row_faults.specs.Faulted.{action_word, file_call_told, file_line};
 ghost use Rattle.row_faults.specs.Faulted.{fault_line, fault_status, file_calls_told, files_fit_then, fits_then, held_at, is_changed};
-ghost use Rattle.row_faults.specs.Faulted.{is_last, is_line, is_extent, is_sent_extent, made_before, path_at, printed_extent, same_bytes};
+ghost use Rattle.row_faults.specs.Faulted.{is_last, is_line, is_extent, is_sent_extent, is_told_so, are_sent, made_before, path_at, printed_extent, same_bytes};
 
 use outside::{FileAction, FileCall, SpawnCall};
 use row_files::{Failing, Kind, Lines, Object, Outcome, Row, call_lines};
@@ -312,6 +312,46 @@ fn told(report: &mut Lines, is_so: bool, name: &str) -> bool
     is_so
 }
 
+// Whether each peer was sent what it must be.
+fn same_sent(report: &mut Lines, object: Object, good: &Outcome, found: &Outcome) -> bool
+    ensures { result ≡ are_sent object good.now found.now }
+{
+    let first = told(
+        report,
+        sent_fits(object, good, found, 1),
+        "peer 1 was sent other bytes",
+    );
+    let second = told(
+        report,
+        sent_fits(object, good, found, 2),
+        "peer 2 was sent other bytes",
+    );
+    let third = told(
+        report,
+        sent_fits(object, good, found, 3),
+        "peer 3 was sent other bytes",
+    );
+    first & second & third
+}
+
+// Whether the status and the streams are as they must be.
+fn same_streams(
+    report: &mut Lines,
+    object: Object,
+    line: &str,
+    good: &Outcome,
+    found: &Outcome,
+) -> bool
+    ensures { result ≡ is_told_so object line.now good.now found.now }
+{
+    let is_so = found.status == status_of(object, good.status);
+    let status = told(report, is_so, "another status");
+    let is_so = is_such(printed(object), good.out.bytes(), found.out.bytes());
+    let out = told(report, is_so, "another output");
+    let is_so = says(object, line.as_bytes(), good.err.bytes(), found.err.bytes());
+    status & out & told(report, is_so, "another line on the error stream")
+}
+
 /// Whether a call in which one call of an object failed, and which else is the row's, came to what it must, by what the row's call came to. Where it
 /// did not, the report says what is wrong.
 pub fn judge_fault(
@@ -332,32 +372,13 @@ pub fn judge_fault(
         good.children.calls(),
         found.children.calls(),
     )?;
-    let file_calls = same_file_calls(alloc, object, good, found)?;
+    let calls = same_file_calls(alloc, object, good, found)?;
     let mut lines = Lines::new(alloc);
-    let is_so = found.status == status_of(object, good.status);
-    let status = told(&mut lines, is_so, "another status");
-    let is_so = is_such(printed(object), good.out.bytes(), found.out.bytes());
-    let out = told(&mut lines, is_so, "another output");
-    let is_so = says(object, line.as_bytes(), good.err.bytes(), found.err.bytes());
-    let err = told(&mut lines, is_so, "another line on the error stream");
+    let streams = same_streams(&mut lines, object, line.as_str(), good, found);
     let is_so = all_fit(row, good, made(failing, good, found), found);
     let files = told(&mut lines, is_so, "another file");
-    let file_calls = told(&mut lines, file_calls, "other calls of files");
-    let first = told(
-        &mut lines,
-        sent_fits(object, good, found, 1),
-        "peer 1 was sent other bytes",
-    );
-    let second = told(
-        &mut lines,
-        sent_fits(object, good, found, 2),
-        "peer 2 was sent other bytes",
-    );
-    let third = told(
-        &mut lines,
-        sent_fits(object, good, found, 3),
-        "peer 3 was sent other bytes",
-    );
+    let calls = told(&mut lines, calls, "other calls of files");
+    let sent = same_sent(&mut lines, object, good, found);
     let children = told(&mut lines, children, "other calls of children");
     let last = told(
         &mut lines,
@@ -366,5 +387,5 @@ pub fn judge_fault(
     );
     let text = lines.whole()?;
     report.push_str(text.as_str())?;
-    Ok(status & out & err & files & file_calls & first & second & third & children & last)
+    Ok(streams & files & calls & sent & children & last)
 }

@@ -39,10 +39,10 @@ one_means i (Err spawn_err.Failed) status is = tt
 one_means i (Err spawn_err.Memory) status is = tt
 
 two_mean : (a b : Judged) (x y : Ended) → Means a x → Means b y → Means (unless_wrong a b) (x >>= λ done. y)
-two_mean (Ok done) b x y first then = rw first then
-two_mean (Err (child_err.Status i status)) b x y first then = rw first refl
-two_mean (Err child_err.Fault) b x y first then = tt
-two_mean (Err child_err.Memory) b x y first then = tt
+two_mean (Ok done) b x y first second = rw first second
+two_mean (Err (child_err.Status i status)) b x y first second = rw first refl
+two_mean (Err child_err.Fault) b x y first second = tt
+two_mean (Err child_err.Memory) b x y first second = tt
 
 with_memory : (b : Bool) (a : Judged) (x : Ended) → Means a x → Means (if b then Err child_err.Memory else a) x
 with_memory true a x means = tt

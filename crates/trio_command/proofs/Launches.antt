@@ -85,15 +85,15 @@ module _ (words : Number → List (List ℕ)) (old new : SpawnerState) where
 abbrev Calls : Type 0
 Calls = List ChildCall
 
-number_of : ChildCall → ℕ
+abbrev number_of : ChildCall → ℕ
 number_of (started words child) = child
 number_of (awaited child) = child
 
-head_number : Calls → ℕ
+abbrev head_number : Calls → ℕ
 head_number [] = 0
 head_number (call ∷ calls) = number_of call
 
-tail : Calls → Calls
+abbrev tail : Calls → Calls
 tail [] = []
 tail (call ∷ calls) = calls
 

@@ -1,4 +1,5 @@
 pub mod Ended
 pub mod Launches
 pub mod Planned
+pub mod Prepares
 pub mod Ran

@@ -19,13 +19,16 @@ use Rattle.proto_core.specs.declared.party.Number.TheVariants.{One, Two, Three}
 use Rattle.trio.specs.Answers.{TextsRead}
 use Rattle.trio.specs.Joining.{Joined}
 use Rattle.trio.specs.Launches.{Launched}
-use Rattle.trio.specs.Words.{out_path}
+use Rattle.trio.specs.Runs.{RanChildren, RanTexts}
+use Rattle.trio.specs.Words.{miner_words, out_path}
 use Rattle.trio.specs.declared.child_err.ChildErr.{ChildErr}
 use Rattle.trio.specs.declared.child_err.ChildErr.TheVariants as child_err
 use Rattle.trio.specs.declared.join_err.JoinErr.{JoinErr}
+use Rattle.trio.specs.declared.trio_err.TrioErr.{TrioErr}
+use Rattle.trio.specs.declared.trio_err.TrioErr.TheVariants as trio_err
 use Rattle.trio_command.specs.Launching.{AreStatuses}
 use Rattle.trio_command.specs.Trio.{answer_of_miners, bad_status, children_ended, text_paths, words_for}
-use Rattle.trio_command.specs.inner.Runs.{IsChildStop, MinersDecide, MinersRan, StopsMiners}
+use Rattle.trio_command.specs.inner.Runs.{IsChildStop, IsRunStop, IsTextsStop, MinersDecide, MinersRan, StopsMiners}
 use Rattle.trio_command.proofs.Ended.{launch_means}
 
 among : (ask : TrioAsk) (i : Number) → Contains (text_paths ask) (out_path ask.to i)
@@ -117,7 +120,7 @@ module _ (ask : TrioAsk) (f f' : FilesState) (c c' : SpawnerState) where
   }
 
   pub texts_failed : (err : JoinErr) (stop : Stop) → Launched c c' (words_for ask) (Ok tt) → TextsRead f f' (out_path ask.to) (Err err)
-      → IsJoinStop (out_path ask.to) err stop ⊎ (stop ≡ stops.Memory) → MinersRan ask f f' c c' (Err stop)
+      → IsTextsStop ask.to err stop → MinersRan ask f f' c c' (Err stop)
   texts_failed err stop launched read (inl for) = texts_stopped err stop launched read for
   texts_failed err stop launched read (inr memory) =
       subst (λ (s : Stop). MinersRan ask f f' c c' (Err s)) (sym memory) (texts_short err launched read)
@@ -181,3 +184,24 @@ module _ (ask : TrioAsk) (f f' : FilesState) (c c' : SpawnerState) where
   children_failed child_err.Fault stop launched same for = subst (λ (s : Stop). MinersRan ask f f' c c' (Err s)) (sym for) (faulted launched same)
   children_failed (child_err.Status i s) stop launched same for = ended_otherwise i s stop launched same for
   children_failed child_err.Memory stop launched same for = subst (λ (s : Stop). MinersRan ask f f' c c' (Err s)) (sym for) (short launched same)
+
+  -- ---- the run as a whole, where the prefix is that of the words
+
+  pub run_ended : (prefix : List ℕ) → prefix ≡ ask.to → (texts : Joined) (plan : Plan)
+      → RanChildren c c' (miner_words prefix ask.port ask.budget) (Ok texts) → RanTexts f f' (out_path prefix) (Ok texts)
+      → effect_of plan ≡ joined_effect texts → MinersRan ask f f' c c' (Ok plan)
+  run_ended prefix same texts plan launched read is =
+      texts_ran texts plan (subst (λ (p : List ℕ). Launched c c' (miner_words p ask.port ask.budget) (Ok tt)) same launched)
+      (subst (λ (p : List ℕ). TextsRead f f' (out_path p) (Ok texts)) same read) is
+
+  run_stopped : (err : TrioErr) (stop : Stop) → RanChildren c c' (words_for ask) (Err err) → RanTexts f f' (out_path ask.to) (Err err)
+      → IsRunStop ask.to err stop → MinersRan ask f f' c c' (Err stop)
+  run_stopped (trio_err.Child err) stop launched read for = children_failed err stop launched read for
+  run_stopped (trio_err.Texts err) stop launched read for = texts_failed err stop launched read for
+
+  pub run_failed : (prefix other : List ℕ) → prefix ≡ ask.to → other ≡ ask.to → (err : TrioErr) (stop : Stop)
+      → RanChildren c c' (miner_words prefix ask.port ask.budget) (Err err) → RanTexts f f' (out_path prefix) (Err err) → IsRunStop other err stop
+      → MinersRan ask f f' c c' (Err stop)
+  run_failed prefix other same too err stop launched read for =
+      run_stopped err stop (subst (λ (p : List ℕ). RanChildren c c' (miner_words p ask.port ask.budget) (Err err)) same launched)
+      (subst (λ (p : List ℕ). RanTexts f f' (out_path p) (Err err)) same read) (subst (λ (p : List ℕ). IsRunStop p err stop) too for)

@@ -39,7 +39,7 @@ pub data Prepared : Type 0 where
   dealt : List Written → Prepared
   undealt : (need have : ℕ) → Prepared
 
--- the code, and behind it the files that `deal` writes
+-- the code, and then the files that `deal` writes
 abbrev pub preparation : (code : List Written) → (prefix : List ℕ) → List Entry → FourTapes → Prepared
 preparation code prefix entries tapes =
     if nat_lt (length tapes.dealer) (need_of entries)

@@ -23,10 +23,11 @@ pub fn plan_trio<F: Files, C: Spawner>(
 ) -> Result<Plan, Stop>
     ensures { TrioPlanned (trio_ask words.now) (F.state files.old) (F.state files.new) (C.state children.old) (C.state children.new) result }
 {
-    match prepare(alloc, files, words)? {
-        Prepared::Undealt { need, have } => Ok(undealt_plan(alloc, need, have)?),
+    let prepared = prepare(alloc, files, words)?;
+    match &prepared {
+        Prepared::Undealt { need, have } => Ok(undealt_plan(alloc, *need, *have)?),
         Prepared::Dealt(writes) => {
-            write_files(alloc, files, &writes)?;
+            write_files(alloc, files, writes)?;
             run_miners(alloc, files, children, words)
         }
     }

@@ -5,17 +5,17 @@ ghost use Rattle.command_frame.specs.Reads.{Gives, OnlyRead, StopNames, StopsRea
 ghost use Rattle.command_words.specs.Views.{trio_ask};
 ghost use Rattle.program_commands.specs.Judging.{Finding, FoundAt, HasFinding, Tells, its_program};
 ghost use Rattle.program_commands.specs.Paths.{path_to};
-ghost use Rattle.trio_command.specs.Trio.{code_writes, prepared_of, trio_paths, undealt_effect};
-ghost use Rattle.trio_command.specs.inner.Views.{prepared_seen};
+ghost use Rattle.trio_command.specs.Trio.{code_writes, prepared_of, prepared_paths, trio_paths, undealt_effect};
+ghost use Rattle.trio_command.specs.inner.Views.{PreparesAmong, WritesAmong, prepared_seen};
 
 use command_frame::{Plan, PlannedWrite, Status, Stop};
 use command_words::{CompileWords, TrioWords};
-use core::mem;
 use input_share::{DealErr, deal};
 use outside::Files;
 use program_commands::{deal_writes, plan_compile, read_inputs, read_tape_file};
 use sc_text::{End, Ending, TapeOwner};
 use std::alloc::{AllocError, Global};
+use std::mem;
 
 /// What three miners run with.
 pub(crate) enum Prepared {
@@ -58,6 +58,7 @@ fn read_code<F: Files>(
     ensures found { (F.state files.old).told ≡ true → Tells (F.state files.old) result →
         HasFinding (its_program (trio_ask words.now).program) (F.state files.old).contents }
     ensures names { IfErr result (StopNames ((trio_ask words.now).program ∷ [])) }
+    ensures paths { IfOk result (λ writes. WritesAmong (path_to (trio_ask words.now).to (codes ".code") ∷ []) (writes_of writes.items)) }
 {
     let words = CompileWords {
         program: words.program.clone()?,
@@ -68,6 +69,7 @@ fn read_code<F: Files>(
 }
 
 /// Reads and checks the program, the input and the tape, and says what the miners run with.
+#[tactic(auto, unfolding(crate::specs::Trio::prepared_of, crate::specs::Trio::trio_paths), using(command_frame::proofs::Naming::names_first, command_frame::proofs::Naming::names_later))]
 pub(crate) fn prepare<F: Files>(
     alloc: Global,
     files: &mut F,
@@ -81,6 +83,7 @@ pub(crate) fn prepare<F: Files>(
     ensures found { (F.state files.old).told ≡ true → Tells (F.state files.old) result →
         HasFinding (its_program (trio_ask words.now).program) (F.state files.old).contents }
     ensures names { IfErr result (StopNames (trio_paths (trio_ask words.now))) }
+    ensures paths { IfOk result (PreparesAmong (prepared_paths (trio_ask words.now))) }
 {
     let mut writes = read_code(alloc, files, words)?;
     let inputs = read_inputs(alloc, files, &words.input)?;

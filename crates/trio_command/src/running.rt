@@ -1,13 +1,9 @@
 // The three miners, and the texts that they write.
-ghost use Rattle.std.specs.Prelude.{◌≡◌, ◌⊎◌, IfOk, string_bytes};
-ghost use Rattle.command_frame.specs.declared.stop.Stop.TheVariants.{Memory};
+ghost use Rattle.std.specs.Prelude.{◌≡◌, IfOk, string_bytes};
 ghost use Rattle.command_words.specs.Views.{trio_ask};
-ghost use Rattle.join_command.specs.Join.{IsJoinStop};
 ghost use Rattle.node_faults.specs.Faults.{node_fault_line};
 ghost use Rattle.node_faults.specs.declared.fault.NodeFault.TheVariants.{ChildStatus};
-ghost use Rattle.trio.specs.Words.{out_path};
-ghost use Rattle.trio_command.specs.Trio.{bad_status};
-ghost use Rattle.trio_command.specs.inner.Runs.{AreOutPaths, IsChildStop, MinersRan};
+ghost use Rattle.trio_command.specs.inner.Runs.{AreOutPaths, IsChildStop, IsRunStop, IsTextsStop, MinersRan};
 
 use command_frame::{Object, Plan, Status, Stop, breached};
 use command_words::TrioWords;
@@ -60,7 +56,7 @@ fn out_paths(alloc: Global, prefix: &str) -> Result<OutPaths, AllocError>
 
 // Why the texts of three miners are not put together.
 fn texts_stop(alloc: Global, prefix: &str, error: &JoinErr) -> Stop
-    ensures { IsJoinStop (out_path prefix.now) error.now result ⊎ (result ≡ Memory) }
+    ensures { IsTextsStop prefix.now error.now result }
 {
     match out_paths(alloc, prefix) {
         Ok(paths) => {
@@ -75,6 +71,16 @@ fn texts_stop(alloc: Global, prefix: &str, error: &JoinErr) -> Stop
     }
 }
 
+// Why the run of three miners gives no text.
+fn run_stop(alloc: Global, prefix: &str, error: &TrioErr) -> Stop
+    ensures { IsRunStop prefix.now error.now result }
+{
+    match error {
+        TrioErr::Child(child) => child_stop(alloc, *child),
+        TrioErr::Texts(texts) => texts_stop(alloc, prefix, texts),
+    }
+}
+
 /// Starts the three miners, waits for each, and says what is to be printed: the texts that they wrote, put together.
 pub(crate) fn run_miners<F: Files, C: Spawner>(
     alloc: Global,
@@ -86,7 +92,6 @@ pub(crate) fn run_miners<F: Files, C: Spawner>(
 {
     match run(alloc, &words.to, words.port, words.budget, files, children) {
         Ok(joined) => Ok(joined_plan(alloc, joined)),
-        Err(TrioErr::Child(error)) => Err(child_stop(alloc, error)),
-        Err(TrioErr::Texts(error)) => Err(texts_stop(alloc, &words.to, &error)),
+        Err(error) => Err(run_stop(alloc, &words.to, &error)),
     }
 }

@@ -1,6 +1,6 @@
 -- Cited by private functions alone: no contract of another crate rests on it.
 -- What comes of three miners that are started.
-use Rattle.std.specs.Prelude.{◌≡◌, ℕ, ℤ, List, [], true, Result, Ok, Err, IfOk, IfErr, string_bytes}
+use Rattle.std.specs.Prelude.{◌≡◌, ◌⊎◌, ℕ, ℤ, List, [], true, Result, Ok, Err, IfOk, IfErr, string_bytes}
 use Rattle.outside.specs.Causes.{Rose}
 use Rattle.outside.specs.Files.{FilesState, OnlyRead}
 use Rattle.outside.specs.Spawner.{SpawnerState}
@@ -16,12 +16,16 @@ use Rattle.command_frame.specs.Reads.{StopNames}
 use Rattle.command_frame.specs.Status.{of_texts}
 use Rattle.command_frame.specs.Stops.{IsBreachFor}
 use Rattle.command_words.specs.Ask.{TrioAsk}
+use Rattle.join_command.specs.Join.{IsJoinStop}
 use Rattle.proto_core.specs.declared.party.Number.{Number}
 use Rattle.proto_core.specs.declared.party.Number.TheVariants.{One, Two, Three}
 use Rattle.trio.specs.Launches.{Launched}
 use Rattle.trio.specs.Words.{out_path}
 use Rattle.trio.specs.declared.child_err.ChildErr.{ChildErr}
 use Rattle.trio.specs.declared.child_err.ChildErr.TheVariants as child_err
+use Rattle.trio.specs.declared.join_err.JoinErr.{JoinErr}
+use Rattle.trio.specs.declared.trio_err.TrioErr.{TrioErr}
+use Rattle.trio.specs.declared.trio_err.TrioErr.TheVariants as trio_err
 use Rattle.trio_command.specs.declared.running.OutPaths.{OutPaths}
 use Rattle.trio_command.specs.Launching.{AreStatuses}
 use Rattle.trio_command.specs.Trio.{answer_of_miners, bad_status, text_paths, words_for}
@@ -31,6 +35,14 @@ abbrev pub IsChildStop : ChildErr → Stop → Type 0
 IsChildStop child_err.Fault stop = stop ≡ stops.Failed objects.Children
 IsChildStop (child_err.Status i status) stop = IsBreachFor (bad_status i status) stop
 IsChildStop child_err.Memory stop = stop ≡ stops.Memory
+
+-- the stop of one whose texts are not put together, or want of memory
+abbrev pub IsTextsStop : (prefix : List ℕ) → JoinErr → Stop → Type 0
+IsTextsStop prefix err stop = IsJoinStop (out_path prefix) err stop ⊎ (stop ≡ stops.Memory)
+
+abbrev pub IsRunStop : (prefix : List ℕ) → TrioErr → Stop → Type 0
+IsRunStop prefix (trio_err.Child err) stop = IsChildStop err stop
+IsRunStop prefix (trio_err.Texts err) stop = IsTextsStop prefix err stop
 
 pub record AreOutPaths (prefix : List ℕ) (paths : OutPaths) : Type 0 where
   pub first : string_bytes paths.first ≡ out_path prefix One
