@@ -14,6 +14,9 @@ use Rattle.command_frame.proofs.Naming.{names_among}
 use Rattle.command_words.specs.Ask.{TrioAsk}
 use Rattle.input_share.specs.Dealing.{need_of}
 use Rattle.input_share.specs.Dealing.{dealt as dealt_file}
+use Rattle.input_share.specs.Refusal.{Refuses}
+use Rattle.input_share.specs.declared.dealing.DealErr.{DealErr}
+use Rattle.input_share.specs.declared.dealing.DealErr.TheVariants as refusals
 use Rattle.input_share.specs.ShareFile.{MinerFile}
 use Rattle.input_share.specs.Written.{file_bytes}
 use Rattle.proto_core.specs.declared.party.Number.TheVariants.{One, Two, Three}
@@ -59,6 +62,11 @@ module _ (ask : TrioAsk) (found : Finding) (files : Contents) (code : List Writt
       → prepared_of found ask files ≡ Ok (undealt need have)
   unfolding prepared_of
   undealt_so need have lt n h = rw (one, two, three, few (length tapes.dealer) (need_of entries) lt, n, h) refl
+
+-- what is told of a dealer's tape that is too short
+pub short_refused : (needed had need have : ℕ) (err : DealErr) → err ≡ refusals.TapeShort need have → Refuses needed had err
+    → (had < needed) × (need ≡ needed) × (have ≡ had)
+short_refused needed had need have err is refuses = subst (Refuses needed had) is refuses
 
 -- the files of a dealing from these words are those that `deal` writes
 pub dealing_is : (prefix : List ℕ) (entries : List Entry) (tapes : FourTapes) (words lens : List ℕ) (first second third : MinerFile) → words ≡ tapes.dealer

@@ -1,11 +1,12 @@
-use Rattle.std.proofs.Common.{◌≡◌, ◌<◌, ◌≤◌, ℕ, List, length, subst, ◌∙◌}
+use Rattle.std.proofs.Common.{◌≡◌, ◌<◌, ◌≤◌, ℕ, List, Ok, ap₂, length, subst, sym, ◌∙◌}
 use Rattle.command_frame.specs.Answer.{writes_of}
 use Rattle.command_words.specs.Views.{trio_ask}
 use Rattle.input_share.specs.Dealing.{need_of}
 use Rattle.program_commands.specs.Deal.{deal_writes}
 use Rattle.program_commands.specs.Reading.{inputs_at, tape_file_at}
 use Rattle.program_commands.proofs.Still.{read_still, still, still_later}
-use Rattle.trio_command.proofs.Prepares.{all_among, dealing_is, dealt_so, undealt_so, writes_are}
+use Rattle.trio_command.specs.Trio.{undealt}
+use Rattle.trio_command.proofs.Prepares.{all_among, dealing_is, dealt_so, short_refused, undealt_so, writes_are}
 use Rattle.trio_command.proofs.preparing.prepare.Goals as goal
 
 pub returns-in-Ok-clause-answer : goal.returns-in-Ok-clause-answer
@@ -51,10 +52,12 @@ returns-in-Err-TapeShort-clause-answer g c = λ found h t.
     let s2 = still_later f f1 f2 s1 c.in_ok-inputs.ensures.files in
     let entries = c.in_ok-inputs.inputs in
     let tapes = c.in_ok-tapes.tapes in
-    let short : (length c.dealer.result.now < need_of entries) × (c.in-Err-TapeShort.need ≡ need_of entries)
-    × (c.in-Err-TapeShort.have ≡ length c.dealer.result.now) = c.in-Err-TapeShort.ensures.short in
+    let refusal = c.in-Err-TapeShort in
+    let short = short_refused (need_of entries) (length c.dealer.result.now) refusal.need refusal.have refusal.field-0 refusal.field-0-is
+    refusal.ensures.short in
     undealt_so ask found f.contents (writes_of c.in_ok-writes.writes.items) entries tapes (c.in_ok-writes.ensures.answer found h t)
     (read_still inputs_at f f1 s1 c.deref.result.now ask.input c.deref.ensures entries c.in_ok-inputs.ensures.answer t)
     (read_still tape_file_at f f2 s2 c.deref-2.result.now ask.tape c.deref-2.ensures tapes c.in_ok-tapes.ensures.answer t)
     c.in-Err-TapeShort.need c.in-Err-TapeShort.have (subst (λ (ws : List ℕ). length ws < need_of entries) c.dealer.ensures short.0) short.1
     (subst (λ (ws : List ℕ). c.in-Err-TapeShort.have ≡ length ws) c.dealer.ensures short.2)
+    ∙ ap₂ (λ (need have : ℕ). Ok (undealt need have)) (sym refusal.need-is) (sym refusal.have-is)
