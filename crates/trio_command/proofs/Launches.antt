@@ -1,16 +1,14 @@
 -- Children that were started and waited for.
-use Rattle.std.proofs.Common.{◌≡◌, ◌<◌, ◌++◌, ℕ, ℤ, List, [], ◌∷◌, Bool, true, false, Result, Ok, Err, if◌then◌else◌, length, arith, refl, ap, sym, ◌∙◌, subst}
+use Rattle.std.proofs.Common.{◌≡◌, ◌<◌, ◌++◌, ℕ, ℤ, List, [], ◌∷◌, Bool, true, false, Result, Ok, Err, if◌then◌else◌, length, arith, refl, ap, sym, ◌∙◌}
 use Rattle.std.proofs.Common.{inl, inr}
 use Rattle.std.proofs.lemmas.List.{append_cancel_left, append-nil}
 use Rattle.std.specs.Prelude.{◌||◌}
 use Rattle.outside.specs.Spawner.{ChildCall, SpawnerState, awaited, started}
 use Rattle.outside.specs.declared.error.SpawnErr.{SpawnErr}
-use Rattle.outside.specs.declared.error.SpawnErr.TheVariants as spawn_err
 use Rattle.proto_core.specs.declared.party.Number.{Number}
 use Rattle.proto_core.specs.declared.party.Number.TheVariants.{One, Two, Three}
-use Rattle.trio.specs.Children.{all_answers, child_answer, fault_in, is_end_status, lacked_memory, unless_wrong}
+use Rattle.trio.specs.Children.{all_answers, child_answer, lacked_memory, unless_wrong}
 use Rattle.trio.specs.Launches.{Awaited, Halted, IsTold, Launch, Launched, answer_to, calls_of, of_all, starts, wait_of}
-use Rattle.trio.specs.declared.child_err.ChildErr.{ChildErr}
 use Rattle.trio.specs.declared.child_err.ChildErr.TheVariants as child_err
 use Rattle.trio_command.specs.Launching.{AreRun, AreStatuses, MayLaunch}
 use Rattle.trio_command.proofs.Ended.{Judged}

@@ -2,34 +2,29 @@
 --
 -- f and c are the files and the children before the command; g are the files when all is read, h when those for the miners are written, and f' and c'
 -- what there is when the miners have ended.
-use Rattle.std.proofs.Common.{◌≡◌, ◌≢◌, ◌⊎◌, ◌++◌, ◌≤◌, ℕ, ℤ, List, [], ◌∷◌, true, Result, Ok, Err, refl, ap, sym, ◌∙◌, subst, inl, inr, arith, Contains}
+use Rattle.std.proofs.Common.{◌≡◌, ◌++◌, ◌≤◌, ℕ, List, [], ◌∷◌, true, Result, Ok, Err, refl, ap, sym, ◌∙◌, subst, inl, inr, arith, Contains}
 use Rattle.std.proofs.Common.{string_bytes}
-use Rattle.std.specs.Prelude.{IfErr, IfOk, OnOk}
+use Rattle.std.specs.Prelude.{IfErr, IfOk}
 use Rattle.std.proofs.lemmas.List.{append_assoc}
-use Rattle.outside.specs.Causes.{Rose}
 use Rattle.outside.specs.Files.{Contents, FilesState, OnlyRead, file_at}
 use Rattle.outside.specs.Links.{LinksState}
 use Rattle.outside.specs.Spawner.{SpawnerState}
-use Rattle.sc_text.specs.Fault.{file_line}
-use Rattle.command_frame.specs.declared.object.Object.{Object}
 use Rattle.command_frame.specs.declared.object.Object.TheVariants as objects
 use Rattle.command_frame.specs.declared.plan.Plan.{Plan}
-use Rattle.command_frame.specs.declared.status.Status.TheVariants.{File}
 use Rattle.command_frame.specs.declared.stop.Stop.{Stop}
 use Rattle.command_frame.specs.declared.stop.Stop.TheVariants as stops
-use Rattle.command_frame.specs.Answer.{Answer, Cause, Course, Effect, Written, after_writes, at_once, decided_writes, effect_of, paths_in, writes_in, writes_of}
+use Rattle.command_frame.specs.Answer.{Answer, Cause, Course, Effect, Written, after_writes, decided_writes, effect_of, paths_in, writes_in, writes_of}
 use Rattle.command_frame.specs.Decides.{AfterWrites, Decides, RefusesFor, StopsDeciding, StopsDecidingAnyhow}
 use Rattle.command_frame.specs.Finish.{BreaksOff, OnlyAmong, StopsMidway, StopsWriting, WriteFaulted, WroteAll}
-use Rattle.command_frame.specs.Moments.{AreTold, Sources}
-use Rattle.command_frame.specs.Reads.{IsLineOf, PlanNames, StopNames, Stops, StopsReading}
+use Rattle.command_frame.specs.Moments.{Sources}
+use Rattle.command_frame.specs.Reads.{PlanNames, StopNames, Stops, StopsReading}
 use Rattle.command_frame.specs.Whole.{FileFaulted, StopsAtFile}
 use Rattle.command_frame.proofs.Deciding.{nothing_written, reading_anyhow, reading_stops}
 use Rattle.command_frame.proofs.Finishing.{midway_among}
 use Rattle.command_words.specs.Ask.{TrioAsk}
-use Rattle.program_commands.specs.Judging.{Finding, FoundAt, HasFinding, StopTells, Tells, its_program}
-use Rattle.proto_core.specs.declared.party.Number.{Number}
+use Rattle.program_commands.specs.Judging.{Finding, FoundAt, HasFinding, StopTells, its_program}
 use Rattle.trio_command.specs.Deciding.{IsCourse, TrioPlanned, all_paths, sources_with, trio_reach}
-use Rattle.trio_command.specs.Launching.{AreRun, AreStatuses, LaunchesFor, MayLaunch}
+use Rattle.trio_command.specs.Launching.{LaunchesFor}
 use Rattle.trio_command.specs.Trio.{Prepared, answer_of_miners, course_of, dealt, prepared_of, prepared_paths, text_paths, trio_of, trio_paths, undealt}
 use Rattle.trio_command.specs.Trio.{undealt_effect, words_for}
 use Rattle.trio_command.specs.inner.Runs.{MinersDecide, MinersRan, StopsMiners, WereLaunched}

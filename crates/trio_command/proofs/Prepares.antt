@@ -1,14 +1,15 @@
 -- What the miners run with, read by read.
-use Rattle.std.proofs.Common.{◌≡◌, ◌⊎◌, ◌++◌, ◌≤◌, ◌<◌, ℕ, List, [], ◌∷◌, true, false, Result, Ok, Err, length, refl, ap, sym, ◌∙◌, subst, inl, inr, arith, Contains, codes}
+use Rattle.std.proofs.Common.{◌≡◌, ◌⊎◌, ◌++◌, ◌≤◌, ◌<◌, ℕ, List, [], ◌∷◌, true, false, Result, Ok, Err, length, refl, ap, sym, ◌∙◌, subst, inl, inr}
+use Rattle.std.proofs.Common.{arith, Contains, codes}
 use Rattle.std.proofs.lemmas.Bool.Decides.{nat_tests}
 use Rattle.std.proofs.lemmas.List.{map-append}
 use Rattle.std.proofs.lemmas.List.Elements.{Contains-append_cases, Contains-append_left, Contains-append_right}
 use Rattle.std.specs.Prelude.{IfErr, nat_lt}
 use Rattle.std.specs.Result.{IsErrAnd}
-use Rattle.outside.specs.Files.{Contents, FilesState}
+use Rattle.outside.specs.Files.{Contents}
 use Rattle.command_frame.specs.declared.plan.PlannedWrite.{PlannedWrite}
 use Rattle.command_frame.specs.declared.stop.Stop.{Stop}
-use Rattle.command_frame.specs.Answer.{Written, paths_in, writes_of, ◌>>=◌}
+use Rattle.command_frame.specs.Answer.{Written, paths_in, writes_of}
 use Rattle.command_frame.specs.Reads.{StopNames}
 use Rattle.command_frame.proofs.Naming.{names_among}
 use Rattle.command_words.specs.Ask.{TrioAsk}

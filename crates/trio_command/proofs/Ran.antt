@@ -1,12 +1,12 @@
 -- What comes of three miners that are started, for the command.
-use Rattle.std.proofs.Common.{◌≡◌, ◌⊎◌, ℕ, ℤ, List, ◌∷◌, [], true, Result, Ok, Err, refl, ap, sym, ◌∙◌, subst, inl, inr, arith, Contains}
+use Rattle.std.proofs.Common.{◌≡◌, ℕ, ℤ, List, true, Ok, Err, refl, ap, sym, ◌∙◌, subst, inl, inr, arith, Contains}
 use Rattle.outside.specs.Files.{FilesState, OnlyRead}
 use Rattle.outside.specs.Spawner.{SpawnerState}
 use Rattle.command_frame.specs.declared.object.Object.TheVariants as objects
 use Rattle.command_frame.specs.declared.plan.Plan.{Plan}
 use Rattle.command_frame.specs.declared.stop.Stop.{Stop}
 use Rattle.command_frame.specs.declared.stop.Stop.TheVariants as stops
-use Rattle.command_frame.specs.Answer.{Answer, Cause, Effect, breach_of, effect_of, ◌>>=◌}
+use Rattle.command_frame.specs.Answer.{Answer, Cause, Effect, effect_of}
 use Rattle.command_frame.specs.Reads.{StopNames, StopsAmong, StopsReadingAmong}
 use Rattle.command_frame.specs.Status.{of_texts}
 use Rattle.command_frame.specs.Stops.{IsBreachFor}
@@ -26,7 +26,6 @@ use Rattle.trio.specs.declared.child_err.ChildErr.TheVariants as child_err
 use Rattle.trio.specs.declared.join_err.JoinErr.{JoinErr}
 use Rattle.trio.specs.declared.trio_err.TrioErr.{TrioErr}
 use Rattle.trio.specs.declared.trio_err.TrioErr.TheVariants as trio_err
-use Rattle.trio_command.specs.Launching.{AreStatuses}
 use Rattle.trio_command.specs.Trio.{answer_of_miners, bad_status, children_ended, text_paths, words_for}
 use Rattle.trio_command.specs.inner.Runs.{IsChildStop, IsRunStop, IsTextsStop, MinersDecide, MinersRan, StopsMiners}
 use Rattle.trio_command.proofs.Ended.{launch_means}
@@ -109,7 +108,8 @@ module _ (ask : TrioAsk) (f f' : FilesState) (c c' : SpawnerState) where
     nothing = tt;
   }
 
-  texts_short : (err : JoinErr) → Launched c c' (words_for ask) (Ok tt) → TextsRead f f' (out_path ask.to) (Err err) → MinersRan ask f f' c c' (Err stops.Memory)
+  texts_short : (err : JoinErr) → Launched c c' (words_for ask) (Ok tt) → TextsRead f f' (out_path ask.to) (Err err)
+      → MinersRan ask f f' c c' (Err stops.Memory)
   texts_short err launched read = record {
     read = texts_only_read f f' (out_path ask.to) (Err err) read;
     launch = record { part = Ok tt; launched = launched; ended = tt };

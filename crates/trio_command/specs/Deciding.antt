@@ -1,5 +1,5 @@
 -- What `trio` is to the frame of commands.
-use Rattle.std.specs.Prelude.{◌≡◌, ℤ, List, [], false, true, Result, IfOk, IfErr}
+use Rattle.std.specs.Prelude.{◌≡◌, ℤ, [], false, true, Result, IfOk, IfErr}
 use Rattle.outside.specs.Files.{Contents, FilesState}
 use Rattle.outside.specs.Links.{LinksState}
 use Rattle.outside.specs.Spawner.{SpawnerState}

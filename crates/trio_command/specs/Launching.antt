@@ -1,5 +1,5 @@
 -- The children that `trio` starts.
-use Rattle.std.specs.Prelude.{◌≡◌, ◌⊎◌, ℕ, ℤ, List, [], ◌∷◌, ◌++◌, Result, Ok, Err}
+use Rattle.std.specs.Prelude.{◌≡◌, ◌⊎◌, ℕ, ℤ, List, ◌++◌, Result, Ok, Err}
 use Rattle.outside.specs.Spawner.{ChildCall, SpawnerState, awaited}
 use Rattle.proto_core.specs.declared.party.Number.{Number}
 use Rattle.trio.specs.Launches.{Launched, of_all, starts}

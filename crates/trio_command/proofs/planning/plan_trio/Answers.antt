@@ -1,6 +1,6 @@
 use Rattle.std.proofs.Common.{◌≡◌, ◌∙◌, List, Ok, ap, rules, sym}
 use Rattle.command_frame.specs.declared.plan.PlannedWrite.{PlannedWrite}
-use Rattle.command_frame.specs.Answer.{Written, writes_of}
+use Rattle.command_frame.specs.Answer.{writes_of}
 use Rattle.command_words.specs.Views.{trio_ask}
 use Rattle.trio_command.specs.Deciding.{TrioPlanned}
 use Rattle.trio_command.specs.Trio.{Prepared, dealt, prepared_paths, undealt}
