@@ -31,7 +31,8 @@ use Rattle.run_engine.proofs.Tops.{no_file, no_memory}
 use Rattle.run_engine.proofs.Trios.{EndingCourse, HasCourse, IsPrepared, is_dealt, is_undealt, no_end_refused, trio_effect, trio_refused, trio_refused_by}
 
 -- a fault that has the status of a refusal is one of other programs
-fault_child : (reach : Reach) (m m' : Moment) (s : Status) → is_refusal s ≡ true → HasFailed reach m m' s → ChildrenRose reach m m'
+fault_child : (reach : Reach) (m m' : Moment) (s : Status) → is_refusal s ≡ true → HasFailed reach m m' s
+    → (s ≡ statuses.Child) × ChildrenRose reach m m'
 fault_child reach m m' statuses.Done r failed = absurd failed
 fault_child reach m m' statuses.Trap r failed = absurd failed
 fault_child reach m m' statuses.Usage r failed = absurd failed
@@ -44,7 +45,7 @@ fault_child reach m m' statuses.Tape r failed = absurd failed
 fault_child reach m m' statuses.File r failed = absurd (false≢true r)
 fault_child reach m m' statuses.Link r failed = absurd (false≢true r)
 fault_child reach m m' statuses.Peer r failed = absurd failed
-fault_child reach m m' statuses.Child r failed = failed
+fault_child reach m m' statuses.Child r failed = (refl, failed)
 fault_child reach m m' statuses.Disagree r failed = absurd failed
 fault_child reach m m' statuses.NotAlike r failed = absurd failed
 fault_child reach m m' statuses.OpenedShort r failed = absurd failed
@@ -99,7 +100,8 @@ module _ (words : List (List ℕ)) (m m' : Moment) (s : Status) (call : Call wor
       at_end effect by is (inl whole) = done_so m m' s effect by.course.first by.course.answer by.whole whole
       at_end effect by is (inr failed) = no_fault_end trio_reach m m' s (ap is_end is ∙ by.ends) failed
 
-  trio_only : is_refusal s ≡ true → is_end s ≡ false → TrioRefused ask (contents_in m) status s ⊎ ChildrenRose trio_reach m m'
+  trio_only : is_refusal s ≡ true → is_end s ≡ false
+      → TrioRefused ask (contents_in m) status s ⊎ ((s ≡ statuses.Child) × ChildrenRose trio_reach m m')
   unfolding answer_to question_of
   trio_only refusal unended =
       let (answer, a) = call.answered told.files (no_memory s refusal) (no_file s refusal) in
