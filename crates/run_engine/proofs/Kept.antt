@@ -1,12 +1,15 @@
 -- What a call keeps: the promises of each command, the headline, and the laws.
-use Rattle.std.proofs.Common.{◌≡◌, ℕ, List, true, Some, refl}
+use Rattle.std.proofs.Common.{◌≡◌, ◌⊎◌, ℕ, List, true, Some, refl}
 use Rattle.outside.specs.Files.{Contents}
 use Rattle.command_frame.specs.declared.status.Status.{Status}
+use Rattle.command_frame.specs.declared.status.Status.TheVariants.{Write}
 use Rattle.command_frame.specs.Moments.{AreTold, Moment}
 use Rattle.command_frame.specs.Reads.{BothTold}
 use Rattle.command_frame.specs.Status.{is_end}
 use Rattle.command_words.specs.Ask.{MinerAsk, TrioAsk, miner, trio, words_of}
 use Rattle.trio_command.specs.Deciding.{trio_reach}
+use Rattle.trio_command.specs.Launching.{MayLaunch}
+use Rattle.trio_command.specs.Trio.{words_for}
 use Rattle.gather_command.proofs.Refusals.{writes_one_dealing}
 use Rattle.program_commands.proofs.Accepted.{code_means}
 use Rattle.run_engine.specs.Call.{Call}
@@ -33,8 +36,9 @@ use Rattle.run_engine.proofs.ViewPromises.{map_keeps, simulate_keeps, twin_keeps
 module _ (words : List (List ℕ)) (m m' : Moment) (s : Status) (call : Call words m m' s)
     (sends : (ask : MinerAsk) → words_of words ≡ Some (miner ask) → BothTold m.sources.files m.sources.links
     → MinerSends ask (contents_in m) m.sources.links m'.sources.links s)
-    (starts : (ask : TrioAsk) → words_of words ≡ Some (trio ask) → AreTold trio_reach m.sources → is_end s ≡ true
-    → StartsMiners ask (contents_in m) m.sources.children m'.sources.children) where
+    (starts : (ask : TrioAsk) → words_of words ≡ Some (trio ask) → AreTold trio_reach m.sources
+    → (is_end s ≡ true) ⊎ (s ≡ Write) → StartsMiners ask (contents_in m) m.sources.children m'.sources.children)
+    (only : (ask : TrioAsk) → words_of words ≡ Some (trio ask) → MayLaunch (words_for ask) m.sources.children m'.sources.children) where
   pub commands_kept : Commands words m m' s
   commands_kept = record {
     checks = check_keeps words m m' s call;
@@ -53,7 +57,8 @@ module _ (words : List (List ℕ)) (m m' : Moment) (s : Status) (call : Call wor
     mines = mine_keeps words m m' s call;
     miner_sends = λ ask asks told. sends ask asks (told.files, told.links refl);
     runs_trio = λ ask asks told. trio_keeps words m m' s call ask asks told;
-    trio_starts = λ ask asks told ends. starts ask asks told ends;
+    trio_starts_miners_only = only;
+    trio_starts = starts;
   }
 
 module _ (words : List (List ℕ)) (m m' : Moment) (s : Status) (call : Call words m m' s) where

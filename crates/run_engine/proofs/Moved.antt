@@ -26,7 +26,7 @@ use Rattle.miner_command.specs.Miner.{miner_of, nothing_sent, sent_of}
 use Rattle.miner_command.specs.Playing.{SendsSo, SentAll, SentFronts}
 use Rattle.node_run.specs.Nodes.{Outgoing}
 use Rattle.run_engine.specs.MinerPromises.{MinerSends}
-use Rattle.run_engine.specs.Moves.{MinerSent, Moves}
+use Rattle.run_engine.specs.Moves.{MinerSent, Moves, RanMiners, RanThem}
 use Rattle.run_engine.specs.Promises.{is_refusal}
 use Rattle.run_engine.proofs.Mines.{refused_sends_nothing}
 
@@ -99,6 +99,28 @@ module _ (me : Number) (l l' : LinksState) (out : Outgoing) where
   sent_end e b f o o' (Err (stops.Failed objects.Links)) sent part = absurd part
   sent_end e b f o o' (Err (stops.Failed objects.Children)) sent part = absurd part
 
+-- ---- miners that were started
+
+ran_stop : (ask : TrioAsk) (s s' : Sources) (stop : Stop) → RanThem {X = Plan} ask s s' (Err stop) → RanThem {X = Status} ask s s' (Err stop)
+ran_stop ask s s' stops.Memory ran = tt
+ran_stop ask s s' stops.Usage ran = tt
+ran_stop ask s s' (stops.Refused r) ran = tt
+ran_stop ask s s' (stops.Breached b) ran = tt
+ran_stop ask s s' (stops.Failed object) ran = ran
+
+ran_end : (ask : TrioAsk) (a b : Sources) (f : FilesState) (r : Result Status Stop) → RanMiners ask a b → RanThem ask a (at_last b f) r
+ran_end ask a b f (Ok s) ran = ran
+ran_end ask a b f (Err stops.Memory) ran = tt
+ran_end ask a b f (Err stops.Usage) ran = tt
+ran_end ask a b f (Err (stops.Refused r)) ran = tt
+ran_end ask a b f (Err (stops.Breached x)) ran = tt
+ran_end ask a b f (Err (stops.Failed (objects.File line))) ran = tt
+ran_end ask a b f (Err (stops.Failed objects.Output)) ran = ran
+ran_end ask a b f (Err (stops.Failed objects.Links)) ran = tt
+ran_end ask a b f (Err (stops.Failed objects.Children)) ran = tt
+
+-- ---- of each command
+
 pub moves_stop : (ask : Ask) (s s' : Sources) (stop : Stop) → Moves {X = Plan} ask s s' (Err stop) → Moves {X = Status} ask s s' (Err stop)
 moves_stop (run ask) s s' stop moves = tt
 moves_stop (deal ask) s s' stop moves = tt
@@ -114,12 +136,7 @@ moves_stop (gather ask) s s' stop moves = tt
 moves_stop (join ask) s s' stop moves = tt
 moves_stop (miner ask) s s' stop moves = λ told.
     sent_stop ask.me s.links s'.links (sent_of ask s.files.contents s.links.coming) stop (moves told)
-moves_stop (trio ask) s s' stop moves = tt
-
-trio_end : (ask : TrioAsk) (a b : Sources) (f : FilesState) (plan : Plan) (r : Result Status Stop) → Moves (trio ask) a b (Ok plan)
-    → Moves (trio ask) a (at_last b f) r
-trio_end ask a b f plan (Ok s) moves = moves
-trio_end ask a b f plan (Err stop) moves = tt
+moves_stop (trio ask) s s' stop moves = (moves.0, ran_stop ask s s' stop moves.1)
 
 pub moves_end : (ask : Ask) (a b : Sources) (f : FilesState) (o o' : SinkState) (plan : Plan) (r : Result Status Stop)
     → Moves {X = Plan} ask a b (Ok plan) → Finishes (effect_of plan) b.files f o o' r → Moves {X = Status} ask a (at_last b f) r
@@ -137,7 +154,7 @@ moves_end (gather ask) a b f o o' plan r moves part = tt
 moves_end (join ask) a b f o o' plan r moves part = tt
 moves_end (miner ask) a b f o o' plan r moves part = λ told.
     sent_end ask.me a.links b.links (sent_of ask a.files.contents a.links.coming) plan b.files f o o' r (moves told) part
-moves_end (trio ask) a b f o o' plan r moves part = trio_end ask a b f plan r moves
+moves_end (trio ask) a b f o o' plan r moves part = (moves.0, ran_end ask a b f r moves.1)
 
 -- of words for which there was no memory
 pub moves_none : (ask : Ask) (s : Sources) → Moves {X = Status} ask s s (Err stops.Memory)
@@ -155,7 +172,7 @@ moves_none (gather ask) s = tt
 moves_none (join ask) s = tt
 moves_none (miner ask) s = λ told.
     none_fronts ask.me s.links s.links (sent_of ask s.files.contents s.links.coming) (same_sends_nothing ask.me s.links)
-moves_none (trio ask) s = tt
+moves_none (trio ask) s = (inl refl, tt)
 
 -- ---- told by the status
 

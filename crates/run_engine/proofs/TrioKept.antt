@@ -1,5 +1,5 @@
 -- What `trio` promises, from its courses.
-use Rattle.std.proofs.Common.{◌≡◌, ◌⊎◌, ℕ, ℤ, List, true, false, Some, Ok, Err, Result, refl, ap, subst, sym, ◌∙◌, inl, inr}
+use Rattle.std.proofs.Common.{◌≡◌, ◌⊎◌, ℕ, ℤ, List, nat_eq, true, false, Some, Ok, Err, Result, refl, ap, subst, sym, ◌∙◌, inl, inr}
 use Rattle.std.proofs.lemmas.Bool.{false≢true}
 use Rattle.command_frame.specs.declared.object.Object.TheVariants as objects
 use Rattle.command_frame.specs.declared.status.Status.{Status}
@@ -8,9 +8,9 @@ use Rattle.command_frame.specs.declared.stop.Stop.{Stop}
 use Rattle.command_frame.specs.declared.stop.Stop.TheVariants as stops
 use Rattle.command_frame.specs.Answer.{Answer, Cause, Course, Effect, Written, behind, cause_of, wholly}
 use Rattle.command_frame.specs.Moments.{AreSteady, AreTold, Moment, Reach}
-use Rattle.command_frame.specs.Status.{is_end}
+use Rattle.command_frame.specs.Status.{code_of, is_end}
 use Rattle.command_frame.specs.Whole.{Acts, CarriedOut, CarriedSo, ChildrenRose, HasFailed, IsAnswered, IsDone, status_in}
-use Rattle.command_frame.proofs.Statuses.{breach_ends, never}
+use Rattle.command_frame.proofs.Statuses.{breach_ends, clash, never, no_breach, no_refusal}
 use Rattle.command_words.specs.Ask.{TrioAsk, trio, words_of}
 use Rattle.program_commands.specs.Judging.{Finding, FoundAt, its_program}
 use Rattle.program_commands.proofs.Refusals.{status_in_answer}
@@ -20,7 +20,7 @@ use Rattle.trio_command.specs.Launching.{LaunchesFor}
 use Rattle.trio_command.specs.Trio.{Prepared, dealt, prepared_of, trio_of, undealt, words_for}
 use Rattle.run_engine.specs.Call.{Call}
 use Rattle.run_engine.specs.Commands.{statuses_in}
-use Rattle.run_engine.specs.Moves.{Moves}
+use Rattle.run_engine.specs.Moves.{RanThem}
 use Rattle.run_engine.specs.Obeying.{Acted}
 use Rattle.run_engine.specs.Promises.{Gives, is_refusal}
 use Rattle.run_engine.specs.Told.{Outside, contents_in, outside_of}
@@ -31,7 +31,8 @@ use Rattle.run_engine.proofs.Tops.{no_file, no_memory}
 use Rattle.run_engine.proofs.Trios.{EndingCourse, HasCourse, IsPrepared, is_dealt, is_undealt, no_end_refused, trio_effect, trio_refused, trio_refused_by}
 
 -- a fault that has the status of a refusal is one of other programs
-fault_child : (reach : Reach) (m m' : Moment) (s : Status) → is_refusal s ≡ true → HasFailed reach m m' s → ChildrenRose reach m m'
+fault_child : (reach : Reach) (m m' : Moment) (s : Status) → is_refusal s ≡ true → HasFailed reach m m' s
+    → (s ≡ statuses.Child) × ChildrenRose reach m m'
 fault_child reach m m' statuses.Done r failed = absurd failed
 fault_child reach m m' statuses.Trap r failed = absurd failed
 fault_child reach m m' statuses.Usage r failed = absurd failed
@@ -44,7 +45,7 @@ fault_child reach m m' statuses.Tape r failed = absurd failed
 fault_child reach m m' statuses.File r failed = absurd (false≢true r)
 fault_child reach m m' statuses.Link r failed = absurd (false≢true r)
 fault_child reach m m' statuses.Peer r failed = absurd failed
-fault_child reach m m' statuses.Child r failed = failed
+fault_child reach m m' statuses.Child r failed = (refl, failed)
 fault_child reach m m' statuses.Disagree r failed = absurd failed
 fault_child reach m m' statuses.NotAlike r failed = absurd failed
 fault_child reach m m' statuses.OpenedShort r failed = absurd failed
@@ -99,7 +100,8 @@ module _ (words : List (List ℕ)) (m m' : Moment) (s : Status) (call : Call wor
       at_end effect by is (inl whole) = done_so m m' s effect by.course.first by.course.answer by.whole whole
       at_end effect by is (inr failed) = no_fault_end trio_reach m m' s (ap is_end is ∙ by.ends) failed
 
-  trio_only : is_refusal s ≡ true → is_end s ≡ false → TrioRefused ask (contents_in m) status s ⊎ ChildrenRose trio_reach m m'
+  trio_only : is_refusal s ≡ true → is_end s ≡ false
+      → TrioRefused ask (contents_in m) status s ⊎ ((s ≡ statuses.Child) × ChildrenRose trio_reach m m')
   unfolding answer_to question_of
   trio_only refusal unended =
       let (answer, a) = call.answered told.files (no_memory s refusal) (no_file s refusal) in
@@ -131,8 +133,13 @@ module _ (words : List (List ℕ)) (m m' : Moment) (r : Result Status Stop) (did
   abbrev Launched : Result Prepared Cause → Type 0
   Launched p = LaunchesFor (words_for ask) m.sources.children m'.sources.children p
 
-  no_end_at : {X : Type 0} (w : Status) → is_end w ≡ false → is_end w ≡ true → X
-  no_end_at w other ends = never (is_end w) ends other
+  -- it has ended, or the output failed
+  abbrev Ran : Status → Type 0
+  Ran w = (is_end w ≡ true) ⊎ (w ≡ statuses.Write)
+
+  no_end_at : {X : Type 0} (w : Status) → is_end w ≡ false → nat_eq (code_of w) (code_of statuses.Write) ≡ false → Ran w → X
+  no_end_at w other away (inl ends) = never (is_end w) ends other
+  no_end_at w other away (inr is) = clash w statuses.Write away is
 
   -- a refusal has no ends_with of an end
   not_refused : {X : Type 0} (x : _) (found : Finding) → FoundAt (its_program ask.program) (contents_in m) found → r ≡ Err (stops.Refused x)
@@ -143,26 +150,32 @@ module _ (words : List (List ℕ)) (m m' : Moment) (r : Result Status Stop) (did
       let a : IsAnswer words (outside_of m.sources m'.sources) answer = is_answer words (trio ask) (outside_of m.sources m'.sources) found asks at in
       let acts = subst (λ (y : Result Status Stop). Acts (reach_in words) answer m m' (words_of words) y) is (did.acts answer a) in
       let all_told : AreTold (reach_in words) m.sources = subst (λ (y : Reach). AreTold y m.sources) (sym (reach_by words (trio ask) asks)) told in
-      no_end_at x.status (no_end_refused ask (contents_in m) ends_with found at (cause_of x) (acts.1.0 all_told).0) ends
+      never (is_end x.status) ends (no_end_refused ask (contents_in m) ends_with found at (cause_of x) (acts.1.0 all_told).0)
 
-  launches : (found : Finding) → FoundAt (its_program ask.program) (contents_in m) found → (y : Result Status Stop) → r ≡ y → is_end (status_in y) ≡ true
+  moved : (y : Result Status Stop) → r ≡ y → RanThem ask m.sources m'.sources y
+  moved y is = subst (λ (x : Result Status Stop). RanThem ask m.sources m'.sources x) is (did.moves (trio ask) asks).1
+
+  launches : (found : Finding) → FoundAt (its_program ask.program) (contents_in m) found → (y : Result Status Stop) → r ≡ y → Ran (status_in y)
       → Launched (prepared_of found ask (contents_in m))
-  launches found at (Ok s) is ends =
-      subst (λ (y : Result Status Stop). Moves (trio ask) m.sources m'.sources y) is (did.moves (trio ask) asks) found at told.files (told.children refl)
-  launches found at (Err stops.Memory) is ends = no_end_at statuses.Memory refl ends
-  launches found at (Err stops.Usage) is ends = no_end_at statuses.Usage refl ends
-  launches found at (Err (stops.Refused x)) is ends = not_refused x found at is ends
-  launches found at (Err (stops.Breached b)) is ends = breach_ends b.status b.breaches ends
-  launches found at (Err (stops.Failed (objects.File line))) is ends = no_end_at statuses.File refl ends
-  launches found at (Err (stops.Failed objects.Output)) is ends = no_end_at statuses.Write refl ends
-  launches found at (Err (stops.Failed objects.Links)) is ends = no_end_at statuses.Link refl ends
-  launches found at (Err (stops.Failed objects.Children)) is ends = no_end_at statuses.Child refl ends
+  launches found at (Ok s) is ran = moved (Ok s) is found at told.files (told.children refl)
+  launches found at (Err stops.Memory) is ran = no_end_at statuses.Memory refl refl ran
+  launches found at (Err stops.Usage) is ran = no_end_at statuses.Usage refl refl ran
+  launches found at (Err (stops.Refused x)) is (inl ends) = not_refused x found at is ends
+  launches found at (Err (stops.Refused x)) is (inr write) = no_refusal x.status statuses.Write x.refuses refl write
+  launches found at (Err (stops.Breached b)) is (inl ends) = breach_ends b.status b.breaches ends
+  launches found at (Err (stops.Breached b)) is (inr write) = no_breach b.status statuses.Write b.breaches refl write
+  launches found at (Err (stops.Failed (objects.File line))) is ran = no_end_at statuses.File refl refl ran
+  launches found at (Err (stops.Failed objects.Output)) is ran =
+      moved (Err (stops.Failed objects.Output)) is found at told.files (told.children refl)
+  launches found at (Err (stops.Failed objects.Links)) is ran = no_end_at statuses.Link refl refl ran
+  launches found at (Err (stops.Failed objects.Children)) is ran = no_end_at statuses.Child refl refl ran
 
-  prepared_so : (wanted : Result Prepared Cause) → IsPrepared ask (contents_in m) ends_with wanted → is_end (status_in r) ≡ true → Launched wanted
-  prepared_so wanted p ends = subst Launched p.is (launches p.found p.at r refl ends)
+  prepared_so : (wanted : Result Prepared Cause) → IsPrepared ask (contents_in m) ends_with wanted → Ran (status_in r) → Launched wanted
+  prepared_so wanted p ran = subst Launched p.is (launches p.found p.at r refl ran)
 
-  pub trio_started : is_end (status_in r) ≡ true → StartsMiners ask (contents_in m) m.sources.children m'.sources.children
-  trio_started ends = record {
-    dealt = λ writes d. prepared_so (Ok (dealt writes)) (is_dealt ask (contents_in m) ends_with writes d) ends;
-    undealt = λ need have u. prepared_so (Ok (undealt need have)) (is_undealt ask (contents_in m) ends_with need have u) ends;
+  pub trio_started : (is_end (status_in r) ≡ true) ⊎ (status_in r ≡ statuses.Write)
+      → StartsMiners ask (contents_in m) m.sources.children m'.sources.children
+  trio_started ran = record {
+    dealt = λ writes d. prepared_so (Ok (dealt writes)) (is_dealt ask (contents_in m) ends_with writes d) ran;
+    undealt = λ need have u. prepared_so (Ok (undealt need have)) (is_undealt ask (contents_in m) ends_with need have u) ran;
   }

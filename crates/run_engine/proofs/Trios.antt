@@ -14,7 +14,9 @@ use Rattle.reached_instances.specs.Reached.{IsReachedList}
 use Rattle.command_frame.specs.declared.plan.Plan.{Plan}
 use Rattle.command_frame.specs.declared.status.Status.{Status}
 use Rattle.command_frame.specs.declared.status.Status.TheVariants as statuses
+use Rattle.command_frame.specs.declared.object.Object.TheVariants as objects
 use Rattle.command_frame.specs.declared.stop.Stop.{Stop}
+use Rattle.command_frame.specs.declared.stop.Stop.TheVariants as stops
 use Rattle.command_frame.specs.Answer.{Answer, Cause, Course, Effect, Written, after_writes, at_once, bytes_at, missing, whole_of, ◌>>=◌}
 use Rattle.command_frame.specs.Moments.{Sources}
 use Rattle.command_frame.specs.Reads.{PlanNames}
@@ -54,7 +56,7 @@ use Rattle.trio_command.specs.Trio.{prepared_of, prepared_paths, trio_of, undeal
 use Rattle.typed_tree.specs.Programs.{TypedProgramTree}
 use Rattle.value_file.specs.declared.inputs.Entry.{Entry}
 use Rattle.value_file.specs.Input.{read_of as inputs_read_of}
-use Rattle.run_engine.specs.Moves.{Moves}
+use Rattle.run_engine.specs.Moves.{Moves, RanThem}
 use Rattle.run_engine.specs.Obeying.{CommandAnswers, Names, Planned}
 use Rattle.run_engine.specs.Promises.{is_refusal}
 use Rattle.run_engine.specs.Told.{outside_of, place_of, sources_of, statuses_since, told_of}
@@ -107,9 +109,19 @@ module _ (ask : TrioAsk) (l : LinksState) (f f' : FilesState) (c c' : SpawnerSta
     ];
   }
 
+  ran_so : (r : Result Plan Stop) → TrioPlanned ask f f' c c' r → RanThem ask s s' r
+  ran_so (Ok plan) p = λ found at t t'. p.launched found at t t'
+  ran_so (Err stops.Memory) p = tt
+  ran_so (Err stops.Usage) p = tt
+  ran_so (Err (stops.Refused x)) p = tt
+  ran_so (Err (stops.Breached b)) p = tt
+  ran_so (Err (stops.Failed (objects.File line))) p = tt
+  ran_so (Err (stops.Failed objects.Output)) p = absurd (p.anyhow l)
+  ran_so (Err (stops.Failed objects.Links)) p = tt
+  ran_so (Err (stops.Failed objects.Children)) p = tt
+
   moves_so : (r : Result Plan Stop) → TrioPlanned ask f f' c c' r → Moves (trio ask) s s' r
-  moves_so (Ok plan) p = λ found at t t'. p.launched found at t t'
-  moves_so (Err stop) p = tt
+  moves_so r p = (p.children, ran_so r p)
 
   pub trio_planned : (r : Result Plan Stop) → TrioPlanned ask f f' c c' r → Planned (trio ask) s s' r
   unfolding answer_to question_of writes_of

@@ -8,9 +8,10 @@ use Rattle.outside.specs.Sink.{SameSink}
 use Rattle.command_frame.specs.declared.status.Status.{Status}
 use Rattle.command_frame.specs.declared.status.Status.TheVariants as statuses
 use Rattle.command_frame.specs.Answer.{Course, usage}
+use Rattle.command_frame.specs.Decides.{AfterWrites, ChildrenFailed}
 use Rattle.command_frame.specs.Finish.{OnlyAmong, PutLine}
 use Rattle.command_frame.specs.Moments.{AreSteady, AreTold, Moment, Reach}
-use Rattle.command_frame.specs.Objects.{link_line, write_line}
+use Rattle.command_frame.specs.Objects.{child_line, link_line, write_line}
 use Rattle.command_frame.specs.Reads.{cut_off}
 use Rattle.command_frame.specs.Status.{can_refuse, is_end}
 use Rattle.command_frame.specs.Stops.{memory_line}
@@ -74,15 +75,25 @@ pub record Call (words : List (List ℕ)) (before after : Moment) (given : Statu
   pub write_fault_counted : given ≡ statuses.Write → OutFaulted before.out after.out
   pub write_fault_said : given ≡ statuses.Write → PutLine write_line before.err after.err
   pub write_fault_cuts_text : OfEachAnswer words before after (λ answer. given ≡ statuses.Write → CutsText (reach words before) answer before after)
-  -- The links failed, of words that reach other miners; steady ones only where the bytes of a peer end within a hello or a frame that is
-  -- awaited.
+  -- The links failed, of words that reach other miners; steady ones only where the bytes of a peer end before or within a hello or a frame that
+  -- is awaited. No file is changed but those that are written before the answer is decided, and these are written.
   pub link_fault_counted : given ≡ statuses.Link → LinksRose (reach words before) before after
   pub link_fault_said : given ≡ statuses.Link → PutLine link_line before.err after.err
   pub links_cut_off_if_steady :
       OfEachAnswer words before after (λ answer. given ≡ statuses.Link → before.sources.links.steady ≡ true → AllTold words before
       → answer.answer ≡ Err cut_off)
-  -- Memory ran out: the output is as it was, and of the files none is written, or those before one of them, or those that come before the
-  -- answer is decided; or all files are written, and the output, which had no memory itself, holds a prefix of the text.
+  pub link_fault_leaves :
+      OfEachAnswer words before after (λ answer. given ≡ statuses.Link → AllTold words before
+      → AfterWrites answer.first before.sources.files after.sources.files)
+  -- A child ended as no run does, or a miner's text is none, and the answer says so; or a child could not be started or waited for: the count of
+  -- the other programs rose, which that of steady ones doesn't, the line is on `err`, and the files are written that come before the answer
+  -- is decided, and no other.
+  pub child_fault_told :
+      OfEachAnswer words before after (λ answer. given ≡ statuses.Child → AllTold words before
+      → CarriedOut before after given answer
+      ⊎ (ChildrenFailed (reach words before) answer before.sources after.sources × PutLine child_line before.err after.err))
+  -- Memory ran out: the output is as it was, and of the files none is written, or those before one of them, which then holds any bytes, or those
+  -- that come before the answer is decided; or all files are written, and the output, which had no memory itself, holds a prefix of the text.
   pub memory_said : given ≡ statuses.Memory → PutLine memory_line before.err after.err
   pub memory_cuts_text : given ≡ statuses.Memory → PutsNothing before after ⊎ Rose before.out.shortages after.out.shortages
   pub memory_leaves : OfEachAnswer words before after (λ answer. given ≡ statuses.Memory → RunsShort (reach words before) answer before after)

@@ -2,9 +2,9 @@
 --
 -- Over steady objects that hold files as they must be its effect is there whole, or memory ran out. It is refused exactly for the first file that is
 -- there and not as it must be, or a fault is told.
-use Rattle.std.specs.Prelude.{◌≡◌, ℕ, ℤ, List, true, Some}
+use Rattle.std.specs.Prelude.{◌≡◌, ◌⊎◌, ℕ, ℤ, List, true, Some}
 use Rattle.command_frame.specs.declared.status.Status.{Status}
-use Rattle.command_frame.specs.declared.status.Status.TheVariants.{Schedule}
+use Rattle.command_frame.specs.declared.status.Status.TheVariants.{Schedule, Write}
 use Rattle.command_frame.specs.Moments.{AreTold, Moment}
 use Rattle.command_frame.specs.Status.{is_end}
 use Rattle.command_words.specs.Ask.{CheckAsk, CompileAsk, EvalAsk, RunAsk, DealAsk, MapAsk, SimulateAsk, TwinAsk, check, compile, eval, need}
@@ -19,6 +19,8 @@ use Rattle.miner_commands.specs.Load.{IsNeverRefused}
 use Rattle.proto_core.specs.declared.party.Number.{Number}
 use Rattle.run_engine.specs.MinerPromises.{MinerSends}
 use Rattle.trio_command.specs.Deciding.{trio_reach}
+use Rattle.trio_command.specs.Launching.{MayLaunch}
+use Rattle.trio_command.specs.Trio.{words_for}
 use Rattle.run_engine.specs.Headline.{ScheduleRefused}
 use Rattle.run_engine.specs.MapPromises.{MapEffect, MapRefused}
 use Rattle.run_engine.specs.Promises.{CheckEffect, CompileEffect, DealEffect, EvalEffect, RunEffect, Keeps, KeepsOf, is_done, is_refusal, LoadEffect}
@@ -108,7 +110,12 @@ pub record Commands (words : List (List ℕ)) (before after : Moment) (given : S
   pub runs_trio :
       (ask : TrioAsk) → words_of words ≡ Some (trio ask) → AreTold trio_reach before.sources
       → KeepsTrio ask (contents_in before) (statuses_in before after) before after given
-  -- Where it has ended, it has started miners 1, 2 and 3 with the words of `miner`, all before it waited for any, and waited for each; or none.
+  -- However it stops, no other program is started or waited for, or it starts miners 1, 2 and 3 in this order with the words of `miner` until a
+  -- start fails; where none fails it waits for each of them. It does nothing else with other programs.
+  pub trio_starts_miners_only :
+      (ask : TrioAsk) → words_of words ≡ Some (trio ask) → MayLaunch (words_for ask) before.sources.children after.sources.children
+  -- Where it has ended, or its output failed, it has started miners 1, 2 and 3 with the words of `miner`, all before it waited for any, and waited
+  -- for each; or none.
   pub trio_starts :
-      (ask : TrioAsk) → words_of words ≡ Some (trio ask) → AreTold trio_reach before.sources → is_end given ≡ true
+      (ask : TrioAsk) → words_of words ≡ Some (trio ask) → AreTold trio_reach before.sources → (is_end given ≡ true) ⊎ (given ≡ Write)
       → StartsMiners ask (contents_in before) before.sources.children after.sources.children

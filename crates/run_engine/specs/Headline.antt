@@ -139,7 +139,7 @@ pub record Headline (g : Given) (before after : Moment) (given : Status) : Type 
   -- no more words than these tapes have.
   pub run_ends_by_budget_and_tapes : EndsByBudgetAndTapes g.program g.entries g.tapes g.ask.budget
   -- What each miner saw is written, where it is asked for: its shares of the private inputs, the words that it drew, the messages that came
-  -- to it, in order of arrival, what was opened, and the end; and behind the views the links that were delivered.
+  -- to it, in order of arrival, what was opened, and the end; and after the views the links that were delivered.
   pub run_writes_views_and_links :
       net_given g ≡ Accepted → before.sources.files.told ≡ true → AreSteady files_alone before
       → WritesViewsAndLinks g before.sources.files.contents after.sources.files.contents given

@@ -38,7 +38,7 @@ pub record Laws (words : List (List ℕ)) (files : Contents) : Type 0 where
   pub mapped_tapes_correspond :
       (ask : MapAsk) (program : TypedProgramTree) (entries : List Entry) (tapes : FourTapes) → words_of words ≡ Some (map_tape ask)
       → HoldsMap ask files program entries tapes → MapsCorrespond ask.miner program entries tapes ask.budget
-  -- Where the files hold the public part, the opened words, also with more behind them, and the mapped tapes of a run, as `map` writes
+  -- Where the files hold the public part, the opened words, also with more after them, and the mapped tapes of a run, as `map` writes
   -- them, the words suffice for `simulate`, the delivery comes to what it comes to in the run, and the view is the one that the miner has of
   -- the run.
   pub simulated_views_are_views :

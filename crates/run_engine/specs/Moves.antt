@@ -1,5 +1,5 @@
 -- What a command sent to its peers, and which other programs it started.
-use Rattle.std.specs.Prelude.{◌≡◌, true, Result, Ok, Err, IfOk}
+use Rattle.std.specs.Prelude.{◌≡◌, true, Result, Ok, Err}
 use Rattle.outside.specs.Links.{LinksState}
 use Rattle.proto_core.specs.declared.party.Number.{Number}
 use Rattle.command_frame.specs.declared.stop.Stop.{Stop}
@@ -7,12 +7,12 @@ use Rattle.command_frame.specs.declared.stop.Stop.TheVariants as stops
 use Rattle.command_frame.specs.Moments.{Sources}
 use Rattle.command_frame.specs.Objects.{OfObject}
 use Rattle.command_frame.specs.Reads.{BothTold}
-use Rattle.command_words.specs.Ask.{Ask, miner, trio}
+use Rattle.command_words.specs.Ask.{Ask, TrioAsk, miner, trio}
 use Rattle.miner_command.specs.Miner.{sent_of}
 use Rattle.miner_command.specs.Playing.{SentAll, SentFronts}
 use Rattle.node_run.specs.Nodes.{Outgoing}
 use Rattle.program_commands.specs.Judging.{Finding, FoundAt, its_program}
-use Rattle.trio_command.specs.Launching.{LaunchesFor}
+use Rattle.trio_command.specs.Launching.{LaunchesFor, MayLaunch}
 use Rattle.trio_command.specs.Trio.{prepared_of, words_for}
 
 -- where it goes on, and where files or a peer are refused, all of these bytes; else a front of them for each peer
@@ -25,11 +25,24 @@ MinerSent me old new out (Err (stops.Breached b)) = SentAll me old new out
 MinerSent me old new out (Err (stops.Failed object)) =
     OfObject (λ line. SentFronts me old new out) (SentAll me old new out) (SentFronts me old new out) ⊥ object
 
+-- miners 1, 2 and 3 were run where their files could be dealt, and no child was started where not
+abbrev pub RanMiners : TrioAsk → (s s' : Sources) → Type 0
+RanMiners ask s s' =
+    (found : Finding) → FoundAt (its_program ask.program) s.files.contents found → s.files.told ≡ true → s.children.told ≡ true
+    → LaunchesFor (words_for ask) s.children s'.children (prepared_of found ask s.files.contents)
+
+-- so it is where it has decided, also where the output failed then
+abbrev pub RanThem : {X : Type 0} → TrioAsk → (s s' : Sources) → Result X Stop → Type 0
+RanThem ask s s' (Ok x) = RanMiners ask s s'
+RanThem ask s s' (Err stops.Memory) = Unit {0}
+RanThem ask s s' (Err stops.Usage) = Unit {0}
+RanThem ask s s' (Err (stops.Refused r)) = Unit {0}
+RanThem ask s s' (Err (stops.Breached b)) = Unit {0}
+RanThem ask s s' (Err (stops.Failed object)) = OfObject (λ line. Unit {0}) (RanMiners ask s s') (Unit {0}) (Unit {0}) object
+
 -- of a command that reaches no peers and no other programs nothing is said: these are as they were
 abbrev pub Moves : {X : Type 0} → Ask → (s s' : Sources) → Result X Stop → Type 0
 Moves (miner ask) s s' r =
     BothTold s.files s.links → MinerSent ask.me s.links s'.links (sent_of ask s.files.contents s.links.coming) r
-Moves (trio ask) s s' r =
-    IfOk r (λ x. (found : Finding) → FoundAt (its_program ask.program) s.files.contents found → s.files.told ≡ true → s.children.told ≡ true
-    → LaunchesFor (words_for ask) s.children s'.children (prepared_of found ask s.files.contents))
+Moves (trio ask) s s' r = MayLaunch (words_for ask) s.children s'.children × RanThem ask s s' r
 Moves _ s s' r = Unit {0}

@@ -78,7 +78,7 @@ pub data SimulateRefused (ask : SimulateAsk) (files : Contents) (status : Status
 
 -- ---- THE SIMULATOR IS TOLD OF A RUN
 
--- the words that a run of the program opens, with more behind them
+-- the words that a run of the program opens, with more after them
 abbrev pub opened_and : SimulateAsk → TypedProgramTree → List Entry → FourTapes → (more : List ℕ) → List ℕ
 opened_and ask program entries tapes more = (run_on program entries (lengths_of tapes) ask.budget).opened ++ more
 

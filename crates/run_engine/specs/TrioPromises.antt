@@ -104,11 +104,13 @@ module _ (ask : TrioAsk) (files : Contents) (status : Number → ℤ) where
 -- what `trio` keeps, where files and children tell; a child's status is that of a refusal, too, where no child could be started or waited for
 pub record KeepsTrio (ask : TrioAsk) (files : Contents) (status : Number → ℤ) (before after : Moment) (given : Status) : Type 0 where
   pub gives : Gives trio_reach (TrioEffect ask files status) before after given
-  pub refused_only : is_refusal given ≡ true → is_end given ≡ false → TrioRefused ask files status given ⊎ ChildrenRose trio_reach before after
+  pub refused_only :
+      is_refusal given ≡ true → is_end given ≡ false
+      → TrioRefused ask files status given ⊎ ((given ≡ Child) × ChildrenRose trio_reach before after)
   pub refused_if : (wanted : Status) → TrioRefused ask files status wanted → (given ≡ wanted) ⊎ HasFailed trio_reach before after given
 
--- where it has ended, miners 1, 2 and 3 were started with the words of `miner`, all before any was waited for, and then each was waited for; where
--- nothing could be dealt, no child was started
+-- where it has ended or the output failed, miners 1, 2 and 3 were started with the words of `miner`, all before any was waited for, and then each
+-- was waited for; where nothing could be dealt, no child was started
 pub record StartsMiners (ask : TrioAsk) (files : Contents) (before after : SpawnerState) : Type 0 where
   pub dealt : (writes : List Written) → IsDealt ask files writes → AreRun (words_for ask) before after
   pub undealt : (need have : ℕ) → IsUndealt ask files need have → after ≡ before

@@ -1,6 +1,6 @@
 use Rattle.command_words.specs.Views.{texts}
 use Rattle.run_engine.proofs.Calls.{call_kept}
-use Rattle.command_words.specs.Ask.{miner}
+use Rattle.command_words.specs.Ask.{miner, trio}
 use Rattle.run_engine.proofs.Kept.{commands_kept, headline_kept, laws_kept}
 use Rattle.run_engine.proofs.Moved.{miner_sends}
 use Rattle.run_engine.proofs.TrioKept.{trio_started}
@@ -18,6 +18,7 @@ returns-clause-commands g c =
     (λ ask asks told. rw c.ended_status.ensures
     (trio_started (texts c.args.words.now) _ _ c.act-ended.result
     (c.act-ended.ensures.acted (g.E.Sink.state c.args.err.now) (g.E.Sink.state c.say.new.err)) ask asks told))
+    (λ ask asks. ((c.act-ended.ensures.acted (g.E.Sink.state c.args.err.now) (g.E.Sink.state c.say.new.err)).moves (trio ask) asks).0)
 
 pub returns-clause-headline : goal.returns-clause-headline
 returns-clause-headline g c = λ given is. headline_kept (texts c.args.words.now) _ _ _ (returns-clause-call g c) given is
