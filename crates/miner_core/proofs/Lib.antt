@@ -1,6 +1,7 @@
 pub mod Quiet
 pub mod Settled
 pub mod Turns
+pub mod Further
 pub mod Forgetting
 pub mod Begins
 pub mod Gates
