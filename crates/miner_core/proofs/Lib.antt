@@ -1,13 +1,16 @@
 pub mod Quiet
 pub mod Settled
 pub mod Turns
-pub mod Further
 pub mod Forgetting
 pub mod Begins
 pub mod Gates
 pub mod Notices
+pub mod Further
 pub mod Stories
 pub mod Stops
 pub mod Staying
+pub mod Sources
+pub mod Draws
+pub mod Streaming
 pub use Rattle.gate_node.proofs.Always
 pub use Rattle.gate_node.proofs.OwnGates

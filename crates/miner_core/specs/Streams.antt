@@ -46,6 +46,13 @@ settled (Err (error.NotAwaited l)) = Err (whole.NotAwaited l)
 settled (Err (error.BadMessage l cause)) = Err (whole.BadMessage l cause)
 settled (Err (error.Lost l)) = Err whole.Memory
 
+-- an answer of a miner that has taken a message
+abbrev pub IsOfMessage : Result Step StreamErr → Type 0
+IsOfMessage (Ok step) = Unit {0}
+IsOfMessage (Err (error.BadMessage l cause)) = Unit {0}
+IsOfMessage (Err (error.NotAwaited l)) = ⊥
+IsOfMessage (Err (error.Lost l)) = ⊥
+
 -- a source that has no words
 abbrev pub no_words : TapesState
 no_words = record { told = true; words = λ _. []; count = λ _. 0; steady = true; under = no_files; held = 0 }

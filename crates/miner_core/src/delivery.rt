@@ -5,7 +5,7 @@ ghost use Rattle.block_steps.specs.Outcomes.{mail_left};
 ghost use Rattle.miner_core.specs.Drawing.{Draws, Delivers, IsAtItsEnd};
 ghost use Rattle.miner_core.specs.Engines.{engine_left, ended_by, end_by, with_words, IsSoundAlways, Rests};
 ghost use Rattle.miner_core.specs.Story.{Story, Follows, Leads, story_of, received, start_of, IsAnswerOf};
-ghost use Rattle.miner_core.specs.Streams.{settled};
+ghost use Rattle.miner_core.specs.Streams.{settled, IsOfMessage};
 
 use crate::answer::{End, Lost, Step, StreamErr};
 use crate::engine::{At, Engine};
@@ -117,8 +117,9 @@ impl<P: Party> Engine<P> {
 
     /// What is answered, where it stands so, whatever words come.
     pub fn answer(&self, rest: Rest) -> Result<Step, StreamErr>
-        ensures { (more : List ℕ) → Rests P.me rest (with_words self.now more) →
+        ensures stands { (more : List ℕ) → Rests P.me rest (with_words self.now more) →
             IsAnswerOf (engine_left P.me (with_words self.now more)) (mail_left P.me self.now.node.links) (settled result) }
+        ensures of_message { IsOfMessage result }
     {
         match rest {
             Rest::Through => {

@@ -1,5 +1,6 @@
 // What an engine draws of its tape: the words that its gates want, and no others.
 ghost use Rattle.std.specs.Prelude.{◌≡◌, ◌≤◌, IfOk, OnOk, IfSome, IfNone};
+ghost use Rattle.proto_core.specs.Parties.{count_of};
 ghost use Rattle.outside.specs.Tapes.{TapesState};
 ghost use Rattle.gate_node.specs.declared.stand.Stand.TheVariants.{Wants};
 ghost use Rattle.miner_core.specs.Drawing.{left_for, Draws, Supplied, RunsOn, IsTooShort};
@@ -29,6 +30,21 @@ fn wanted(stand: Stand, left: u64) -> Option<u64>
     }
 }
 
+/// The number under which a source knows this miner.
+fn own_party<P: Party>() -> u8
+    ensures number { result ≡ count_of P.me }
+    ensures small { result ≤ 3 }
+{
+    P::number().as_u8()
+}
+
+/// How many words of this miner's tape a source has left.
+pub(crate) fn words_left<P: Party, T: TapeSource>(tapes: &T) -> u64
+    ensures { result ≡ left_for P.me (T.state tapes.now) }
+{
+    tapes.left(own_party::<P>())
+}
+
 impl<P: Party> Engine<P> {
     /// Draws so many words of its tape, which are supplied to its gates.
     fn draw<T: TapeSource>(&mut self, count: u64, tapes: &mut T) -> Result<(), Lost>
@@ -37,7 +53,7 @@ impl<P: Party> Engine<P> {
         ensures draws { Draws P.me (T.state tapes.old) (T.state tapes.new) result }
     {
         let mut words = vec![in self.alloc; 0u64; count as usize]?;
-        tapes.take(P::number().as_u8(), words.as_mut_slice())?;
+        tapes.take(own_party::<P>(), words.as_mut_slice())?;
         self.node.supply(&words)?;
         Ok(())
     }
@@ -51,7 +67,7 @@ impl<P: Party> Engine<P> {
     {
         loop {
             let stand = self.advance()?;
-            let left = tapes.left(P::number().as_u8());
+            let left = words_left::<P, T>(tapes);
             let Some(count) = wanted(stand, left) else {
                 return Ok(rest_at(stand));
             };

@@ -13,6 +13,7 @@ ghost use Rattle.miner_core.specs.Views.{notice_seen};
 ghost use Rattle.miner_core.specs.declared.answer.StreamErr.TheVariants as error;
 
 use crate::answer::{Lost, Step, StreamErr};
+use crate::drawing::words_left;
 use crate::engine::Engine;
 use crate::notice::Notice;
 use crate::rest::Rest;
@@ -108,7 +109,7 @@ impl<P: Party> StreamMiner<P> {
     {
         let mut engine = Engine::new(alloc, task, dealt, first, budget)?;
         let rest = engine.run_on(tapes)?;
-        let ahead = tapes.left(P::number().as_u8());
+        let ahead = words_left::<P, T>(tapes);
         Ok(StreamMiner {
             engine,
             rest,
@@ -146,7 +147,7 @@ impl<P: Party> StreamMiner<P> {
         match self.engine.deliver(link, message, tapes) {
             Ok(rest) => {
                 self.rest = rest;
-                self.ahead = tapes.left(P::number().as_u8());
+                self.ahead = words_left::<P, T>(tapes);
                 self.engine.answer(rest)
             }
             Err(lost) => {
