@@ -80,7 +80,7 @@ drawn_same i a b h = record { taken = []; drew = drew_same a b (count_of i) h }
 
 -- ---- what is lost in a later call
 
-rose_on : (a b c : ℕ) → a ≤ b → Rose b c → Rose a c
+pub rose_on : (a b c : ℕ) → a ≤ b → Rose b c → Rose a c
 rose_on a b c later rose = omega (arith, later, rose)
 
 module _ (i : Number) (a b c : TapesState) (first : HasDrawn i a b) (still : a.steady ≡ true → b.steady ≡ true) where

@@ -1,8 +1,13 @@
 -- Counts of faults over several calls.
-use Rattle.std.proofs.Common.{◌≤◌, ℕ, ◌∙◌, refl, arith, le_refl}
+use Rattle.std.proofs.Common.{◌≤◌, ℕ, List, ◌∙◌, refl, arith, le_refl}
 use Rattle.outside.specs.Causes.{Rose}
 use Rattle.outside.specs.Links.{LinksState}
+use Rattle.proto_core.specs.declared.party.Number.{Number}
+use Rattle.miner_node.specs.declared.node_err.NodeErr.{NodeErr}
+use Rattle.miner_node.specs.declared.node_err.NodeErr.TheVariants as stop
 use Rattle.miner_node.specs.Faults.{IsFault, IsLater}
+use Rattle.miner_node.specs.Serving.{Outcome}
+use Rattle.miner_node.specs.Answers.{IsStop, IsStopAlong}
 
 pub rose_from : (a b c : ℕ) → a ≤ b → Rose b c → Rose a c
 rose_from a b c le h = omega arith
@@ -26,3 +31,14 @@ fault_on {a} {b} {c} p h so =
 
 pub fault_so : {a b : LinksState} {E F : Type 0} → IsFault a b E → (E → F) → IsFault a b F
 fault_so h so = record { rose = h.rose; steady = λ st. so (h.steady st) }
+
+-- of links alone it is the same
+pub stops_along :
+    (i : Number) (a b : LinksState) (outcome : Outcome) (next previous : List ℕ) (e : NodeErr) → IsStop i a b outcome next previous e →
+    IsStopAlong i a b outcome next previous e
+stops_along i a b outcome next previous stop.LinkFault h = h
+stops_along i a b outcome next previous (stop.PeerMismatch field mine theirs) h = h
+stops_along i a b outcome next previous (stop.BadFrame place) h = h
+stops_along i a b outcome next previous (stop.BadMessage link cause) h = h
+stops_along i a b outcome next previous stop.TapeFault h = absurd h
+stops_along i a b outcome next previous stop.Memory h = h

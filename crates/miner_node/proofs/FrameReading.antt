@@ -21,6 +21,7 @@ module _ (a b : LinksState) (peer : ℕ) where
   unread_header n is (stop.PeerMismatch field mine theirs) h = absurd h
   unread_header n is (stop.BadFrame place) h = absurd h
   unread_header n is (stop.BadMessage link cause) h = absurd h
+  unread_header n is stop.TapeFault h = absurd h
   unread_header n is stop.Memory h = absurd h
 
 module _ (a b : LinksState) (peer : ℕ) (head : List ℕ) (five : length head ≡ 5) (came : Came a b peer head) where
@@ -38,6 +39,7 @@ module _ (a b : LinksState) (peer : ℕ) (head : List ℕ) (five : length head �
     unread_words n size (stop.PeerMismatch field mine theirs) h = absurd h
     unread_words n size (stop.BadFrame place) h = absurd h
     unread_words n size (stop.BadMessage link cause) h = absurd h
+    unread_words n size stop.TapeFault h = absurd h
     unread_words n size stop.Memory h = absurd h
 
     -- the words came

@@ -41,6 +41,7 @@ module _ (hello : Hello) (peer : Number) (a b : LinksState) where
   unheard n is (stop.PeerMismatch field mine theirs) h = absurd h
   unheard n is (stop.BadFrame place) h = absurd h
   unheard n is (stop.BadMessage link cause) h = absurd h
+  unheard n is stop.TapeFault h = absurd h
   unheard n is stop.Memory h = absurd h
 
   module _ (bytes : List ℕ) (size : length bytes ≡ 68) (came : Came a b (count_of peer) bytes) where
@@ -176,6 +177,7 @@ module _ (i : Number) (a c d : LinksState) (outcome : Outcome) (next previous : 
   unsent_stops (stop.PeerMismatch field mine theirs) h = absurd h
   unsent_stops (stop.BadFrame place) h = absurd h
   unsent_stops (stop.BadMessage link cause) h = absurd h
+  unsent_stops stop.TapeFault h = absurd h
   unsent_stops stop.Memory h = fronts
 
 module _ (i : Number) (hello : Hello) (s : Strand Ended) (a c d : LinksState) (later : IsLater a c) where
@@ -218,6 +220,7 @@ module _ (i : Number) (hello : Hello) (s : Strand Ended) (a c d : LinksState) (l
     unheard_stops (stop.PeerMismatch field mine theirs) h = λ t. exactly t (Mismatch field mine theirs) (h (later.told ∙ t))
     unheard_stops (stop.BadFrame place) h = λ t. exactly t (NoFrame place) (h (later.told ∙ t))
     unheard_stops (stop.BadMessage link cause) h = absurd h
+    unheard_stops stop.TapeFault h = absurd h
     unheard_stops stop.Memory h = absurd h
 
 -- ---- BOTH HELLOS

@@ -28,7 +28,7 @@ use Rattle.miner_node.specs.Serving.{bytes_to_next, bytes_to_previous}
 use Rattle.miner_node.specs.Answers.{HasGreeted, Greets, IsUnread, ReadsMessage}
 use Rattle.miner_node.specs.Turns.{SendsNew, IsAtEase, Delivers, IsUndelivered, TakesMessage, IsServing, HasFinished, Finishes, StopsServing, TurnGoes, TurnAnswers, EndsTurns}
 use Rattle.miner_node.specs.Serves.{IsRefusedSo, DeliversOne, HasServed, HasStopped, Exchanges}
-use Rattle.miner_node.proofs.Faulting.{later_self, later_on, fault_on}
+use Rattle.miner_node.proofs.Faulting.{later_self, later_on, fault_on, stops_along}
 use Rattle.miner_node.proofs.Turning.{fronts_before, unsent_turn, sent_now, read_now, later_now, fronts_now, finishes, serves_on, undelivered}
 
 -- ---- A DELIVERY
@@ -56,6 +56,7 @@ module _ (i : Number) (link : Link) (own : receiver_of link ≡ i) (s : Story) (
   unread_is (stop.PeerMismatch field mine theirs) h = absurd h
   unread_is (stop.BadFrame place) h = record { own = own; malformed = h }
   unread_is (stop.BadMessage at cause) h = absurd h
+  unread_is stop.TapeFault h = absurd h
   unread_is stop.Memory h = absurd h
 
   pub untaken : {T : Type 0} (e : NodeErr) → ReadsMessage c d (count_of (sender_of link)) (Err e) → TakesMessage i link s s c d {T = T} (Err e)
@@ -70,6 +71,7 @@ module _ (i : Number) (link : Link) (own : receiver_of link ≡ i) (s : Story) (
     refused_so (stop.PeerMismatch field mine theirs) g = absurd g
     refused_so (stop.BadFrame place) g = absurd g
     refused_so (stop.BadMessage at cause) g = record { delivered = delivers g.0; refuses = g.1 }
+    refused_so stop.TapeFault g = tt
     refused_so stop.Memory g = tt
 
     pub takes : {T : Type 0} (result : Result T NodeErr) → DeliversOne i s s2 link m result → TakesMessage i link s s2 c d result
@@ -196,6 +198,7 @@ module _ (i : Number) (hello : Hello) (a b c : LinksState) (first s : Story) (gr
       λ t. let g = h (later.told ∙ t) in (ap (λ r. r.outcome) (same t) ∙ g.0, sends_behind t g.1)
   stops_behind (stop.BadMessage at cause) h =
       λ t. let g = h (later.told ∙ t) in (ap (λ r. r.outcome) (same t) ∙ g.0, sends_behind t g.1)
+  stops_behind stop.TapeFault h = λ t. fronts_behind t (h (later.told ∙ t))
   stops_behind stop.Memory h = λ t. fronts_behind t (h (later.told ∙ t))
 
   finished_behind : (ending : Ending) → Finishes i b c first s ending → HasServed i hello a c first s ending
@@ -216,7 +219,13 @@ module _ (i : Number) (hello : Hello) (a b c : LinksState) (first s : Story) (gr
 
 module _ (i : Number) (hello : Hello) (a b : LinksState) (first s : Story) where
   pub ungreeted : {T : Type 0} (e : NodeErr) → Greets i hello a b {T = T} (Err e) → Exchanges i hello a b first s (Err e)
-  ungreeted e h = record { ok = tt; err = h.err (strand_in i first); later = h.later }
+  ungreeted e h =
+      let r = serving i hello (strand_in i first) a.coming in
+      record {
+        ok = tt;
+        err = stops_along i a b r.outcome (bytes_to_next i hello r.acts) (bytes_to_previous i hello r.acts) e (h.err (strand_in i first));
+        later = h.later;
+      }
 
   pub exchanged : {T : Type 0} (u : T) → Greets i hello a b {T = T} (Ok u) → (c : LinksState) (result : Result Ending NodeErr)
       → EndsTurns i b c first s result → Exchanges i hello a c first s result

@@ -48,6 +48,7 @@ unsent_on a b c p stop.LinkFault h = fault_on p h (λ none. none)
 unsent_on a b c p (stop.PeerMismatch field mine theirs) h = absurd h
 unsent_on a b c p (stop.BadFrame place) h = absurd h
 unsent_on a b c p (stop.BadMessage link cause) h = absurd h
+unsent_on a b c p stop.TapeFault h = absurd h
 unsent_on a b c p stop.Memory h = tt
 
 -- ---- TO ONE PEER

@@ -33,6 +33,7 @@ use Rattle.miner_node.specs.Peers.{coming_to, Sends, SendsFronts}
 use Rattle.miner_node.specs.Serving.{Refused, Serving, outcome_at, serving_messages, frames, frames_to_next, frames_to_previous}
 use Rattle.miner_node.specs.Turns.{SendsNew, IsAtEase, Delivers, IsUndelivered, SameTask, IsServing, Finishes, StopsServing}
 use Rattle.miner_node.proofs.Faulting.{later_on, fault_on}
+use Rattle.miner_node.proofs.Faulting.{stops_along}
 use Rattle.miner_node.proofs.Greetings.{unsent_stops}
 use Rattle.miner_node.proofs.SentFrames.{begins_frames, front_frames}
 
@@ -216,8 +217,9 @@ module _ (i : Number) (a : LinksState) (first : Story) where
   module _ (b c : LinksState) (s : Story) (counts after : SentCounts) (at : IsServing i a b first s counts) where
     pub unsent_turn : {T : Type 0} (e : NodeErr) → SendsNew {T = T} i s counts after b c (Err e) → StopsServing i a c first e
     unsent_turn e h =
-        unsent_stops i a b c r.outcome (frames_to_next i r.acts) (frames_to_previous i r.acts) at.later
-        (λ t. fronts_so_far s at.task (coming_to i b.coming) (at.read t) c.sent (h.front (at.later.told ∙ t) a.sent (at.sent t))) e h.err
+        stops_along i a c r.outcome (frames_to_next i r.acts) (frames_to_previous i r.acts) e
+        (unsent_stops i a b c r.outcome (frames_to_next i r.acts) (frames_to_previous i r.acts) at.later
+        (λ t. fronts_so_far s at.task (coming_to i b.coming) (at.read t) c.sent (h.front (at.later.told ∙ t) a.sent (at.sent t))) e h.err)
 
     module _ {T : Type 0} (x : T) (h : SendsNew {T = T} i s counts after b c (Ok x)) where
       pub sent_now : a.told ≡ true → Sends i a.sent c.sent (frames (sent_to_next i s)) (frames (sent_to_previous i s))
@@ -352,4 +354,5 @@ module _ (i : Number) (a : LinksState) (first : Story) where
       undelivered s2 (stop.BadFrame place) h =
           λ t. stopped (AtMalformed link place) t (on (Malformed place) (comes h.own (Malformed place) (h.malformed (later.told ∙ t))) t)
       undelivered s2 (stop.BadMessage at cause) h = refused s2 h.delivered at cause h.refuses
+      undelivered s2 stop.TapeFault h = fronts_now
       undelivered s2 stop.Memory h = fronts_now

@@ -10,7 +10,7 @@ use Rattle.wire.specs.declared.fields.Hello.{Hello}
 use Rattle.wire.specs.Frames.{framed}
 use Rattle.wire.specs.Hellos.{hello_bytes}
 use Rattle.miner_node.specs.declared.node_err.NodeErr.{NodeErr}
-use Rattle.miner_node.specs.declared.node_err.NodeErr.TheVariants.{LinkFault, PeerMismatch, BadFrame, BadMessage, Memory}
+use Rattle.miner_node.specs.declared.node_err.NodeErr.TheVariants.{LinkFault, PeerMismatch, BadFrame, BadMessage, TapeFault, Memory}
 use Rattle.miner_node.specs.Faults.{IsFault, IsLater}
 use Rattle.miner_node.specs.Peers.{Sends, SendsFronts}
 use Rattle.miner_node.specs.Serving.{Outcome, Mismatch, NoFrame, Refused, CutOff, Agreed, Stops, hello_to, heard, greeting}
@@ -26,7 +26,17 @@ module _ (i : Number) (old new : LinksState) (outcome : Outcome) (next previous 
   IsStop (PeerMismatch field mine theirs) = old.told ≡ true → (outcome ≡ Mismatch field mine theirs) × Sends i old.sent new.sent next previous
   IsStop (BadFrame place) = old.told ≡ true → (outcome ≡ NoFrame place) × Sends i old.sent new.sent next previous
   IsStop (BadMessage link cause) = old.told ≡ true → (outcome ≡ Refused link cause) × Sends i old.sent new.sent next previous
+  IsStop TapeFault = ⊥
   IsStop Memory = old.told ≡ true → SendsFronts i old.sent new.sent next previous
+
+  -- the same where its tape may have failed: then a front for each was sent, too
+  abbrev pub IsStopAlong : NodeErr → Type 0
+  IsStopAlong LinkFault = IsStop LinkFault
+  IsStopAlong (PeerMismatch field mine theirs) = IsStop (PeerMismatch field mine theirs)
+  IsStopAlong (BadFrame place) = IsStop (BadFrame place)
+  IsStopAlong (BadMessage link cause) = IsStop (BadMessage link cause)
+  IsStopAlong TapeFault = old.told ≡ true → SendsFronts i old.sent new.sent next previous
+  IsStopAlong Memory = IsStop Memory
 
 -- ---- hellos
 
@@ -36,6 +46,7 @@ module _ (hello : Hello) (peer : Number) (old new : LinksState) where
   IsUnheard (PeerMismatch field mine theirs) = old.told ≡ true → heard hello peer old.coming ≡ Stops (Mismatch field mine theirs)
   IsUnheard (BadFrame place) = old.told ≡ true → heard hello peer old.coming ≡ Stops (NoFrame place)
   IsUnheard (BadMessage link cause) = ⊥
+  IsUnheard TapeFault = ⊥
   IsUnheard Memory = ⊥
 
   -- a peer's hello is read, and is the one that it has to send
@@ -74,6 +85,7 @@ module _ (old new : LinksState) (peer : ℕ) where
   IsUnread (PeerMismatch field mine theirs) = ⊥
   IsUnread (BadFrame place) = old.told ≡ true → framed (old.coming peer) ≡ Malformed place
   IsUnread (BadMessage link cause) = ⊥
+  IsUnread TapeFault = ⊥
   IsUnread Memory = ⊥
 
   -- the message of the next frame from a peer is read

@@ -5,7 +5,7 @@ use Rattle.outside.specs.declared.error.FileErr.TheVariants as file_err
 use Rattle.outside.specs.Causes.{Rose}
 use Rattle.outside.specs.Links.{LinksState}
 use Rattle.miner_node.specs.declared.node_err.NodeErr.{NodeErr}
-use Rattle.miner_node.specs.declared.node_err.NodeErr.TheVariants.{LinkFault, PeerMismatch, BadFrame, BadMessage, Memory}
+use Rattle.miner_node.specs.declared.node_err.NodeErr.TheVariants.{LinkFault, PeerMismatch, BadFrame, BadMessage, TapeFault, Memory}
 
 -- what is answered where bytes were not sent
 abbrev pub unsent : FileErr → NodeErr
@@ -23,6 +23,7 @@ WasNotSent old new LinkFault = IsFault old new ⊥
 WasNotSent old new (PeerMismatch field mine theirs) = ⊥
 WasNotSent old new (BadFrame place) = ⊥
 WasNotSent old new (BadMessage link cause) = ⊥
+WasNotSent old new TapeFault = ⊥
 WasNotSent old new Memory = Unit {0}
 
 -- why bytes did not come; of steady links for this cause
@@ -31,6 +32,7 @@ DidNotCome old new excuse LinkFault = IsFault old new excuse
 DidNotCome old new excuse (PeerMismatch field mine theirs) = ⊥
 DidNotCome old new excuse (BadFrame place) = ⊥
 DidNotCome old new excuse (BadMessage link cause) = ⊥
+DidNotCome old new excuse TapeFault = ⊥
 DidNotCome old new excuse Memory = ⊥
 
 -- the count of faults never falls, and steady links stay so

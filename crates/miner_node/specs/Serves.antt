@@ -9,11 +9,11 @@ use Rattle.miner_core.specs.declared.answer.End.TheVariants as end
 use Rattle.miner_core.specs.Story.{Story, received, strand_in, node, stands_at, HasEnded}
 use Rattle.wire.specs.declared.fields.Hello.{Hello}
 use Rattle.miner_node.specs.declared.node_err.NodeErr.{NodeErr}
-use Rattle.miner_node.specs.declared.node_err.NodeErr.TheVariants.{LinkFault, PeerMismatch, BadFrame, BadMessage, Memory}
+use Rattle.miner_node.specs.declared.node_err.NodeErr.TheVariants.{LinkFault, PeerMismatch, BadFrame, BadMessage, TapeFault, Memory}
 use Rattle.miner_node.specs.Faults.{IsLater}
 use Rattle.miner_node.specs.Peers.{Sends}
 use Rattle.miner_node.specs.Serving.{Serving, serving, bytes_to_next, bytes_to_previous}
-use Rattle.miner_node.specs.Answers.{IsStop}
+use Rattle.miner_node.specs.Answers.{IsStopAlong}
 use Rattle.miner_node.specs.Turns.{IsAtEase, SameTask, HasFinished}
 
 -- nothing was delivered to a miner, and it had memory
@@ -29,6 +29,7 @@ module _ (i : Number) (before after : Story) (link : Link) (message : List ℕ) 
   IsRefusedSo (PeerMismatch field mine theirs) = ⊥
   IsRefusedSo (BadFrame place) = ⊥
   IsRefusedSo (BadMessage refused cause) = (after ≡ received i before link message) × (stands_at i after ≡ Refuses refused cause)
+  IsRefusedSo TapeFault = Unit {0}
   IsRefusedSo Memory = Unit {0}
 
   pub record DeliversOne {T : Type 0} (result : Result T NodeErr) : Type 0 where
@@ -51,7 +52,7 @@ module _ (i : Number) (hello : Hello) (old new : LinksState) (first : Story) whe
 
   -- why it stopped before that, and what it had sent
   abbrev pub HasStopped : NodeErr → Type 0
-  HasStopped e = IsStop i old new from_hellos.outcome (bytes_to_next i hello from_hellos.acts) (bytes_to_previous i hello from_hellos.acts) e
+  HasStopped e = IsStopAlong i old new from_hellos.outcome (bytes_to_next i hello from_hellos.acts) (bytes_to_previous i hello from_hellos.acts) e
 
   pub record Exchanges (s : Story) (result : Result Ending NodeErr) : Type 0 where
     pub ok : IfOk result (HasServed s)

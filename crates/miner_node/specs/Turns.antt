@@ -15,12 +15,12 @@ use Rattle.miner_core.specs.declared.answer.End.TheVariants as end
 use Rattle.miner_core.specs.Story.{Story, received, mail_in, strand_in, node, sent_to_next, sent_to_previous, stands_at, HasEnded}
 use Rattle.wire.specs.Frames.{framed}
 use Rattle.miner_node.specs.declared.node_err.NodeErr.{NodeErr}
-use Rattle.miner_node.specs.declared.node_err.NodeErr.TheVariants.{LinkFault, PeerMismatch, BadFrame, BadMessage, Memory}
+use Rattle.miner_node.specs.declared.node_err.NodeErr.TheVariants.{LinkFault, PeerMismatch, BadFrame, BadMessage, TapeFault, Memory}
 use Rattle.miner_node.specs.declared.sending.SentCounts.{SentCounts}
 use Rattle.miner_node.specs.Faults.{IsFault, IsLater, WasNotSent}
 use Rattle.miner_node.specs.Peers.{coming_to, Sends, SendsFronts}
 use Rattle.miner_node.specs.Serving.{Serving, Finished, serving_messages, frames, frames_to_next, frames_to_previous}
-use Rattle.miner_node.specs.Answers.{IsStop, ReadsOne}
+use Rattle.miner_node.specs.Answers.{IsStopAlong, ReadsOne}
 
 -- ---- frames to a peer
 
@@ -87,6 +87,7 @@ module _ (i : Number) (link : Link) (before after : Story) (old new : LinksState
   IsUndelivered (PeerMismatch field mine theirs) = ⊥
   IsUndelivered (BadFrame place) = IsMalformed place
   IsUndelivered (BadMessage refused cause) = IsRefused refused cause
+  IsUndelivered TapeFault = Unit {0}
   IsUndelivered Memory = Unit {0}
 
   pub record TakesMessage {T : Type 0} (result : Result T NodeErr) : Type 0 where
@@ -130,7 +131,7 @@ module _ (i : Number) (start now : LinksState) (first : Story) where
 
   -- it stops for this cause
   abbrev pub StopsServing : NodeErr → Type 0
-  StopsServing e = IsStop i start now from_start.outcome (frames_to_next i from_start.acts) (frames_to_previous i from_start.acts) e
+  StopsServing e = IsStopAlong i start now from_start.outcome (frames_to_next i from_start.acts) (frames_to_previous i from_start.acts) e
 
   abbrev pub TurnGoes : Story → SentCounts → Option Ending → Type 0
   TurnGoes s counts None = IsServing i start now first s counts

@@ -30,6 +30,8 @@ pub enum NodeErr {
         link: Link,
         cause: BadMessage,
     },
+    /// Words of the miner's tape couldn't be drawn, and their source counted a fault.
+    TapeFault,
     /// There is no memory left. It stands as well for ends that code which was verified never has.
     Memory,
 }

@@ -1,12 +1,13 @@
 // The frames of a miner's messages, to its two peers.
-ghost use Rattle.std.specs.Prelude.{◌≡◌, ◌<◌, ◌≤◌, false, length, get_or, []};
+ghost use Rattle.std.specs.Prelude.{◌≡◌, ◌<◌, ◌≤◌, length, get_or, []};
+ghost use Rattle.miner_core.specs.Streams.{ForEachTape};
 ghost use Rattle.wire.specs.Frames.{frame_bytes};
 ghost use Rattle.miner_node.specs.Transfers.{SendsAll};
 ghost use Rattle.miner_node.specs.Turns.{SendsFrom, SendsNew};
 
 use crate::node_err::NodeErr;
 use crate::transfers::send_all;
-use miner_core::Miner;
+use miner_core::StreamMiner;
 use outside::Links;
 use proto_core::{Messages, Party};
 use std::alloc::Global;
@@ -76,12 +77,11 @@ fn send_from<L: Links>(
 /// Sends what a miner has sent since these counts, and counts it.
 pub(crate) fn send_new<P: Party, L: Links>(
     alloc: Global,
-    miner: &Miner<P>,
+    miner: &StreamMiner<P>,
     counts: &mut SentCounts,
     links: &mut L,
 ) -> Result<(), NodeErr>
-    requires { miner.now.lost ≡ false }
-    ensures { SendsNew P.me miner.now counts.old counts.new (L.state links.old) (L.state links.new) result }
+    ensures { ForEachTape miner.now (λ s. SendsNew P.me s counts.old counts.new (L.state links.old) (L.state links.new) result) }
 {
     let me = P::number();
     counts.to_next = send_from(

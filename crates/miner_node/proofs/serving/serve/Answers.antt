@@ -1,0 +1,24 @@
+use Rattle.miner_node.proofs.Along.{some_tape}
+use Rattle.miner_node.proofs.serving.serve.Goals as goal
+
+pub returns-in-Ok-clause-serves : goal.returns-in-Ok-clause-serves
+returns-in-Ok-clause-serves g c =
+    let h = c.in-Ok.ensures in
+    record {
+      taken = h.taken;
+      drew = h.drew;
+      ok = record { gone = h.ok; served = λ tape of. (h.holds tape of).ok };
+      err = tt;
+      still = h.still;
+    }
+
+pub returns-in-Err-clause-serves : goal.returns-in-Err-clause-serves
+returns-in-Err-clause-serves g c =
+    let h = c.in-Err.ensures in
+    record {
+      taken = h.taken;
+      drew = h.drew;
+      ok = tt;
+      err = record { stopped = λ tape of. (h.holds tape of).err; cause = h.cause };
+      still = h.still;
+    }
