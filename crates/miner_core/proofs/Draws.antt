@@ -30,21 +30,20 @@ begins_before : (drawn words tape : List ℕ) → Begins (drawn ++ words) tape �
 begins_before drawn words tape is =
     is ∙ append_assoc drawn words (drop (length (drawn ++ words)) tape) ∙ ap (λ r. drawn ++ r) (sym (behind-is drawn words tape is))
 
+abbrev put : List ℕ → Bool → Story → Story
+put tape lost s = record s { tape = tape; lost = lost }
+
 -- a message comes to a story, whatever its tape is
 pub received_with :
     (i : Number) (s : Story) (l : Link) (m : List ℕ) (tape : List ℕ) (lost : Bool) →
     received i (record s { tape = tape; lost = lost }) l m ≡ record (received i s l m) { tape = tape; lost = lost }
 received_with i s l m tape lost = by_link (same_link (from_previous i) l)
   where
-    abbrev put : Story → Story
-    put t = record t { tape = tape; lost = lost }
-
     by_link : (b : Bool) →
-        (if b then record (put s) { from_previous = s.from_previous ++ m ∷ [] } else record (put s) { from_next = s.from_next ++ m ∷ [] })
-        ≡ put (if b then record s { from_previous = s.from_previous ++ m ∷ [] } else record s { from_next = s.from_next ++ m ∷ [] })
+        (if b then record (put tape lost s) { from_previous = s.from_previous ++ m ∷ [] } else record (put tape lost s) { from_next = s.from_next ++ m ∷ [] })
+        ≡ put tape lost (if b then record s { from_previous = s.from_previous ++ m ∷ [] } else record s { from_next = s.from_next ++ m ∷ [] })
     by_link true = refl
     by_link false = refl
-
 
 no_waits : (link : Link) (cause : Option BadMessage) → rest.Waits link cause ≡ rest.Through → ⊥
 no_waits link cause e = cc
@@ -135,6 +134,17 @@ module _ {P : Type 0} (i : Number) where
       record { node = h.node (drop (length e.node.tape.0) tape); over = λ same. absurd (no_stuck same) }
   rests_whole e (stand.Wants count) left h short tape of =
       record { node = wants-too-many i e.node count left tape h.node of short; over = λ same. absurd (no_stuck same) }
+
+  pub runs_on :
+      (b e : Engine P) (at : Stand) (left : ℕ) (r : Rest) (s t : TapesState) → DrewOn i b e s t → StandsAlways i at e → left ≡ left_for i t →
+      IsTooShort at left → r ≡ rest_of at → RunsOn i r b e s t
+  runs_on b e at left r s t d h is short led =
+      record {
+        drew = d;
+        rests =
+            λ tape of.
+            subst (λ q. Rests i q (whole e tape)) (sym led) (rests_whole e at (left_for i t) h (subst (IsTooShort at) is short) tape of);
+      }
 
   -- ---- its story
 

@@ -1,8 +1,9 @@
 -- Words that are drawn of one source, one call after another.
 use Rattle.std.proofs.Common.{◌≡◌, ◌≤◌, ℕ, ◌+◌, List, [], ◌++◌, length, true, refl, sym, subst, ◌∙◌, ap, append_assoc, length-append, arith}
 use Rattle.std.proofs.lemmas.Result.{MatchResult-weaker}
-use Rattle.std.specs.Prelude.{Result, Err, IfErr}
-use Rattle.outside.specs.Causes.{Rose}
+use Rattle.std.specs.Prelude.{Result, Ok, Err, IfErr}
+use Rattle.outside.specs.declared.error.Failed.{Failed}
+use Rattle.outside.specs.Causes.{Rose, HasLinkCause, IsSteadyLink}
 use Rattle.outside.specs.Files.{FilesState, OnlyRead}
 use Rattle.outside.specs.Tapes.{TapesState, Drew, SameTape, SameTapes, StandsStill, faults_of, left_of}
 use Rattle.proto_core.specs.declared.party.Number.{Number}
@@ -108,3 +109,34 @@ draws_none {A} i a r is =
       lost = subst (λ (q : Result A Lost). IfErr q (IsLostBy a a)) (sym is) tt;
       still = λ s. s;
     }
+
+-- a call that failed, of which the source counted a fault
+pub draws_failed :
+    {A B : Type 0} (i : Number) (a b : TapesState) (d : Failed) (r : Result A Lost) → r ≡ Err lost.TapeFault → SameTapes a b →
+    HasLinkCause {T = B} (faults_of a) (faults_of b) (Err d) → (a.steady ≡ true → IsSteadyLink {T = B} (faults_of a) (faults_of b) (Err d) ⊥) →
+    (a.steady ≡ true → b.steady ≡ true) → Draws i a b r
+draws_failed {A} {B} i a b d r is same cause steady still =
+    record {
+      drawn = drawn_same i a b same;
+      lost =
+          subst (λ (q : Result A Lost). IfErr q (IsLostBy a b)) (sym is)
+          (record { rose = cause.failed; unsteady = λ s. (steady s).failed });
+      still = still;
+    }
+
+-- words were drawn, and then there was no memory for them
+pub draws_unheld :
+    {A : Type 0} (i : Number) (a b : TapesState) (words : List ℕ) (r : Result A Lost) → r ≡ Err lost.Memory → Drew a b (count_of i) words →
+    (a.steady ≡ true → b.steady ≡ true) → Draws i a b r
+draws_unheld {A} i a b words r is drew still =
+    record {
+      drawn = record { taken = words; drew = drew };
+      lost = subst (λ (q : Result A Lost). IfErr q (IsLostBy a b)) (sym is) tt;
+      still = still;
+    }
+
+-- all went well
+pub draws_ok :
+    {A : Type 0} (i : Number) (a b : TapesState) (words : List ℕ) (x : A) → Drew a b (count_of i) words → (a.steady ≡ true → b.steady ≡ true) →
+    Draws i a b (Ok x)
+draws_ok i a b words x drew still = record { drawn = record { taken = words; drew = drew }; lost = tt; still = still }

@@ -114,6 +114,9 @@ module _ {P : Type 0} (i : Number) where
 
 -- ---- with its whole tape
 
+false_is_true : false ≡ true → ⊥
+false_is_true e = cc
+
 none_of : (l : Option Lost) → has_lost l ≡ false → l ≡ None
 none_of None h = refl
 none_of (Some l) h = absurd cc
@@ -213,13 +216,19 @@ module _ (i : Number) (l : Link) (m : List ℕ) (before after : StreamState) (t 
     whole_lost = by_lost before.lost refl
       where
         by_lost : (k : Option Lost) → before.lost ≡ k → has_lost before.lost ≡ true → (settled r ≡ Err whole.Memory) × (story_so_far after ≡ story_so_far before)
-        by_lost None is h = absurd (apart (sym (ap has_lost is) ∙ h))
-          where
-            apart : false ≡ true → ⊥
-            apart e = cc
+        by_lost None is h = absurd (false_is_true (sym (ap has_lost is) ∙ h))
         by_lost (Some k) is h = let same = lost k is in (ap settled same.0, ap story_so_far same.1)
 
 -- what is said where it is of no further use
 pub if_lost : (o : Option Lost) (Q : Lost → Type 0) → IfSome o Q → (k : Lost) → o ≡ Some k → Q k
 if_lost None Q h k is = absurd cc
 if_lost (Some j) Q h k is = let e : j ≡ k = cc in subst Q e h
+
+-- what it answers then
+pub lost_whole :
+    (m : StreamState) (r : Result Step StreamErr) → IfSome m.lost (λ l. r ≡ Err (error.Lost l)) → (story_so_far m).lost ≡ true → settled r ≡ Err whole.Memory
+lost_whole m r h gone = by_lost m.lost h gone
+  where
+    by_lost : (o : Option Lost) → IfSome o (λ l. r ≡ Err (error.Lost l)) → has_lost o ≡ true → settled r ≡ Err whole.Memory
+    by_lost None k gone = absurd cc
+    by_lost (Some l) k gone = ap settled k

@@ -116,6 +116,16 @@ module _ (i : Number) where
         still = h.still;
       }
 
+  -- the same, of other answers
+  pub along_ok :
+      {A B : Type 0} (m n : StreamState) (s t : TapesState) (x : A) (y : B) (Q : List ℕ → Type 0) → Along i m n s t (Ok x) Q → Along i m n s t (Ok y) Q
+  along_ok m n s t x y Q h = record { taken = h.taken; drew = h.drew; holds = h.holds; ok = h.ok; cause = tt; still = h.still }
+
+  pub along_err :
+      {A B : Type 0} (m n : StreamState) (s t : TapesState) (e : NodeErr) (Q : List ℕ → Type 0) → Along {A = A} i m n s t (Err e) Q →
+      Along {A = B} i m n s t (Err e) Q
+  along_err m n s t e Q h = record { taken = h.taken; drew = h.drew; holds = h.holds; ok = tt; cause = h.cause; still = h.still }
+
   module _ (a b c : StreamState) (s t u : TapesState) where
     cause_on : (e : NodeErr) → faults_of s ≤ faults_of t → (s.steady ≡ true → t.steady ≡ true) → HasTapeCause t u e → HasTapeCause s u e
     cause_on stop.LinkFault later still h = tt

@@ -1,12 +1,13 @@
 // A miner serves its links.
-ghost use Rattle.std.specs.Prelude.{◌≡◌, ℕ, List, None, Result, IfOk};
+ghost use Rattle.std.specs.Prelude.{◌≡◌, true, None};
 ghost use Rattle.outside.specs.Links.{LinksState};
 ghost use Rattle.outside.specs.Tapes.{TapesState};
-ghost use Rattle.proto_core.specs.Parties.{count_of, receiver_of};
+ghost use Rattle.proto_core.specs.Parties.{count_of, sender_of, receiver_of};
 ghost use Rattle.proto_core.specs.Standing.{Awaits};
 ghost use Rattle.miner_core.specs.Drawing.{left_for};
 ghost use Rattle.miner_core.specs.Story.{Story, stands_at};
 ghost use Rattle.miner_core.specs.Streams.{ForEachTape, with_tape};
+ghost use Rattle.miner_node.specs.Answers.{ReadsMessage};
 ghost use Rattle.miner_node.specs.Serves.{DeliversOne, Exchanges};
 ghost use Rattle.miner_node.specs.Tapes.{Along, IsReady, Serves, node_answer};
 ghost use Rattle.miner_node.specs.Faults.{IsLater};
@@ -53,6 +54,20 @@ fn deliver<P: Party, T: TapeSource>(
     as_node(miner.deliver(link, message, tapes))
 }
 
+/// Whether a link ends at this miner.
+fn ends_here<P: Party>(link: Link) -> bool
+    ensures { result ≡ true → receiver_of link ≡ P.me }
+{
+    link.receiver().as_u8() == P::number().as_u8()
+}
+
+/// Reads the message of the next frame of a link.
+fn read_of<L: Links>(links: &mut L, link: Link) -> Result<Msg, NodeErr>
+    ensures { ReadsMessage (L.state links.old) (L.state links.new) (count_of (sender_of link)) result }
+{
+    read_message(links, link.sender().as_u8())
+}
+
 /// The next message of the awaited link is read, and delivered.
 fn take_message<P: Party, L: Links, T: TapeSource>(
     miner: &mut StreamMiner<P>,
@@ -66,10 +81,10 @@ fn take_message<P: Party, L: Links, T: TapeSource>(
     ensures { Along P.me miner.old miner.new (T.state tapes.old) (T.state tapes.new) result
         (λ tape. TakesMessage P.me link (with_tape miner.old tape) (with_tape miner.new tape) (L.state links.old) (L.state links.new) result) }
 {
-    if link.receiver().as_u8() != P::number().as_u8() {
+    if !ends_here::<P>(link) {
         return Err(NodeErr::Memory);
     }
-    let message = read_message(links, link.sender().as_u8())?;
+    let message = read_of(links, link)?;
     deliver(miner, link, &message, tapes)
 }
 
