@@ -45,6 +45,13 @@ received_with i s l m tape lost = by_link (same_link (from_previous i) l)
     by_link true = refl
     by_link false = refl
 
+-- a tape that begins with the words drawn begins with those drawn before, and as many were there
+pub tape_earlier :
+    (i : Number) (s t : TapesState) (before after taken : List ℕ) (ahead : ℕ) → Drew s t (count_of i) taken → after ≡ before ++ taken → left_for i s ≡ ahead →
+    (tape : List ℕ) → IsTapeOf after (left_for i t) tape → IsTapeOf before ahead tape
+tape_earlier i s t before after taken ahead drew is left tape of =
+    tape-before before taken tape ahead (left_for i t) (sym drew.fewer ∙ left) (subst (λ l. IsTapeOf l (left_for i t) tape) is of)
+
 no_waits : (link : Link) (cause : Option BadMessage) → rest.Waits link cause ≡ rest.Through → ⊥
 no_waits link cause e = cc
 
@@ -176,13 +183,6 @@ module _ {P : Type 0} (i : Number) where
             (d.same tape of.begins) (d.told tape of.begins) (runs.rests tape of) (sound_with i e2 (drop (length e2.node.tape.0) tape) d.sound);
       }
 
-  -- a tape that begins with the words drawn begins with those drawn before, and as many were there
-  pub tape_earlier :
-      (s t : TapesState) (before after taken : List ℕ) (ahead : ℕ) → Drew s t (count_of i) taken → after ≡ before ++ taken → left_for i s ≡ ahead →
-      (tape : List ℕ) → IsTapeOf after (left_for i t) tape → IsTapeOf before ahead tape
-  tape_earlier s t before after taken ahead drew is left tape of =
-      tape-before before taken tape ahead (left_for i t) (sym drew.fewer ∙ left) (subst (λ l. IsTapeOf l (left_for i t) tape) is of)
-
   pub at_rest_after :
       (e e2 : Engine P) (at at2 : Rest) (l : Link) (m : List ℕ) (budget ahead : ℕ) (s t : TapesState) → IsAtRest i e at budget ahead →
       left_for i s ≡ ahead → Delivers i at2 l m e e2 s t → IsAtRest i e2 at2 budget (left_for i t)
@@ -192,7 +192,7 @@ module _ {P : Type 0} (i : Number) where
         rests = d.rests;
         follows =
             λ tape of.
-            let earlier = tape_earlier s t e.node.tape.0 e2.node.tape.0 d.taken ahead d.drew d.tape left tape of in
+            let earlier = tape_earlier i s t e.node.tape.0 e2.node.tape.0 d.taken ahead d.drew d.tape left tape of in
             subst (Follows i (whole e2 tape))
             (received_with i (story_of e budget) l m tape false ∙ sym (ap (λ (x : Story). record x { tape = tape; lost = false }) (d.story budget)))
             (d.follows tape of (record (story_of e budget) { tape = tape }) (h.follows tape earlier));

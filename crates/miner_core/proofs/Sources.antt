@@ -101,6 +101,15 @@ module _ (i : Number) (a b c : TapesState) (first : HasDrawn i a b) (still : a.s
         still = λ s. h.still (still s);
       }
 
+  -- the same, of an error that is passed on
+  pub draws_on_err : {A B : Type 0} (l : Lost) → Draws {A = B} i b c (Err l) → Draws {A = A} i a c (Err l)
+  draws_on_err l h =
+      record {
+        drawn = record { taken = first.taken ++ h.drawn.taken; drew = drew_more a b c (count_of i) first.taken h.drawn.taken first.drew h.drawn.drew };
+        lost = lost_on l h.lost;
+        still = λ s. h.still (still s);
+      }
+
 -- no words, and this error
 pub draws_none : {A : Type 0} (i : Number) (a : TapesState) (r : Result A Lost) → r ≡ Err lost.Memory → Draws i a a r
 draws_none {A} i a r is =

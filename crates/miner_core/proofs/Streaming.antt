@@ -28,6 +28,18 @@ use Rattle.miner_core.specs.Streams.{StreamState, has_lost, with_tape, story_so_
 use Rattle.miner_core.proofs.Draws.{at_rest_after, received_with}
 use Rattle.miner_core.proofs.Stories.{answer_of, standing_of_story}
 
+answers_by :
+    (i : Number) (before after : StreamState) (l : Link) (m : List ℕ) (s t : TapesState) (r : Result Step StreamErr) → IsOfMessage r →
+    HasMoved i l m before after s t (settled r) → Answers i l m before after s t r
+answers_by i before after l m s t (Ok step) of h = h
+answers_by i before after l m s t (Err (error.BadMessage at cause)) of h = h
+answers_by i before after l m s t (Err (error.NotAwaited at)) of h = absurd of
+answers_by i before after l m s t (Err (error.Lost why)) of h = absurd of
+
+-- that it has ended is answered
+abbrev pub IsNotAwaited : Result Step StreamErr → Link → Type 0
+IsNotAwaited r l = r ≡ Err (error.NotAwaited l)
+
 -- ---- by its engine
 
 module _ {P : Type 0} (i : Number) where
@@ -94,14 +106,6 @@ module _ {P : Type 0} (i : Number) where
             (λ same. subst (IsAtRest i e2 at2 budget) left2 (at_rest_after i e e2 at at2 l m budget ahead s t h left d)) answers going;
       }
 
-  answers_by :
-      (before after : StreamState) (l : Link) (m : List ℕ) (s t : TapesState) (r : Result Step StreamErr) → IsOfMessage r →
-      HasMoved i l m before after s t (settled r) → Answers i l m before after s t r
-  answers_by before after l m s t (Ok step) of h = h
-  answers_by before after l m s t (Err (error.BadMessage at cause)) of h = h
-  answers_by before after l m s t (Err (error.NotAwaited at)) of h = absurd of
-  answers_by before after l m s t (Err (error.Lost why)) of h = absurd of
-
   pub answers_moved :
       (e e2 : Engine P) (at at2 : Rest) (l : Link) (m : List ℕ) (budget ahead ahead2 : ℕ) (lost : Option Lost) (s t : TapesState) (r : Result Step StreamErr) →
       lost ≡ None → IsAtRest i e at budget ahead → left_for i s ≡ ahead → Delivers i at2 l m e e2 s t → left_for i t ≡ ahead2 →
@@ -109,7 +113,7 @@ module _ {P : Type 0} (i : Number) where
       IsAnswerOf (engine_left i (with_words e2 more)) (mail_left i e2.node.links) (settled r)) → IsOfMessage r →
       Answers i l m (seen e budget ahead lost) (seen e2 budget ahead2 lost) s t r
   answers_moved e e2 at at2 l m budget ahead ahead2 lost s t r going h left d left2 answers of =
-      answers_by (seen e budget ahead lost) (seen e2 budget ahead2 lost) l m s t r of
+      answers_by i (seen e budget ahead lost) (seen e2 budget ahead2 lost) l m s t r of
       (moved e e2 at at2 l m budget ahead ahead2 lost s t r going h left d left2 answers)
 
 -- ---- with its whole tape
@@ -122,9 +126,9 @@ none_of None h = refl
 none_of (Some l) h = absurd cc
 
 itself : (xs : List ℕ) (n : ℕ) → n ≡ 0 → IsTapeOf xs n xs
-itself xs n zero =
+itself xs n same =
     let none : drop (length xs) xs ≡ [] = ap (drop (length xs)) (sym (append-none xs)) ∙ drop-append_seam xs [] in
-    record { begins = sym (append-none xs) ∙ ap (λ r. xs ++ r) (sym none); counted = omega (arith, zero) }
+    record { begins = sym (append-none xs) ∙ ap (λ r. xs ++ r) (sym none); counted = omega (arith, same) }
 
 pub at_whole : (m : StreamState) (Q : Story → Type 0) → (m.lost ≡ None → m.ahead ≡ 0) → ForEachTape m Q → (story_so_far m).lost ≡ false → Q (story_so_far m)
 at_whole m Q none h going = let is = none_of m.lost going in h is m.story.tape (itself m.story.tape m.ahead (none is))

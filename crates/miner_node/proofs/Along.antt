@@ -122,8 +122,8 @@ module _ (i : Number) where
   along_ok m n s t x y Q h = record { taken = h.taken; drew = h.drew; holds = h.holds; ok = h.ok; cause = tt; still = h.still }
 
   pub along_err :
-      {A B : Type 0} (m n : StreamState) (s t : TapesState) (e : NodeErr) (Q : List ℕ → Type 0) → Along {A = A} i m n s t (Err e) Q →
-      Along {A = B} i m n s t (Err e) Q
+      {A B : Type 0} (m n : StreamState) (s t : TapesState) (e : NodeErr) (Q : List ℕ → Type 0) → Along i m n s t {A = A} (Err e) Q →
+      Along i m n s t {A = B} (Err e) Q
   along_err m n s t e Q h = record { taken = h.taken; drew = h.drew; holds = h.holds; ok = tt; cause = h.cause; still = h.still }
 
   module _ (a b c : StreamState) (s t u : TapesState) where

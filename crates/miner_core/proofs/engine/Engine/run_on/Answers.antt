@@ -1,9 +1,9 @@
-use Rattle.std.proofs.Common.{◌≡◌, ◌<◌, ◌+◌, length, [], sym, ◌∙◌, ap, subst, Ok, Err, arith}
+use Rattle.std.proofs.Common.{rules, ◌≡◌, ◌<◌, ◌+◌, length, [], sym, ◌∙◌, ap, subst, Ok, Err, arith}
 use Rattle.std.proofs.lemmas.Result.{err_from_is_err_and}
-use Rattle.miner_core.specs.Drawing.{left_for, DrewOn}
+use Rattle.miner_core.specs.Drawing.{left_for, DrewOn, IsTooShort}
 use Rattle.miner_core.specs.Engines.{StandsAlways}
 use Rattle.miner_core.proofs.Draws.{drew_start, drew_advanced, drew_supplied, runs_on}
-use Rattle.miner_core.proofs.Sources.{draws_none, draws_on, draws_ok}
+use Rattle.miner_core.proofs.Sources.{draws_none, draws_on, draws_on_err}
 use Rattle.miner_core.proofs.engine.Engine.run_on.Goals as goal
 
 pub loop-stand-init : goal.loop-stand-init
@@ -50,19 +50,15 @@ returns-in_err-draw-clause-draws g c =
     let t = g.T.TapeSource.state c.draw.new.tapes in
     let h = c.loop-stand.invariant in
     let p = err_from_is_err_and c.from_residual-in_err-draw.result c.from_residual-in_err-draw.ensures.1 in
-    rw (p.1, p.2) (draws_on i a b t (record { taken = h.taken; drew = h.drew }) h.still (Err c.in_err-draw.field-0.0) c.in_err-draw.ensures.draws)
+    rw (p.1, p.2) (draws_on_err i a b t (record { taken = h.taken; drew = h.drew }) h.still c.in_err-draw.field-0.0 c.in_err-draw.ensures.draws)
 
-pub returns-in-None-clause-runs : goal.returns-in-None-clause-runs
-returns-in-None-clause-runs g c =
+pub returns-in_default-clause-runs : goal.returns-in_default-clause-runs
+returns-in_default-clause-runs g c =
     let i = g.P.Party.me in
     let a = g.T.TapeSource.state c.args.tapes.now in
     let b = g.T.TapeSource.state c.loop-stand.tapes in
     let h = c.in_ok-stand.ensures in
     let d = drew_advanced i c.args.self.now c.loop-stand.self c.advance.new.self a b c.loop-stand.invariant h.same h.told h.sound h.kept in
+    let short : IsTooShort c.in_ok-stand.stand c.words_left-left.result = search rules in
     runs_on i c.args.self.now c.advance.new.self c.in_ok-stand.stand c.words_left-left.result c.rest_at.result a b d h.stands c.words_left-left.ensures
-    c.in-None.ensures.none c.rest_at.ensures
-
-pub returns-in-None-clause-draws : goal.returns-in-None-clause-draws
-returns-in-None-clause-draws g c =
-    let h = c.loop-stand.invariant in
-    draws_ok g.P.Party.me (g.T.TapeSource.state c.args.tapes.now) (g.T.TapeSource.state c.loop-stand.tapes) h.taken c.rest_at.result h.drew h.still
+    short c.rest_at.ensures

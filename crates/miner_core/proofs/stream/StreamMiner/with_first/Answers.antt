@@ -1,4 +1,4 @@
-use Rattle.std.proofs.Common.{◌++◌, refl, sym, ◌∙◌, ap, subst}
+use Rattle.std.proofs.Common.{[], ◌++◌, refl, sym, ◌∙◌, ap, subst}
 use Rattle.miner_core.specs.Drawing.{left_for, IsAtRest}
 use Rattle.miner_core.specs.Story.{Story, story_of, start_of}
 use Rattle.miner_core.proofs.Draws.{at_rest_new, story_moved}
@@ -32,4 +32,4 @@ returns-clause-made g c =
 pub run_on-requires : goal.run_on-requires
 run_on-requires g c =
     let leads = c.in_ok-engine.ensures.leads in
-    record { sound = record { stands = (leads _).sound.stands; quiet = λ more. (leads more).sound.quiet } }
+    record { sound = record { stands = (leads []).sound.stands; quiet = λ more. (leads more).sound.quiet } }
