@@ -4,7 +4,7 @@ use Rattle.miner_core.specs.declared.answer.StreamErr.TheVariants as error
 use Rattle.miner_core.specs.declared.answer.MinerErr.TheVariants as whole
 use Rattle.miner_core.specs.Story.{Story, DeliverAnswers, stands_at}
 use Rattle.miner_core.specs.Streams.{no_words, settled, story_so_far}
-use Rattle.miner_core.proofs.Streaming.{at_whole, if_lost, whole_answers, whole_lost, whole_still}
+use Rattle.miner_core.proofs.Streaming.{at_whole, if_lost, IsNotAwaited, whole_answers, whole_lost, whole_still}
 use Rattle.miner_core.proofs.miner.Miner.deliver.Goals as goal
 
 pub deliver-requires-clause-left : goal.deliver-requires-clause-left
@@ -34,7 +34,7 @@ returns-clause-ended g c = λ going at_end.
     let m = c.self.inside.inner in
     c.of_whole.ensures
     ∙ ap settled
-    (at_whole m (λ s. stands_at i s ≡ AtItsEnd → c.deliver.result ≡ _) c.self.invariant c.deliver.ensures.ended
+    (at_whole m (λ s. stands_at i s ≡ AtItsEnd → IsNotAwaited c.deliver.result c.args.link) c.self.invariant c.deliver.ensures.ended
     (ap (λ (s : Story). s.lost) c.self.view_is ∙ going) (ap (stands_at i) c.self.view_is ∙ at_end))
 
 pub returns-clause-lost : goal.returns-clause-lost
