@@ -1,5 +1,5 @@
 -- What is promised of a node.
-use Rattle.std.specs.Prelude.{◌≡◌, ℕ, List, [], false, true, Result, OnOk, IfOk, IfErr}
+use Rattle.std.specs.Prelude.{◌≡◌, ℕ, List, false, true, Result, OnOk, IfOk, IfErr}
 use Rattle.outside.specs.Links.{LinksState}
 use Rattle.proto_core.specs.declared.party.Number.{Number}
 use Rattle.proto_core.specs.declared.link.Link.{Link}
@@ -15,12 +15,6 @@ use Rattle.miner_node.specs.Peers.{Sends}
 use Rattle.miner_node.specs.Serving.{Serving, serving, bytes_to_next, bytes_to_previous}
 use Rattle.miner_node.specs.Answers.{IsStopAlong}
 use Rattle.miner_node.specs.Turns.{IsAtEase, SameTask, HasFinished}
-
--- nothing was delivered to a miner, and it had memory
-pub record IsFresh (s : Story) : Type 0 where
-  pub going : s.lost ≡ false
-  pub previous : s.from_previous ≡ []
-  pub next : s.from_next ≡ []
 
 -- a message is delivered; it may be refused
 module _ (i : Number) (before after : Story) (link : Link) (message : List ℕ) where

@@ -1,3 +1,5 @@
+use Rattle.std.proofs.Common.{◌++◌}
+use Rattle.miner_core.specs.Drawing.{left_for}
 use Rattle.miner_node.proofs.Along.{some_tape}
 use Rattle.miner_node.proofs.serving.serve.Goals as goal
 
@@ -22,3 +24,15 @@ returns-in-Err-clause-serves g c =
       err = record { stopped = λ tape of. (h.holds tape of).err; cause = h.cause };
       still = h.still;
     }
+
+pub returns-in-Ok-clause-later : goal.returns-in-Ok-clause-later
+returns-in-Ok-clause-later g c =
+    let h = c.in-Ok.ensures in
+    let one = some_tape (c.args.miner.story.tape ++ h.taken) (left_for g.P.Party.me (g.T.TapeSource.state c.exchange.new.tapes)) in
+    (h.holds one.0 one.1).later
+
+pub returns-in-Err-clause-later : goal.returns-in-Err-clause-later
+returns-in-Err-clause-later g c =
+    let h = c.in-Err.ensures in
+    let one = some_tape (c.args.miner.story.tape ++ h.taken) (left_for g.P.Party.me (g.T.TapeSource.state c.exchange.new.tapes)) in
+    (h.holds one.0 one.1).later

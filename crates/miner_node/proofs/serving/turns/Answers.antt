@@ -1,4 +1,4 @@
-use Rattle.std.proofs.Common.{refl, ap, Ok, Err}
+use Rattle.std.proofs.Common.{rules, refl, ap, Ok, Err}
 use Rattle.std.proofs.lemmas.Result.{err_from_is_err_and}
 use Rattle.miner_core.specs.Streams.{has_lost, with_tape}
 use Rattle.miner_node.specs.Turns.{IsServing, EndsTurns}
@@ -34,7 +34,7 @@ loop-preserved g c =
     let all =
         along_on i m n k s t u tt (Ok c.in_ok-ending.field-0) _ _
         (λ tape. IsServing i a b (with_tape m tape) (with_tape k tape) c.turn.new.counts) c.loop.invariant c.in_ok-ending.ensures
-        (λ tape q r. turns_go i a b (with_tape m tape) (with_tape k tape) c.turn.new.counts c.in_ok-ending.field-0 ? (r a (with_tape m tape) q)) in
+        (λ tape q r. turns_go i a b (with_tape m tape) (with_tape k tape) c.turn.new.counts c.in_ok-ending.field-0 (search rules) (r a (with_tape m tape) q)) in
     along_ok i m k s u c.in_ok-ending.field-0 tt _ all
 
 pub returns-in_err-turn : goal.returns-in_err-turn
