@@ -211,9 +211,9 @@ module _ {P : Type 0} (i : Number) where
         follows =
             λ tape of.
             let begins : tape ≡ e.node.tape.0 ++ drop (length e.node.tape.0) tape =
-                begins_before e.node.tape.0 d.taken tape (subst (λ l. Begins l tape) d.tape of.begins) in
+            begins_before e.node.tape.0 d.taken tape (subst (λ l. Begins l tape) d.tape of.begins) in
             let again : tape ≡ first ++ drop (length e.node.tape.0) tape =
-                begins ∙ ap (λ (x : Story). x.tape ++ drop (length e.node.tape.0) tape) story in
+            begins ∙ ap (λ (x : Story). x.tape ++ drop (length e.node.tape.0) tape) story in
             subst (Follows i (whole e2 tape))
             (ap (λ w. start_of task dealt w budget) (sym again)
             ∙ sym (ap (λ (x : Story). record x { tape = tape }) (story_moved e e2 s t budget d)

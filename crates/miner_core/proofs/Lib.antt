@@ -12,5 +12,6 @@ pub mod Staying
 pub mod Sources
 pub mod Draws
 pub mod Streaming
+pub mod Told
 pub use Rattle.gate_node.proofs.Always
 pub use Rattle.gate_node.proofs.OwnGates

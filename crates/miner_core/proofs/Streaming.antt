@@ -171,7 +171,7 @@ module _ (i : Number) (l : Link) (m : List ℕ) (before after : StreamState) (t 
   move : (r : Result Step MinerErr) → before.lost ≡ None → HasMoved i l m before after no_words t r → moved_whole r
   move r going h =
       let tape : after.story.tape ≡ before.story.tape =
-          h.tape ∙ ap (λ w. before.story.tape ++ w) (none_taken i t h.taken h.drew) ∙ append-none before.story.tape in (
+      h.tape ∙ ap (λ w. before.story.tape ++ w) (none_taken i t h.taken h.drew) ∙ append-none before.story.tape in (
         ap has_lost going,
         h.received after.story.tape ∙ ap (λ w. received i (with_tape before w) l m) tape,
         h.answers after.story.tape (itself after.story.tape after.ahead (after_none r h)),

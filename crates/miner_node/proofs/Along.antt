@@ -42,12 +42,12 @@ zeros-length (suc n) = ap suc (zeros-length n)
 
 pub some_tape : (drawn : List ℕ) (n : ℕ) → (tape : List ℕ) × IsTapeOf drawn n tape
 some_tape drawn n = (
-      drawn ++ zeros n,
-      record {
-        begins = ap (λ r. drawn ++ r) (sym (drop-append_seam drawn (zeros n)));
-        counted = length-append drawn (zeros n) ∙ ap (λ k. length drawn + k) (zeros-length n);
-      },
-    )
+  drawn ++ zeros n,
+  record {
+    begins = ap (λ r. drawn ++ r) (sym (drop-append_seam drawn (zeros n)));
+    counted = length-append drawn (zeros n) ∙ ap (λ k. length drawn + k) (zeros-length n);
+  },
+)
 
 -- an error of the links is none of the tape
 pub unsent_cause : (a b : LinksState) (s : TapesState) (e : NodeErr) → WasNotSent a b e → HasTapeCause s s e
@@ -153,7 +153,7 @@ module _ (i : Number) where
           holds =
               λ tape of.
               let later : IsTapeOf ((a.story.tape ++ one) ++ two) (left_for i u) tape =
-                  subst (λ w. IsTapeOf w (left_for i u) tape) (sym (append_assoc a.story.tape one two)) of in
+              subst (λ w. IsTapeOf w (left_for i u) tape) (sym (append_assoc a.story.tape one two)) of in
               step tape (h.holds tape (tape-before (a.story.tape ++ one) two tape (left_for i t) (left_for i u) moved later))
               (k.holds tape (subst (λ w. IsTapeOf (w ++ two) (left_for i u) tape) (sym h.ok.tape) later));
           ok = gone r k.ok;

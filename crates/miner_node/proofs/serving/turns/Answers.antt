@@ -32,9 +32,9 @@ loop-preserved g c =
     let n = c.loop.miner in
     let k = c.turn.new.miner in
     let all =
-        along_on i m n k s t u tt (Ok c.in_ok-ending.field-0) _ _
-        (λ tape. IsServing i a b (with_tape m tape) (with_tape k tape) c.turn.new.counts) c.loop.invariant c.in_ok-ending.ensures
-        (λ tape q r. turns_go i a b (with_tape m tape) (with_tape k tape) c.turn.new.counts c.in_ok-ending.field-0 (search rules) (r a (with_tape m tape) q)) in
+    along_on i m n k s t u tt (Ok c.in_ok-ending.field-0) _ _
+    (λ tape. IsServing i a b (with_tape m tape) (with_tape k tape) c.turn.new.counts) c.loop.invariant c.in_ok-ending.ensures
+    (λ tape q r. turns_go i a b (with_tape m tape) (with_tape k tape) c.turn.new.counts c.in_ok-ending.field-0 (search rules) (r a (with_tape m tape) q)) in
     along_ok i m k s u c.in_ok-ending.field-0 tt _ all
 
 pub returns-in_err-turn : goal.returns-in_err-turn

@@ -42,5 +42,5 @@ returns-clause-lost g c = λ gone.
     let i = g.P.Party.me in
     let m = c.self.inside.inner in
     let h = whole_lost i c.args.link c.args.message.now m c.deliver.new.self no_words c.self.invariant c.deliver.result c.deliver.ensures.answers
-        (λ k is. let h = if_lost m.lost _ c.deliver.ensures.lost k is in (h.0, h.1)) (ap (λ (s : Story). s.lost) c.self.view_is ∙ gone) in
+    (λ k is. let h = if_lost m.lost _ c.deliver.ensures.lost k is in (h.0, h.1)) (ap (λ (s : Story). s.lost) c.self.view_is ∙ gone) in
     (c.of_whole.ensures ∙ h.0, h.1 ∙ c.self.view_is)

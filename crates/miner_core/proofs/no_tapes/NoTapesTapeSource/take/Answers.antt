@@ -12,4 +12,4 @@ drew_nothing : (xs : List ℕ) (p : ℕ) → length xs ≤ 0 → Drew no_words n
 drew_nothing xs p h = subst (λ w. Drew no_words no_words p w) (sym (no_word xs h)) (drew_none no_words p)
 
 pub returns-clause-ok : goal.returns-clause-ok
-returns-clause-ok c = drew_nothing c.args.into.now c.args.party c.requires.enough
+returns-clause-ok c = drew_nothing c.args._into.now c.args._party c.requires.enough

@@ -64,7 +64,7 @@ returns-in-Err-clause-ended g c =
 
 pub returns-in-Err-clause-answers : goal.returns-in-Err-clause-answers
 returns-in-Err-clause-answers g c = λ going. record {
-    state = refl;
-    drawn = c.in-Err.ensures.draws.drawn;
-    cause = c.in-Err.ensures.draws.lost;
-  }
+  state = refl;
+  drawn = c.in-Err.ensures.draws.drawn;
+  cause = c.in-Err.ensures.draws.lost;
+}
