@@ -143,7 +143,7 @@ module _ (i : Number) where
     pub along_on :
         {A B : Type 0} (x : A) (r : Result B NodeErr) (Q R S : List ℕ → Type 0) → Along i a b s t (Ok x) Q → Along i b c t u r R →
         ((tape : List ℕ) → Q tape → R tape → S tape) → Along i a c s u r S
-    along_on x r Q R S h k step =
+    along_on {B = B} x r Q R S h k step =
         let one = h.taken in
         let two = k.taken in
         let moved : length two + left_for i u ≡ left_for i t = sym k.drew.fewer in
@@ -186,7 +186,7 @@ module _ (i : Number) where
         subst (λ n. IsTapeOf after.story.tape n tape) h.ahead (subst (λ v. IsTapeOf v (left_for i t) tape) (sym h.tape) of)
 
     drawn_and :
-        (e : NodeErr) → HasDrawn i s t → ((tape : List ℕ) → at_tapes (Err e) tape) → HasTapeCause s t e → Along i before after s t (Err e) (at_tapes (Err e))
+        (e : NodeErr) → HasDrawn i s t → ((tape : List ℕ) → at_tapes (Err e) tape) → HasTapeCause s t e → Along i before after s t {A = Unit {0}} (Err e) (at_tapes (Err e))
     drawn_and e drawn holds cause =
         record { taken = drawn.taken; drew = drawn.drew; holds = λ tape of. holds tape; ok = tt; cause = cause; still = still }
 

@@ -1,6 +1,8 @@
 use Rattle.std.proofs.Common.{◌≡◌, ◌∙◌, ap, subst, Ok}
 use Rattle.std.proofs.lemmas.Result.{err_from_is_err_and}
 use Rattle.proto_core.specs.Standing.{Awaits}
+use Rattle.miner_core.specs.declared.answer.End.TheVariants as end
+use Rattle.miner_core.specs.declared.answer.Step.TheVariants as step
 use Rattle.miner_core.specs.Story.{stands_at, IsAnswer}
 use Rattle.miner_core.specs.Streams.{with_tape, ForEachTape, settled}
 use Rattle.miner_node.proofs.Along.{along_here, along_as, some_tape, unsent_cause}
@@ -66,6 +68,32 @@ returns-in_ok-take_message-in-Ok-Waits g c =
 
 pub returns-in-Err : goal.returns-in-Err
 returns-in-Err g c =
+    let i = g.P.Party.me in
+    let m = c.args.miner.now in
+    let b = g.L.Links.state c.args.links.now in
+    let d = g.L.Links.state c.send_new.new.links in
+    let sends = c.in_ok-send_new.ensures c.requires.going in
+    along_here i m (g.T.TapeSource.state c.args.tapes.now) _ _ c.requires.going c.requires.left
+    (λ tape of start first held.
+    turn_without_memory i start first b d (with_tape m tape) c.args.counts.now c.send_new.new.counts held c.in_ok-send_new.field-0 (sends tape of)) tt
+
+pub returns-in-Ok-Ended-Over : goal.returns-in-Ok-Ended-Over
+returns-in-Ok-Ended-Over g c =
+    let i = g.P.Party.me in
+    let m = c.args.miner.now in
+    let b = g.L.Links.state c.args.links.now in
+    let d = g.L.Links.state c.send_new.new.links in
+    let ending = c.in-Ok-Ended-Over.ending in
+    let sends = c.in_ok-send_new.ensures c.requires.going in
+    let is : c.stands.result ≡ Ok (step.Ended (end.Over ending)) = cc in
+    let ended = subst (λ r. ForEachTape m (λ s. IsAnswer i s (settled r))) is c.stands.ensures.stands c.requires.going in
+    along_here i m (g.T.TapeSource.state c.args.tapes.now) _ _ c.requires.going c.requires.left
+    (λ tape of start first held.
+    turn_ended i start first b d (with_tape m tape) c.args.counts.now c.send_new.new.counts held c.in_ok-send_new.field-0 (sends tape of) ending
+    (ended tape of)) tt
+
+pub returns-in-Ok-Ended : goal.returns-in-Ok-Ended
+returns-in-Ok-Ended g c =
     let i = g.P.Party.me in
     let m = c.args.miner.now in
     let b = g.L.Links.state c.args.links.now in

@@ -37,8 +37,8 @@ loop-preserved g c =
     (λ tape q r. turns_go i a b (with_tape m tape) (with_tape k tape) c.turn.new.counts c.in_ok-ending.field-0 (search rules) (r a (with_tape m tape) q)) in
     along_ok i m k s u c.in_ok-ending.field-0 tt _ all
 
-pub returns-in_err-turn : goal.returns-in_err-turn
-returns-in_err-turn g c =
+pub returns-in_err-ending : goal.returns-in_err-ending
+returns-in_err-ending g c =
     let i = g.P.Party.me in
     let a = g.L.Links.state c.args.links.now in
     let b = g.L.Links.state c.turn.new.links in
@@ -48,11 +48,11 @@ returns-in_err-turn g c =
     let m = c.args.miner.now in
     let n = c.loop.miner in
     let k = c.turn.new.miner in
-    let e = c.in_err-turn.field-0.0 in
+    let e = c.in_err-ending.field-0.0 in
     let p = err_from_is_err_and c.from_residual.result c.from_residual.ensures.1 in
     rw (p.1, p.2)
     (along_err i m k s u e _
-    (along_on i m n k s t u tt (Err e) _ _ (λ tape. EndsTurns i a b (with_tape m tape) (with_tape k tape) (Err e)) c.loop.invariant c.in_err-turn.ensures
+    (along_on i m n k s t u tt (Err e) _ _ (λ tape. EndsTurns i a b (with_tape m tape) (with_tape k tape) (Err e)) c.loop.invariant c.in_err-ending.ensures
     (λ tape q r. turns_stop i a b (with_tape m tape) (with_tape k tape) c.turn.new.counts e (r a (with_tape m tape) q))))
 
 pub returns-in-Some : goal.returns-in-Some
