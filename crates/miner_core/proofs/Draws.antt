@@ -9,7 +9,6 @@ use Rattle.proto_core.specs.Parties.{count_of, from_previous}
 use Rattle.proto_core.specs.Strand.{same_link}
 use Rattle.proto_core.proofs.Beginnings.{append-none}
 use Rattle.gates.specs.Clear.{Values}
-use Rattle.gate_node.specs.Nodes as node
 use Rattle.gate_node.specs.Nodes.{IsTapeOf}
 use Rattle.gate_node.specs.declared.stand.Stand.{Stand}
 use Rattle.gate_node.specs.declared.stand.Stand.TheVariants as stand

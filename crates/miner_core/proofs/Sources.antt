@@ -1,17 +1,17 @@
 -- Words that are drawn of one source, one call after another.
 use Rattle.std.proofs.Common.{◌≡◌, ◌≤◌, ℕ, ◌+◌, List, [], ◌++◌, length, true, refl, sym, subst, ◌∙◌, ap, append_assoc, length-append, arith}
 use Rattle.std.proofs.lemmas.Result.{MatchResult-weaker}
-use Rattle.std.specs.Prelude.{Result, Ok, Err, IfErr}
+use Rattle.std.specs.Prelude.{Result, Err, IfErr}
 use Rattle.outside.specs.declared.error.Failed.{Failed}
 use Rattle.outside.specs.Causes.{Rose, HasLinkCause, IsSteadyLink}
 use Rattle.outside.specs.Files.{FilesState, OnlyRead}
-use Rattle.outside.specs.Tapes.{TapesState, Drew, SameTape, SameTapes, StandsStill, faults_of, left_of}
+use Rattle.outside.specs.Tapes.{TapesState, Drew, SameTape, SameTapes, StandsStill, faults_of}
 use Rattle.proto_core.specs.declared.party.Number.{Number}
 use Rattle.proto_core.specs.declared.party.Number.TheVariants.{One, Two, Three}
 use Rattle.proto_core.specs.Parties.{count_of}
 use Rattle.miner_core.specs.declared.answer.Lost.{Lost}
 use Rattle.miner_core.specs.declared.answer.Lost.TheVariants as lost
-use Rattle.miner_core.specs.Drawing.{left_for, HasDrawn, IsLostBy, Draws}
+use Rattle.miner_core.specs.Drawing.{HasDrawn, IsLostBy, Draws}
 
 pub party-small : (i : Number) → count_of i ≤ 3
 party-small One = omega arith
@@ -132,20 +132,3 @@ draws_failed {A} {B} i a b d r is same cause steady still =
           (record { rose = cause.failed; unsteady = λ s. (steady s).failed });
       still = still;
     }
-
--- words were drawn, and then there was no memory for them
-pub draws_unheld :
-    {A : Type 0} (i : Number) (a b : TapesState) (words : List ℕ) (r : Result A Lost) → r ≡ Err lost.Memory → Drew a b (count_of i) words →
-    (a.steady ≡ true → b.steady ≡ true) → Draws i a b r
-draws_unheld {A} i a b words r is drew still =
-    record {
-      drawn = record { taken = words; drew = drew };
-      lost = subst (λ (q : Result A Lost). IfErr q (IsLostBy a b)) (sym is) tt;
-      still = still;
-    }
-
--- all went well
-pub draws_ok :
-    {A : Type 0} (i : Number) (a b : TapesState) (words : List ℕ) (x : A) → Drew a b (count_of i) words → (a.steady ≡ true → b.steady ≡ true) →
-    Draws i a b (Ok x)
-draws_ok i a b words x drew still = record { drawn = record { taken = words; drew = drew }; lost = tt; still = still }

@@ -1,6 +1,6 @@
 -- An engine stays where its story leads.
-use Rattle.std.proofs.Common.{◌≡◌, ◌≢◌, ℕ, false, if◌then◌else◌, List, [], ◌∷◌, ◌++◌, map, refl, sym, ◌∙◌, ap, subst}
-use Rattle.std.specs.Prelude.{Option, None, Some, Result, Ok, Err, Vec}
+use Rattle.std.proofs.Common.{◌≡◌, ◌≢◌, ℕ, if◌then◌else◌, List, [], ◌∷◌, ◌++◌, map, refl, sym, ◌∙◌, ap, subst}
+use Rattle.std.specs.Prelude.{Option, None, Some, Result, Vec}
 use Rattle.std.specs.declared.alloc.Global.{Global}
 use Rattle.std.proofs.lemmas.Bool.{false_from_ne_true}
 use Rattle.proto_core.specs.declared.party.Number.{Number}
@@ -42,9 +42,7 @@ use Rattle.miner_core.specs.Engines.{end_by, IsQuiet, IsQuietAlways, Keeps}
 use Rattle.miner_core.specs.declared.answer.End.TheVariants as end
 use Rattle.miner_core.specs.declared.answer.Step.{Step}
 use Rattle.miner_core.specs.declared.answer.MinerErr.{MinerErr}
-use Rattle.miner_core.specs.declared.answer.MinerErr.TheVariants as error
 use Rattle.miner_core.specs.Story.{Story, received, start_of, story_of, mail_in, strand_in, standing, stands_at, Follows, Leads, HasEnded, IsAnswerOf, IsAnswer}
-use Rattle.miner_core.specs.Story.{DeliverAnswers}
 use Rattle.miner_core.specs.Story as story
 use Rattle.miner_core.proofs.Forgetting.{run_forgetting, told_forgetting, standing_forgetting, answer_alike}
 use Rattle.miner_core.proofs.Quiet.{QuietAt, quiet_come}
@@ -172,7 +170,8 @@ module _ {P : Type 0} (i : Number) where
   links_same n l Halt = refl
 
   -- its gates tell nothing, with these messages more
-  come_quiet : (n : gates.Engine P) (l : Links) (more : Mail) → mail_left i l ≡ added (mail_left i n.links) more → IsQuiet i n → IsQuiet i (record n { links = l })
+  come_quiet : (n : gates.Engine P) (l : Links) (more : Mail) → mail_left i l ≡ added (mail_left i n.links) more → IsQuiet i n → IsQuiet i (record
+      n { links = l })
   come_quiet n l more mail quiet = λ others.
       subst (λ v. told_in (run v (added (mail_left i l) others)).acts ≡ []) (sym (links_same n l n.work))
       (subst (λ x. told_in (run (node.engine_left i n) (added x others)).acts ≡ []) (sym mail)
@@ -357,14 +356,6 @@ story_kept e e2 budget k =
     ∙ ap (λ t. record (story_of e2 budget) { world = task_world e.task; code = task_code e.task; dealt = e.node.dealt; tape = t }) k.tape
     ∙ ap (λ p. record (story_of e budget) { from_previous = p; from_next = e2.node.links.from_next.0 }) k.links.previous
     ∙ ap (λ n. record (story_of e budget) { from_next = n }) k.links.next
-
-pub deliver_answers :
-    (i : Number) (before after : Story) (l : Link) (m : List ℕ) (r : Result Step MinerErr) → before.lost ≡ false → after ≡ received i before l m →
-    IsAnswer i after r → DeliverAnswers i before after l m r
-deliver_answers i before after l m (Ok x) kept same h = (kept, same, h)
-deliver_answers i before after l m (Err (error.BadMessage k cause)) kept same h = (kept, same, h)
-deliver_answers i before after l m (Err (error.NotAwaited k)) kept same h = absurd h
-deliver_answers i before after l m (Err error.Memory) kept same h = absurd h
 
 -- ---- links
 

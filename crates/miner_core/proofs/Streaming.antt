@@ -1,5 +1,5 @@
 -- A miner that draws its tape, for every tape that begins with the words drawn; and one that was given its tape whole.
-use Rattle.std.proofs.Common.{◌≡◌, ℕ, ◌+◌, Bool, false, true, List, [], ◌∷◌, ◌++◌, length, drop, refl, sym, ◌∙◌, ap, subst, arith}
+use Rattle.std.proofs.Common.{◌≡◌, ℕ, ◌+◌, false, true, List, [], ◌∷◌, ◌++◌, length, drop, refl, sym, ◌∙◌, ap, subst, arith}
 use Rattle.std.proofs.Math.Seq.{drop-append_seam}
 use Rattle.std.specs.Prelude.{Option, Some, None, Result, Ok, Err, IfSome}
 use Rattle.outside.specs.Tapes.{TapesState, Drew}
@@ -152,7 +152,8 @@ pub made_whole :
     IsMade i task dealt first budget no_words t m → story_so_far m ≡ start_of task dealt first budget
 made_whole i task dealt first budget t m made =
     ap (λ (s : Story). record s { lost = has_lost m.lost })
-    (made.story ∙ ap (λ w. start_of task dealt (first ++ w) budget) (none_taken i t made.taken made.drew) ∙ ap (λ w. start_of task dealt w budget) (append-none first))
+    (made.story ∙ ap (λ w. start_of task dealt (first ++ w) budget) (none_taken i t made.taken made.drew) ∙ ap (λ w. start_of task dealt w budget)
+    (append-none first))
     ∙ ap (λ l. record (start_of task dealt first budget) { lost = has_lost l }) made.going
 
 pub made_none :
@@ -198,7 +199,8 @@ module _ (i : Number) (l : Link) (m : List ℕ) (before after : StreamState) (t 
   abbrev IsSame : Result Step StreamErr → Lost → Type 0
   IsSame r k = (r ≡ Err (error.Lost k)) × (after ≡ before)
 
-  module _ (r : Result Step StreamErr) (answers : before.lost ≡ None → Answers i l m before after no_words t r) (lost : (k : Lost) → before.lost ≡ Some k → IsSame r k) where
+  module _ (r : Result Step StreamErr) (answers : before.lost ≡ None → Answers i l m before after no_words t r)
+      (lost : (k : Lost) → before.lost ≡ Some k → IsSame r k) where
     pub whole_answers : DeliverAnswers i (story_so_far before) (story_so_far after) l m (settled r)
     whole_answers = by_lost before.lost refl
       where
@@ -214,12 +216,14 @@ module _ (i : Number) (l : Link) (m : List ℕ) (before after : StreamState) (t 
       where
         by_lost : (k : Option Lost) → before.lost ≡ k → after.lost ≡ None → after.ahead ≡ 0
         by_lost None is = still_none r is (answers is)
-        by_lost (Some k) is = λ gone. let same = lost k is in ap (λ (x : StreamState). x.ahead) same.1 ∙ none (sym (ap (λ (x : StreamState). x.lost) same.1) ∙ gone)
+        by_lost (Some k) is = λ gone. let same = lost k is in ap (λ (x : StreamState). x.ahead) same.1 ∙
+            none (sym (ap (λ (x : StreamState). x.lost) same.1) ∙ gone)
 
     pub whole_lost : (story_so_far before).lost ≡ true → (settled r ≡ Err whole.Memory) × (story_so_far after ≡ story_so_far before)
     whole_lost = by_lost before.lost refl
       where
-        by_lost : (k : Option Lost) → before.lost ≡ k → has_lost before.lost ≡ true → (settled r ≡ Err whole.Memory) × (story_so_far after ≡ story_so_far before)
+        by_lost : (k : Option Lost) → before.lost ≡ k → has_lost before.lost ≡ true → (settled r ≡ Err whole.Memory) × (story_so_far after ≡
+            story_so_far before)
         by_lost None is h = absurd (false_is_true (sym (ap has_lost is) ∙ h))
         by_lost (Some k) is h = let same = lost k is in (ap settled same.0, ap story_so_far same.1)
 

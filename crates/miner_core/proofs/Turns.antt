@@ -34,7 +34,8 @@ use Rattle.gate_node.specs.declared.stand.Stand.TheVariants as stand
 use Rattle.miner_core.specs.declared.notice.Notice as said
 use Rattle.own_code.specs.OwnCode.{From, go_on, tell_and_go_on, gates_between, led_by, behind_gates, own_code, Ended}
 use Rattle.miner_core.specs.Views.{task_world, task_code, told_since, notice_seen}
-use Rattle.miner_core.specs.Engines.{place_at, code_from, goes_on_at, behind_node, engine_left, engine_outcome, engine_told, IsThrough, IsThroughAlways, IsOver, StandsAlways}
+use Rattle.miner_core.specs.Engines.{place_at, code_from, goes_on_at, behind_node, engine_left}
+use Rattle.miner_core.specs.Engines.{engine_outcome, engine_told, IsThrough, IsThroughAlways, IsOver, StandsAlways}
 use Rattle.miner_core.specs.Engines.{KeepsLinks, Keeps, measure, acting, led_to}
 
 -- ---- what a step tells

@@ -2,7 +2,8 @@ ghost use Rattle.std.specs.Prelude.{◌≡◌, ◌<◌, true, false, IfOk, OnOk,
 ghost use Rattle.gate_node.specs.Nodes as node;
 ghost use Rattle.code_turns.specs.declared.outcome.Turned.TheVariants.{Short};
 ghost use Rattle.miner_core.specs.declared.engine.At.TheVariants.{Ready, Again};
-ghost use Rattle.miner_core.specs.Engines.{left_with, outcome_with, told_with, all_shown, IsSoundAlways, IsThroughAlways, IsOver, StandsAlways, Keeps, KeepsLinks};
+ghost use Rattle.miner_core.specs.Engines.{left_with, outcome_with, told_with, all_shown, IsSoundAlways};
+ghost use Rattle.miner_core.specs.Engines.{IsThroughAlways, IsOver, StandsAlways, Keeps, KeepsLinks};
 ghost use Rattle.miner_core.specs.Engines.{acting, led_to, measure, GoesOn};
 
 use crate::letting_go::Letting;

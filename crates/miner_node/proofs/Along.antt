@@ -1,9 +1,9 @@
 -- What holds along the calls of a miner that draws, for each tape that begins with all words drawn.
-use Rattle.std.proofs.Common.{◌≡◌, ◌≤◌, ℕ, zero, suc, ◌+◌, List, [], ◌∷◌, ◌++◌, length, true, refl, sym, ap, ◌∙◌, subst, append_assoc, length-append, arith}
+use Rattle.std.proofs.Common.{◌≡◌, ◌≤◌, ℕ, zero, suc, ◌+◌, List, [], ◌∷◌, ◌++◌, length, true, refl, sym, ap, ◌∙◌, subst, append_assoc, length-append}
 use Rattle.std.proofs.Math.Seq.{drop-append_seam}
-use Rattle.std.specs.Prelude.{None, Some, Result, Ok, Err, OnOk, IfErr, Option}
+use Rattle.std.specs.Prelude.{None, Result, Ok, Err, OnOk, IfErr}
 use Rattle.outside.specs.Links.{LinksState}
-use Rattle.outside.specs.Tapes.{TapesState, Drew, faults_of}
+use Rattle.outside.specs.Tapes.{TapesState, faults_of}
 use Rattle.proto_core.specs.declared.party.Number.{Number}
 use Rattle.proto_core.specs.declared.link.Link.{Link}
 use Rattle.proto_core.specs.Parties.{count_of}
@@ -13,12 +13,11 @@ use Rattle.gate_node.proofs.Supplied.{tape-before}
 use Rattle.miner_core.specs.declared.answer.Step.{Step}
 use Rattle.miner_core.specs.declared.answer.MinerErr.{MinerErr}
 use Rattle.miner_core.specs.declared.answer.MinerErr.TheVariants as whole
-use Rattle.miner_core.specs.declared.answer.Lost.{Lost}
 use Rattle.miner_core.specs.declared.answer.Lost.TheVariants as lost
 use Rattle.miner_core.specs.declared.answer.StreamErr.{StreamErr}
 use Rattle.miner_core.specs.declared.answer.StreamErr.TheVariants as stream
-use Rattle.miner_core.specs.Drawing.{left_for, HasDrawn, IsLostBy}
-use Rattle.miner_core.specs.Streams.{StreamState, with_tape, ForEachTape, HasMoved, HasNotMoved, IsLostNow, Answers}
+use Rattle.miner_core.specs.Drawing.{left_for, HasDrawn}
+use Rattle.miner_core.specs.Streams.{StreamState, with_tape, HasMoved, Answers}
 use Rattle.miner_core.proofs.Draws.{tape_earlier}
 use Rattle.miner_core.proofs.Sources.{drew_none, drew_more, rose_on}
 use Rattle.miner_node.specs.declared.node_err.NodeErr.{NodeErr}
@@ -102,7 +101,8 @@ module _ (i : Number) where
   -- what is answered is as good as this
   pub along_as :
       {A B : Type 0} (m n : StreamState) (s t : TapesState) (r : Result A NodeErr) (q : Result B NodeErr) (Q R : List ℕ → Type 0) → Along i m n s t r Q →
-      left_for i s ≡ m.ahead → ((tape : List ℕ) → IsTapeOf m.story.tape m.ahead tape → Q tape → R tape) → ((taken : List ℕ) → OnOk r (HasGone i m n s t taken) → OnOk q (HasGone i m n s t taken)) →
+      left_for i s ≡ m.ahead → ((tape : List ℕ) → IsTapeOf m.story.tape m.ahead tape → Q tape → R tape) → ((taken : List ℕ) → OnOk r (HasGone i m n
+      s t taken) → OnOk q (HasGone i m n s t taken)) →
       (IfErr r (HasTapeCause s t) → IfErr q (HasTapeCause s t)) → Along i m n s t q R
   along_as m n s t r q Q R h left step ok cause =
       record {
@@ -186,7 +186,8 @@ module _ (i : Number) where
         subst (λ n. IsTapeOf after.story.tape n tape) h.ahead (subst (λ v. IsTapeOf v (left_for i t) tape) (sym h.tape) of)
 
     drawn_and :
-        (e : NodeErr) → HasDrawn i s t → ((tape : List ℕ) → at_tapes (Err e) tape) → HasTapeCause s t e → Along i before after s t {A = Unit {0}} (Err e) (at_tapes (Err e))
+        (e : NodeErr) → HasDrawn i s t → ((tape : List ℕ) → at_tapes (Err e) tape) → HasTapeCause s t e → Along i before after s t {A = Unit {0}}
+        (Err e) (at_tapes (Err e))
     drawn_and e drawn holds cause =
         record { taken = drawn.taken; drew = drawn.drew; holds = λ tape of. holds tape; ok = tt; cause = cause; still = still }
 

@@ -1,5 +1,6 @@
 -- Frames of messages are sent one after another.
-use Rattle.std.proofs.Common.{◌≡◌, ◌≢◌, ◌≤◌, ◌<◌, ℕ, ◌+◌, List, [], ◌∷◌, ◌++◌, take, drop, length, get_or, Ok, Err, refl, sym, ap, ◌∙◌, subst, true, add-one, take_all}
+use Rattle.std.proofs.Common.{◌≡◌, ◌≢◌, ◌≤◌, ◌<◌, ℕ, ◌+◌, List, [], ◌∷◌, ◌++◌, take, drop}
+use Rattle.std.proofs.Common.{length, get_or, Ok, Err, refl, sym, ap, ◌∙◌, subst, true, add-one, take_all}
 use Rattle.std.proofs.Math.Seq.{take-suc}
 use Rattle.std.proofs.lemmas.Grind.{flat_map-append}
 use Rattle.std.proofs.lemmas.List.{append-nil, append_assoc, take-append-drop}
@@ -163,7 +164,8 @@ module _ (i : Number) (s : Story) (counts : SentCounts) (a b : LinksState) where
         → SendsFrom b c (count_of (previous_of i)) (sent_to_previous i s) counts.to_previous (Ok count2)
         → after.to_next ≡ count → after.to_previous ≡ count2 → SendsNew {T = T} i s counts after a c (Ok x)
     new_all x after count2 q one two =
-        let sent : a.told ≡ true → (base : ℕ → List ℕ) → HasSentSome i base a.sent s counts → Sends i base c.sent (frames (sent_to_next i s)) (frames (sent_to_previous i s)) =
+        let sent : a.told ≡ true → (base : ℕ → List ℕ) → HasSentSome i base a.sent s counts → Sends i base c.sent (frames (sent_to_next i s))
+        (frames (sent_to_previous i s)) =
         λ t base is.
         let u : b.told ≡ true = p.later.told ∙ t in
         record {

@@ -96,7 +96,8 @@ fn send_previous<P: Party, L: Links>(
     sent: usize,
     links: &mut L,
 ) -> Result<usize, NodeErr>
-    ensures { ForEachTape miner.now (λ s. SendsFrom (L.state links.old) (L.state links.new) (count_of (previous_of P.me)) (sent_to_previous P.me s) sent result) }
+    ensures { ForEachTape miner.now (λ s. SendsFrom (L.state links.old) (L.state links.new) (count_of (previous_of P.me)) (sent_to_previous P.me s)
+        sent result) }
 {
     let peer = P::number().previous().as_u8();
     send_from(alloc, miner.sent_to_previous(), sent, peer, links)

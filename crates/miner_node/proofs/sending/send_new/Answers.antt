@@ -26,4 +26,5 @@ returns g c = λ going tape of.
     let state = g.L.Links.state in
     new_all g.P.Party.me (with_tape c.args.miner.now tape) c.args.counts.now (state c.args.links.now) (state c.send_next.new.links)
     (state c.send_previous.new.links) c.in_ok-next.next (c.in_ok-next.ensures going tape of) _
-    (record { to_next = c.in_ok-next.next; to_previous = c.in_ok-previous.previous }) c.in_ok-previous.previous (c.in_ok-previous.ensures going tape of) refl refl
+    (record { to_next = c.in_ok-next.next; to_previous = c.in_ok-previous.previous }) c.in_ok-previous.previous (c.in_ok-previous.ensures going
+    tape of) refl refl

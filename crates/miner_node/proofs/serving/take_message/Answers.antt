@@ -38,4 +38,5 @@ returns g c =
     let b = g.L.Links.state c.read_of.new.links in
     let own : receiver_of l ≡ i = c.ends_here.ensures c.if-not-ends_here.false in
     along_as i m n s t c.deliver.result c.deliver.result _ _ c.deliver.ensures c.requires.left
-    (λ tape of q. takes i l own (with_tape m tape) a b c.in_ok-message.message c.in_ok-message.ensures (with_tape n tape) c.deliver.result q) (λ taken k. k) (λ k. k)
+    (λ tape of q. takes i l own (with_tape m tape) a b c.in_ok-message.message c.in_ok-message.ensures (with_tape n tape) c.deliver.result q) (λ
+    taken k. k) (λ k. k)

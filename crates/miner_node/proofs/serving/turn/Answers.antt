@@ -1,9 +1,8 @@
 use Rattle.std.proofs.Common.{◌≡◌, ◌∙◌, ap, subst, Ok}
 use Rattle.std.proofs.lemmas.Result.{err_from_is_err_and}
-use Rattle.proto_core.specs.Standing.{Awaits}
 use Rattle.miner_core.specs.declared.answer.End.TheVariants as end
 use Rattle.miner_core.specs.declared.answer.Step.TheVariants as step
-use Rattle.miner_core.specs.Story.{stands_at, IsAnswer}
+use Rattle.miner_core.specs.Story.{IsAnswer}
 use Rattle.miner_core.specs.Streams.{with_tape, ForEachTape, settled}
 use Rattle.miner_node.proofs.Along.{along_here, along_as, some_tape, unsent_cause}
 use Rattle.miner_node.proofs.Rounds.{turn_unsent, turn_untaken, turn_taken, turn_ended, turn_without_memory}
@@ -20,7 +19,8 @@ returns-in_err-send_new g c =
     let p = err_from_is_err_and c.from_residual.result c.from_residual.ensures.1 in
     rw (p.1, p.2)
     (along_here i m (g.T.TapeSource.state c.args.tapes.now) _ _ c.requires.going c.requires.left
-    (λ tape of start first held. turn_unsent i start first b d (with_tape m tape) c.args.counts.now c.send_new.new.counts held c.in_err-send_new.field-0.0 (sends tape of))
+    (λ tape of start first held. turn_unsent i start first b d (with_tape m tape) c.args.counts.now c.send_new.new.counts held
+    c.in_err-send_new.field-0.0 (sends tape of))
     (unsent_cause b d (g.T.TapeSource.state c.args.tapes.now) c.in_err-send_new.field-0.0 (sends one.0 one.1).err))
 
 pub take_message-requires-clause-awaited : goal.take_message-requires-clause-awaited
@@ -38,7 +38,8 @@ returns-in_err-take_message-in-Ok-Waits g c =
     let f = g.L.Links.state c.take_message.new.links in
     let l = c.in-Ok-Waits.link in
     let sends = c.in_ok-send_new.ensures c.requires.going in
-    let awaits = subst (λ r. ForEachTape m (λ s. IsAnswer i s (settled r))) (c.in-Ok-Waits.is ∙ ap Ok c.in-Ok-Waits.field-0-is) c.stands.ensures.stands c.requires.going in
+    let awaits = subst (λ r. ForEachTape m (λ s. IsAnswer i s (settled r))) (c.in-Ok-Waits.is ∙ ap Ok c.in-Ok-Waits.field-0-is)
+    c.stands.ensures.stands c.requires.going in
     let p = err_from_is_err_and c.from_residual-in_err-take_message-in-Ok-Waits.result c.from_residual-in_err-take_message-in-Ok-Waits.ensures.1 in
     rw (p.1, p.2)
     (along_as i m n (g.T.TapeSource.state c.args.tapes.now) (g.T.TapeSource.state c.take_message.new.tapes) _ _ _ _ c.in_err-take_message-in-Ok-Waits.ensures
@@ -58,7 +59,8 @@ returns-in_ok-take_message-in-Ok-Waits g c =
     let f = g.L.Links.state c.take_message.new.links in
     let l = c.in-Ok-Waits.link in
     let sends = c.in_ok-send_new.ensures c.requires.going in
-    let awaits = subst (λ r. ForEachTape m (λ s. IsAnswer i s (settled r))) (c.in-Ok-Waits.is ∙ ap Ok c.in-Ok-Waits.field-0-is) c.stands.ensures.stands c.requires.going in
+    let awaits = subst (λ r. ForEachTape m (λ s. IsAnswer i s (settled r))) (c.in-Ok-Waits.is ∙ ap Ok c.in-Ok-Waits.field-0-is)
+    c.stands.ensures.stands c.requires.going in
     along_as i m n (g.T.TapeSource.state c.args.tapes.now) (g.T.TapeSource.state c.take_message.new.tapes) _ _ _ _ c.in_ok-take_message-in-Ok-Waits.ensures
     c.requires.left
     (λ tape of q start first held.

@@ -15,7 +15,8 @@ loop-done-preserved g c =
     record {
       within = omega (arith, c.in_ok-done.ensures.most, same, part, held.within);
       same_length = same ∙ held.same_length;
-      came = came_more c.args.peer n c.in_ok-done.field-0 m xs ys held.within (omega (arith, c.in_ok-done.ensures.most, c.recv.auto.into)) held.came c.in_ok-done.ensures.ok;
+      came = came_more c.args.peer n c.in_ok-done.field-0 m xs ys held.within (omega (arith, c.in_ok-done.ensures.most, c.recv.auto.into))
+          held.came c.in_ok-done.ensures.ok;
       later =
           record {
             told = c.in_ok-done.ensures.ok.told ∙ held.later.told;

@@ -8,6 +8,7 @@ pub returns-clause-left : goal.returns-clause-left
 returns-clause-left g c =
     let e = c.args.self.now in
     λ d. λ more.
-    acts_again g.P.Party.me (with_words e more) c.step_told.new.machine c.step_told.new.stage c.in_ok-turned.turned c.in_ok-speech.speech c.told_yet-before.result
+    acts_again g.P.Party.me (with_words e more) c.step_told.new.machine c.step_told.new.stage c.in_ok-turned.turned c.in_ok-speech.speech
+    c.told_yet-before.result
     c.last_words.result.now c.requires.again (c.requires.through more) (c.last_words.ensures ∙ ap last_of c.values.ensures) c.in_ok-turned.ensures.step
     c.told_yet-before.ensures.events c.told_yet-before.ensures.opened c.in_ok-speech.ensures d

@@ -12,7 +12,8 @@ returns-then-wants_words-clause-left g c =
     let made = c.in_ok-gates.ensures ∙ ap (λ gates. drop c.len-from.result gates) c.deref.ensures.value
     ∙ ap (λ n. drop n c.step_told.new.stage.gates.items) from in
     λ d. λ more.
-    begins_again g.P.Party.me (with_words e more) c.step_told.new.machine c.step_told.new.stage (e.fuel - 1) (filled c.add.new.self more) c.in_ok-turned.turned c.in_ok-gates.gates.items
+    begins_again g.P.Party.me (with_words e more) c.step_told.new.machine c.step_told.new.stage (e.fuel - 1) (filled c.add.new.self more)
+    c.in_ok-turned.turned c.in_ok-gates.gates.items
     c.requires.ready (c.requires.through more) (c.in_ok-add.ensures.left more) c.add.ensures.kept.dealt fuel c.in_ok-turned.ensures.step made
     c.rewind.new.stage (c.wants_words.ensures.wants c.if-wants_words.true) (λ gained. c.rewind.ensures.again _ c.marked-mark.ensures gained) d
 
@@ -24,7 +25,8 @@ returns-clause-left g c =
     let made = c.in_ok-gates.ensures ∙ ap (λ gates. drop c.len-from.result gates) c.deref.ensures.value
     ∙ ap (λ n. drop n c.step_told.new.stage.gates.items) from in
     λ d. λ more.
-    begins_acts g.P.Party.me (with_words e more) c.step_told.new.machine c.step_told.new.stage (e.fuel - 1) (filled c.add.new.self more) c.in_ok-turned.turned c.in_ok-gates.gates.items
+    begins_acts g.P.Party.me (with_words e more) c.step_told.new.machine c.step_told.new.stage (e.fuel - 1) (filled c.add.new.self more)
+    c.in_ok-turned.turned c.in_ok-gates.gates.items
     c.requires.ready (c.requires.through more) (c.in_ok-add.ensures.left more) c.add.ensures.kept.dealt fuel c.in_ok-turned.ensures.step made
     c.in_ok-speech.speech c.told_yet-before.result (c.wants_words.ensures.goes_on c.if-wants_words.false) c.told_yet-before.ensures.events
     c.told_yet-before.ensures.opened c.in_ok-speech.ensures d
@@ -40,7 +42,8 @@ returns-then-wants_words-clause-sound g c =
       stands = c.in_ok-turned.ensures.stands;
       quiet =
           λ more.
-          gates_quiet g.P.Party.me (with_words e more) c.step_told.new.machine c.step_told.new.stage (e.fuel - 1) (filled c.add.new.self more) c.in_ok-turned.turned c.in_ok-gates.gates.items
+          gates_quiet g.P.Party.me (with_words e more) c.step_told.new.machine c.step_told.new.stage (e.fuel - 1) (filled c.add.new.self more)
+          c.in_ok-turned.turned c.in_ok-gates.gates.items
           c.requires.ready (c.requires.through more) (c.in_ok-add.ensures.left more) c.add.ensures.kept.dealt fuel c.in_ok-turned.ensures.step made;
     }
 
@@ -55,6 +58,7 @@ returns-clause-sound g c =
       stands = c.in_ok-turned.ensures.stands;
       quiet =
           λ more.
-          gates_quiet g.P.Party.me (with_words e more) c.step_told.new.machine c.step_told.new.stage (e.fuel - 1) (filled c.add.new.self more) c.in_ok-turned.turned c.in_ok-gates.gates.items
+          gates_quiet g.P.Party.me (with_words e more) c.step_told.new.machine c.step_told.new.stage (e.fuel - 1) (filled c.add.new.self more)
+          c.in_ok-turned.turned c.in_ok-gates.gates.items
           c.requires.ready (c.requires.through more) (c.in_ok-add.ensures.left more) c.add.ensures.kept.dealt fuel c.in_ok-turned.ensures.step made;
     }

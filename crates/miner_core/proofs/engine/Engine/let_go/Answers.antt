@@ -19,7 +19,11 @@ returns-clause-left g c =
     let needed = c.in_ok-numbers in
     let counted : e.stage.made ≡ length e.node.values = search rules in
     λ d. λ more.
-    let_go_left i (with_words e more) (filled n more) (record e.stage { gates = c.clear.new.self }) (record { done = c.len-done.result; next = c.saturating_add-next.result })
+    let_go_left i (with_words e more) (filled n more) (record e.stage { gates = c.clear.new.self }) (record {
+      done = c.len-done.result;
+      next =
+          c.saturating_add-next.result;
+    })
     c.requires.ready (c.requires.through more) (k.through more (c.requires.through more)) (same_but_values_with e.node n more k.same)
     (ap (λ gates. with_gates gates (stage_seen e.stage)) c.clear.ensures.items)
     (is_held (place_at i e) (λ number. IsTrue (contains nat_cmp needed.numbers number)) e.node.values n.values k.as_many counted

@@ -1,4 +1,4 @@
-use Rattle.std.proofs.Common.{◌≡◌, ◌≢◌, sym, subst, ap, arith}
+use Rattle.std.proofs.Common.{◌≡◌, ◌≢◌, sym, subst, arith}
 use Rattle.proto_core.specs.Parties.{from_previous}
 use Rattle.miner_core.specs.Engines.{with_words, IsQuietAlways}
 use Rattle.miner_core.specs.Story.{Leads, received}

@@ -1,4 +1,4 @@
-use Rattle.std.proofs.Common.{rules, ◌≡◌, ◌<◌, ◌+◌, length, [], sym, ◌∙◌, ap, subst, Ok, Err, arith}
+use Rattle.std.proofs.Common.{rules, ◌≡◌, ◌+◌, length, [], sym, ◌∙◌, ap, subst, Err, arith}
 use Rattle.std.proofs.lemmas.Result.{err_from_is_err_and}
 use Rattle.miner_core.specs.Drawing.{left_for, DrewOn, IsTooShort}
 use Rattle.miner_core.specs.Engines.{StandsAlways}

@@ -12,7 +12,10 @@ returns-then-branch-clause-left g c =
     let e = c.args.self.now in
     let done = c.in_ok-store_in_place.ensures.stored c.if-branch.true in
     λ d. λ more.
-    spared_left g.P.Party.me (with_words e more) (filled c.store_in_place.new.self more) (record { done = c.len-self.result; next = e.letting.next }) c.in-Some.array done.values
+    spared_left g.P.Party.me (with_words e more) (filled c.store_in_place.new.self more) (record {
+      done = c.len-self.result;
+      next = e.letting.next;
+    }) c.in-Some.array done.values
     c.in-Some.ensures.leads (done.stored more) c.in-Some.ensures.frees d
 
 pub returns-then-branch-clause-kept : goal.returns-then-branch-clause-kept

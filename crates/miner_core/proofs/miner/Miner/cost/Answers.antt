@@ -8,4 +8,5 @@ returns g c = λ going.
     let i = g.P.Party.me in
     let m = c.self.inside.inner in
     subst (λ s. AtStop i s (λ p. c.cost.result ≡ s.budget - p.stage.left)) c.self.view_is
-    (at_whole m (λ s. AtStop i s (λ p. c.cost.result ≡ s.budget - p.stage.left)) c.self.invariant c.cost.ensures (ap (λ (s : Story). s.lost) c.self.view_is ∙ going))
+    (at_whole m (λ s. AtStop i s (λ p. c.cost.result ≡ s.budget - p.stage.left)) c.self.invariant c.cost.ensures (ap (λ (s : Story). s.lost)
+    c.self.view_is ∙ going))

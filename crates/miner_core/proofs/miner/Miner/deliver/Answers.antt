@@ -1,7 +1,5 @@
-use Rattle.std.proofs.Common.{◌≡◌, refl, sym, ◌∙◌, ap, subst}
+use Rattle.std.proofs.Common.{◌≡◌, sym, ◌∙◌, ap, subst}
 use Rattle.proto_core.specs.Standing.{AtItsEnd}
-use Rattle.miner_core.specs.declared.answer.StreamErr.TheVariants as error
-use Rattle.miner_core.specs.declared.answer.MinerErr.TheVariants as whole
 use Rattle.miner_core.specs.Story.{Story, DeliverAnswers, stands_at}
 use Rattle.miner_core.specs.Streams.{no_words, settled, story_so_far}
 use Rattle.miner_core.proofs.Streaming.{at_whole, if_lost, IsNotAwaited, whole_answers, whole_lost, whole_still}

@@ -10,4 +10,5 @@ returns g c = λ going.
     let i = g.P.Party.me in
     let m = c.self.inside.inner in
     subst (λ s. AtStop i s (λ p. c.drawn.result ≡ drawn_by p.stage.drawn (miner_of i))) c.self.view_is
-    (at_whole m (λ s. AtStop i s (λ p. c.drawn.result ≡ drawn_by p.stage.drawn (miner_of i))) c.self.invariant c.drawn.ensures (ap (λ (s : Story). s.lost) c.self.view_is ∙ going))
+    (at_whole m (λ s. AtStop i s (λ p. c.drawn.result ≡ drawn_by p.stage.drawn (miner_of i))) c.self.invariant c.drawn.ensures (ap (λ (s : Story).
+    s.lost) c.self.view_is ∙ going))

@@ -9,4 +9,5 @@ returns g c = λ going.
     let i = g.P.Party.me in
     let m = c.self.inside.inner in
     subst (λ s. map notice_seen c.notices.result.now ≡ has_told i s) c.self.view_is
-    (at_whole m (λ s. map notice_seen c.notices.result.now ≡ has_told i s) c.self.invariant c.notices.ensures (ap (λ (s : Story). s.lost) c.self.view_is ∙ going))
+    (at_whole m (λ s. map notice_seen c.notices.result.now ≡ has_told i s) c.self.invariant c.notices.ensures (ap (λ (s : Story). s.lost)
+    c.self.view_is ∙ going))

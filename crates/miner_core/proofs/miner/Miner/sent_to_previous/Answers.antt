@@ -8,4 +8,5 @@ returns g c = λ going.
     let i = g.P.Party.me in
     let m = c.self.inside.inner in
     subst (λ s. c.sent_to_previous.result.now ≡ sent_to_previous i s) c.self.view_is
-    (at_whole m (λ s. c.sent_to_previous.result.now ≡ sent_to_previous i s) c.self.invariant c.sent_to_previous.ensures (ap (λ (s : Story). s.lost) c.self.view_is ∙ going))
+    (at_whole m (λ s. c.sent_to_previous.result.now ≡ sent_to_previous i s) c.self.invariant c.sent_to_previous.ensures (ap (λ (s : Story). s.lost)
+    c.self.view_is ∙ going))

@@ -43,7 +43,8 @@ returns-in-Ok-clause-answers g c = λ going.
     let none : m.lost ≡ None = ap (λ (v : StreamState). v.lost) c.self.view_is ∙ going in
     let left : left_for i old ≡ m.ahead = c.requires.left going ∙ sym (ap (λ (v : StreamState). v.ahead) c.self.view_is) in
     subst (λ v. Answers i l w v (seen i e2 m.budget c.words_left-self-inside.result m.lost) old new c.answer.result) c.self.view_is
-    (answers_moved i m.engine e2 m.rest c.in-Ok.rest l w m.budget m.ahead c.words_left-self-inside.result m.lost old new c.answer.result none (c.self.invariant none) left
+    (answers_moved i m.engine e2 m.rest c.in-Ok.rest l w m.budget m.ahead c.words_left-self-inside.result m.lost old new c.answer.result none
+    (c.self.invariant none) left
     c.in-Ok.ensures.delivers (sym c.words_left-self-inside.ensures) c.answer.ensures.stands c.answer.ensures.of_message)
 
 pub returns-in-Ok-clause-ended : goal.returns-in-Ok-clause-ended

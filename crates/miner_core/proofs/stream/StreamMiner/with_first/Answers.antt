@@ -1,6 +1,6 @@
 use Rattle.std.proofs.Common.{[], ◌++◌, refl, sym, ◌∙◌, ap, subst}
-use Rattle.miner_core.specs.Drawing.{left_for, IsAtRest}
-use Rattle.miner_core.specs.Story.{Story, story_of, start_of}
+use Rattle.miner_core.specs.Drawing.{IsAtRest}
+use Rattle.miner_core.specs.Story.{Story, start_of}
 use Rattle.miner_core.proofs.Draws.{at_rest_new, story_moved}
 use Rattle.miner_core.proofs.stream.StreamMiner.with_first.Goals as goal
 
