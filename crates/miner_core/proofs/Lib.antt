@@ -5,8 +5,13 @@ pub mod Forgetting
 pub mod Begins
 pub mod Gates
 pub mod Notices
+pub mod Further
 pub mod Stories
 pub mod Stops
 pub mod Staying
+pub mod Sources
+pub mod Draws
+pub mod Streaming
+pub mod Told
 pub use Rattle.gate_node.proofs.Always
 pub use Rattle.gate_node.proofs.OwnGates

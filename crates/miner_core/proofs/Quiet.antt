@@ -78,7 +78,8 @@ quiet_kept i l l2 s s2 same still h =
 
 -- behind a call that goes as far as the messages lead
 pub node_quiet :
-    {P : Type 0} (i : Number) (n n2 : gates.Engine P) (at : Rest) → node.engine_outcome i n2 ≡ node.engine_outcome i n → node.EngineStands i (gates_stand at) n2 →
+    {P : Type 0} (i : Number) (n n2 : gates.Engine P) (at : Rest) → node.engine_outcome i n2 ≡ node.engine_outcome i n → node.EngineStands i
+    (gates_stand at) n2 →
     IsQuiet i n → IsQuiet i n2
 node_quiet i n n2 Through same h quiet = subst (λ s. QuietAt s (mail_left i n2.links)) (sym h) (λ more. refl)
 node_quiet i n n2 AtStuck same h quiet = subst (λ s. QuietAt s (mail_left i n2.links)) (sym h) (λ more. refl)

@@ -1,6 +1,6 @@
 -- An engine stays where its story leads.
-use Rattle.std.proofs.Common.{◌≡◌, ◌≢◌, ℕ, false, if◌then◌else◌, List, [], ◌∷◌, ◌++◌, map, refl, sym, ◌∙◌, ap, subst}
-use Rattle.std.specs.Prelude.{Option, None, Some, Result, Ok, Err, Vec}
+use Rattle.std.proofs.Common.{◌≡◌, ◌≢◌, ℕ, if◌then◌else◌, List, [], ◌∷◌, ◌++◌, map, refl, sym, ◌∙◌, ap, subst}
+use Rattle.std.specs.Prelude.{Option, None, Some, Result, Vec}
 use Rattle.std.specs.declared.alloc.Global.{Global}
 use Rattle.std.proofs.lemmas.Bool.{false_from_ne_true}
 use Rattle.proto_core.specs.declared.party.Number.{Number}
@@ -38,12 +38,11 @@ use Rattle.miner_core.specs.declared.task.Task.{Task}
 use Rattle.own_code.specs.OwnCode.{Ended, Reached, Unfit, own_code}
 use Rattle.miner_core.specs.Views.{notice_seen, task_world, task_code}
 use Rattle.miner_core.specs.Engines.{place_at, goes_on_at, behind_node, engine_left, engine_outcome, engine_told, forgetting, shown, IsSound, IsOver, Rests}
-use Rattle.miner_core.specs.Engines.{Keeps}
+use Rattle.miner_core.specs.Engines.{end_by, IsQuiet, IsQuietAlways, Keeps}
+use Rattle.miner_core.specs.declared.answer.End.TheVariants as end
 use Rattle.miner_core.specs.declared.answer.Step.{Step}
 use Rattle.miner_core.specs.declared.answer.MinerErr.{MinerErr}
-use Rattle.miner_core.specs.declared.answer.MinerErr.TheVariants as error
-use Rattle.miner_core.specs.Story.{Story, received, start_of, story_of, mail_in, strand_in, standing, stands_at, Follows, Leads, IsAnswerOf, IsAnswer}
-use Rattle.miner_core.specs.Story.{DeliverAnswers}
+use Rattle.miner_core.specs.Story.{Story, received, start_of, story_of, mail_in, strand_in, standing, stands_at, Follows, Leads, HasEnded, IsAnswerOf, IsAnswer}
 use Rattle.miner_core.specs.Story as story
 use Rattle.miner_core.proofs.Forgetting.{run_forgetting, told_forgetting, standing_forgetting, answer_alike}
 use Rattle.miner_core.proofs.Quiet.{QuietAt, quiet_come}
@@ -118,6 +117,18 @@ module _ {P : Type 0} (i : Number) where
       let last = over_ends e e.at e.node.values e.node.tape.1 (h.over refl) in
       (last.0, ap (λ s. then_do s (behind_node i e e.at)) h.node ∙ last.1)
 
+  over_has_ended : (e : Engine P) (a : At) (values : Values) (tape : List ℕ) → IsOver i e a → HasEnded (goes_on_at i e a values tape) (end_by a)
+  over_has_ended e at.Ready values tape h = subst (λ k. HasEnded (goes_on_at i (record e { fuel = k }) at.Ready values tape) end.Endless) (sym h) tt
+  over_has_ended e at.Again values tape h = absurd h
+  over_has_ended e (at.Acts t speech before) values tape h = absurd h
+  over_has_ended e (at.Over ending) values tape h = refl
+  over_has_ended e at.Short values tape h = tt
+
+  pub through_has_ended : (e : Engine P) → Rests i Through e → HasEnded (engine_left i e) (end_by e.at)
+  through_has_ended e h =
+      subst (λ s. HasEnded (then_do s (behind_node i e e.at)) (end_by e.at)) (sym h.node)
+      (over_has_ended e e.at e.node.values e.node.tape.1 (h.over refl))
+
   pub stuck_ends : (e : Engine P) → Rests i AtStuck e → engine_left i e ≡ Ends Unfit
   stuck_ends e h = ap (λ s. then_do s (behind_node i e e.at)) h.node
 
@@ -157,6 +168,24 @@ module _ {P : Type 0} (i : Number) where
   links_same n l (Between r) = refl
   links_same n l (Within r block) = refl
   links_same n l Halt = refl
+
+  -- its gates tell nothing, with these messages more
+  come_quiet : (n : gates.Engine P) (l : Links) (more : Mail) → mail_left i l ≡ added (mail_left i n.links) more → IsQuiet i n → IsQuiet i (record
+      n { links = l })
+  come_quiet n l more mail quiet = λ others.
+      subst (λ v. told_in (run v (added (mail_left i l) others)).acts ≡ []) (sym (links_same n l n.work))
+      (subst (λ x. told_in (run (node.engine_left i n) (added x others)).acts ≡ []) (sym mail)
+      (quiet_come (node.engine_left i n) (mail_left i n.links) more quiet others))
+
+  pub quiet_from_previous : (n : gates.Engine P) (m : List ℕ) → IsQuietAlways i n → IsQuietAlways i (record n { links = came_from_previous n.links m })
+  quiet_from_previous n m quiet = λ more.
+      come_quiet (node.filled n more) (came_from_previous n.links m) (mail_of i (m ∷ []) [])
+      (mail_previous i n.links.from_previous.1 n.links.from_next.1 m) (quiet more)
+
+  pub quiet_from_next : (n : gates.Engine P) (m : List ℕ) → IsQuietAlways i n → IsQuietAlways i (record n { links = came_from_next n.links m })
+  quiet_from_next n m quiet = λ more.
+      come_quiet (node.filled n more) (came_from_next n.links m) (mail_of i [] (m ∷ []))
+      (mail_next i n.links.from_previous.1 n.links.from_next.1 m) (quiet more)
 
   abbrev with_links : Engine P → Links → Engine P
   with_links e l = record e { node = record e.node { links = l } }
@@ -209,15 +238,7 @@ module _ {P : Type 0} (i : Number) where
         ∙ told-append (story.node i s).acts (run (story.node i s).left (added (story.node i s).unread more)).acts)
 
     come_sound : IsSound i (with_links e l)
-    come_sound =
-        record {
-          stands = f.sound.stands;
-          quiet =
-              λ others.
-              subst (λ v. told_in (run v (added (mail_left i l) others)).acts ≡ []) (sym (links_same e.node l e.node.work))
-              (subst (λ x. told_in (run (node.engine_left i e.node) (added x others)).acts ≡ []) (sym mail)
-              (quiet_come (node.engine_left i e.node) (mail_left i e.node.links) more f.sound.quiet others));
-        }
+    come_sound = record { stands = f.sound.stands; quiet = come_quiet e.node l more mail f.sound.quiet }
 
     comes : Leads i (with_links e l) s2
     comes = record { sound = come_sound; same = come_same; told = come_told }
@@ -335,14 +356,6 @@ story_kept e e2 budget k =
     ∙ ap (λ t. record (story_of e2 budget) { world = task_world e.task; code = task_code e.task; dealt = e.node.dealt; tape = t }) k.tape
     ∙ ap (λ p. record (story_of e budget) { from_previous = p; from_next = e2.node.links.from_next.0 }) k.links.previous
     ∙ ap (λ n. record (story_of e budget) { from_next = n }) k.links.next
-
-pub deliver_answers :
-    (i : Number) (before after : Story) (l : Link) (m : List ℕ) (r : Result Step MinerErr) → before.lost ≡ false → after ≡ received i before l m →
-    IsAnswer i after r → DeliverAnswers i before after l m r
-deliver_answers i before after l m (Ok x) kept same h = (kept, same, h)
-deliver_answers i before after l m (Err (error.BadMessage k cause)) kept same h = (kept, same, h)
-deliver_answers i before after l m (Err (error.NotAwaited k)) kept same h = absurd h
-deliver_answers i before after l m (Err error.Memory) kept same h = absurd h
 
 -- ---- links
 

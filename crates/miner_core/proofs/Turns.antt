@@ -29,13 +29,14 @@ use Rattle.code_turns.proofs.Places.{stage_went}
 use Rattle.miner_core.specs.declared.engine.At.{At}
 use Rattle.miner_core.specs.declared.engine.At.TheVariants as at
 use Rattle.miner_core.specs.declared.engine.Engine.{Engine}
-use Rattle.miner_core.specs.declared.rest.Rest.{Rest}
-use Rattle.miner_core.specs.declared.rest.Rest.TheVariants as rest
+use Rattle.gate_node.specs.declared.stand.Stand.{Stand}
+use Rattle.gate_node.specs.declared.stand.Stand.TheVariants as stand
 use Rattle.miner_core.specs.declared.notice.Notice as said
 use Rattle.own_code.specs.OwnCode.{From, go_on, tell_and_go_on, gates_between, led_by, behind_gates, own_code, Ended}
 use Rattle.miner_core.specs.Views.{task_world, task_code, told_since, notice_seen}
-use Rattle.miner_core.specs.Engines.{place_at, code_from, goes_on_at, behind_node, engine_left, engine_outcome, engine_told, IsThrough, IsOver, Rests}
-use Rattle.miner_core.specs.Engines.{KeepsLinks, Keeps, measure, acting, led_to, gates_stand}
+use Rattle.miner_core.specs.Engines.{place_at, code_from, goes_on_at, behind_node, engine_left}
+use Rattle.miner_core.specs.Engines.{engine_outcome, engine_told, IsThrough, IsThroughAlways, IsOver, StandsAlways}
+use Rattle.miner_core.specs.Engines.{KeepsLinks, Keeps, measure, acting, led_to}
 
 -- ---- what a step tells
 
@@ -197,18 +198,24 @@ holds_links e e2 k =
 
 -- ---- where it rests
 
-no_through_waits : (link : Link) (cause : Option BadMessage) → rest.Waits link cause ≡ rest.Through → ⊥
+no_through_waits : (link : Link) (cause : Option BadMessage) → stand.Waits link cause ≡ stand.Through → ⊥
 no_through_waits link cause e = cc
 
-no_through_stuck : rest.Stuck ≡ rest.Through → ⊥
+no_through_stuck : stand.Stuck ≡ stand.Through → ⊥
 no_through_stuck e = cc
 
-module _ {P : Type 0} (i : Number) (e : Engine P) (s : Rest) where
-  pub rests_waits : (link : Link) (cause : Option BadMessage) → s ≡ rest.Waits link cause → node.EngineStands i (gates_stand s) e.node → Rests i s e
-  rests_waits link cause is h = record { node = h; over = λ other. absurd (no_through_waits link cause (sym is ∙ other)) }
+no_through_wants : (count : ℕ) → stand.Wants count ≡ stand.Through → ⊥
+no_through_wants count e = cc
 
-  pub rests_stuck : s ≡ rest.Stuck → node.EngineStands i (gates_stand s) e.node → Rests i s e
-  rests_stuck is h = record { node = h; over = λ other. absurd (no_through_stuck (sym is ∙ other)) }
+module _ {P : Type 0} (i : Number) (e : Engine P) (s : Stand) where
+  pub stands_waits : (link : Link) (cause : Option BadMessage) → s ≡ stand.Waits link cause → node.StandsAlways i s e.node → StandsAlways i s e
+  stands_waits link cause is h = record { node = h; over = λ other. absurd (no_through_waits link cause (sym is ∙ other)) }
 
-  pub rests_over : s ≡ rest.Through → IsOver i e e.at × IsThrough i e.node → Rests i s e
-  rests_over is h = record { node = subst (λ s. node.EngineStands i (gates_stand s) e.node) (sym is) h.1; over = λ other. h.0 }
+  pub stands_stuck : s ≡ stand.Stuck → node.StandsAlways i s e.node → StandsAlways i s e
+  stands_stuck is h = record { node = h; over = λ other. absurd (no_through_stuck (sym is ∙ other)) }
+
+  pub stands_wants : (count : ℕ) → s ≡ stand.Wants count → node.StandsAlways i s e.node → StandsAlways i s e
+  stands_wants count is h = record { node = h; over = λ other. absurd (no_through_wants count (sym is ∙ other)) }
+
+  pub stands_over : s ≡ stand.Through → IsOver i e e.at × IsThroughAlways i e.node → StandsAlways i s e
+  stands_over is h = record { node = subst (λ s. node.StandsAlways i s e.node) (sym is) h.1; over = λ other. h.0 }

@@ -24,6 +24,8 @@ use Rattle.code_turns.specs.declared.outcome.Turned.{Turned}
 use Rattle.code_turns.specs.declared.outcome.Turned.TheVariants as turned
 use Rattle.code_turns.specs.declared.speech.Speech.{Speech}
 use Rattle.code_turns.specs.declared.telling.Told.{Told}
+use Rattle.miner_core.specs.declared.answer.End.{End}
+use Rattle.miner_core.specs.declared.answer.End.TheVariants as end
 use Rattle.miner_core.specs.declared.engine.At.{At}
 use Rattle.miner_core.specs.declared.engine.At.TheVariants as at
 use Rattle.miner_core.specs.declared.engine.Engine.{Engine}
@@ -52,7 +54,25 @@ gates_stand rest.Through = stand.Through
 gates_stand (rest.Waits link cause) = stand.Waits link cause
 gates_stand rest.Stuck = stand.Stuck
 
+-- where it rests whose gates stand so, where no further words come
+abbrev pub rest_of : at_gates.Stand → Rest
+rest_of stand.Through = rest.Through
+rest_of (stand.Waits link cause) = rest.Waits link cause
+rest_of stand.Stuck = rest.Stuck
+rest_of (stand.Wants count) = rest.Stuck
+
 -- ---- what is left
+
+-- with further words of its tape behind those that were supplied
+abbrev pub with_words : {P : Type 0} → Engine P → (more : List ℕ) → Engine P
+with_words e more = record e { node = node.filled e.node more }
+
+-- the same of outcomes that go by the further words
+abbrev pub all_shown : (List ℕ → Outcome Ended) → List ℕ → Outcome Ended
+all_shown o more = shown (o more)
+
+abbrev pub all_forgetting : (List ℕ → Strand Ended) → List ℕ → Strand Ended
+all_forgetting s more = forgetting (s more)
 
 module _ {P : Type 0} (i : Number) where
   abbrev pub place_at : Engine P → Place
@@ -88,6 +108,16 @@ module _ {P : Type 0} (i : Number) where
   abbrev pub engine_told : Engine P → List Notice
   engine_told e = map notice_seen e.notices.items ++ told_in (run (engine_left e) (mail_left i e.node.links)).acts
 
+  -- the same by the words that come behind those that were supplied
+  abbrev pub left_with : Engine P → (more : List ℕ) → Strand Ended
+  left_with e more = engine_left (with_words e more)
+
+  abbrev pub outcome_with : Engine P → (more : List ℕ) → Outcome Ended
+  outcome_with e more = engine_outcome (with_words e more)
+
+  abbrev pub told_with : Engine P → (more : List ℕ) → List Notice
+  told_with e more = engine_told (with_words e more)
+
   -- whatever comes, its gates tell nothing
   abbrev pub IsQuiet : gates.Engine P → Type 0
   IsQuiet n = (more : Mail) → told_in (run (node.engine_left i n) (added (mail_left i n.links) more)).acts ≡ []
@@ -102,6 +132,17 @@ module _ {P : Type 0} (i : Number) where
   abbrev pub IsThrough : gates.Engine P → Type 0
   IsThrough n = node.engine_left i n ≡ Ends (Whole n.values n.tape.1)
 
+  -- the same whatever words come behind
+  abbrev pub IsQuietAlways : gates.Engine P → Type 0
+  IsQuietAlways n = (more : List ℕ) → IsQuiet (node.filled n more)
+
+  abbrev pub IsThroughAlways : gates.Engine P → Type 0
+  IsThroughAlways n = (more : List ℕ) → IsThrough (node.filled n more)
+
+  pub record IsSoundAlways (e : Engine P) : Type 0 where
+    pub stands : Stands e.task.code e.machine
+    pub quiet : IsQuietAlways e.node
+
   -- no step is to be taken
   abbrev pub IsOver : Engine P → At → Type 0
   IsOver e at.Ready = e.fuel ≡ 0
@@ -114,6 +155,11 @@ module _ {P : Type 0} (i : Number) where
   pub record Rests (r : Rest) (e : Engine P) : Type 0 where
     pub node : node.EngineStands i (gates_stand r) e.node
     pub over : r ≡ rest.Through → IsOver e e.at
+
+  -- where it stands whatever words come behind; it may want some
+  pub record StandsAlways (s : at_gates.Stand) (e : Engine P) : Type 0 where
+    pub node : node.StandsAlways i s e.node
+    pub over : s ≡ stand.Through → IsOver e e.at
 
 -- what came stays, and so does what it was made with
 pub record Keeps {P : Type 0} (before after : Engine P) : Type 0 where
@@ -158,6 +204,14 @@ ended_by at.Again = None
 ended_by (at.Acts t speech before) = None
 ended_by (at.Over ending) = Some ending
 ended_by at.Short = None
+
+-- how the run ends that has come so far, with its gates through
+abbrev pub end_by : At → End
+end_by at.Ready = end.Endless
+end_by at.Again = end.Endless
+end_by (at.Acts t speech before) = end.Endless
+end_by (at.Over ending) = end.Over ending
+end_by at.Short = end.Short
 
 -- how many steps of its own it can still take
 abbrev pub rank : At → ℕ

@@ -1,6 +1,8 @@
 pub mod Views
 pub mod Engines
 pub mod Story
+pub mod Drawing
+pub mod Streams
 pub mod Laws
 pub use Rattle.own_code.specs.OwnCode
 pub use Rattle.code_turns.specs.Places

@@ -1,5 +1,11 @@
+ghost use Rattle.std.specs.Prelude.{◌≡◌, Result};
+ghost use Rattle.miner_core.specs.declared.answer.Lost.TheVariants as lost;
+ghost use Rattle.miner_core.specs.Streams.{settled};
+
+use outside::Failed;
 use proto_core::{BadMessage, Link};
 use sc_text::Ending;
+use std::alloc::AllocError;
 
 /// How a miner's run of code ends.
 #[derive(Clone, Copy, Drop)]
@@ -33,4 +39,52 @@ pub enum MinerErr {
     BadMessage { link: Link, cause: BadMessage },
     /// There is no memory left.
     Memory,
+}
+
+/// Why a miner is of no further use.
+#[derive(Clone, Copy, Drop)]
+pub enum Lost {
+    /// There was no memory left.
+    Memory,
+    /// Words of its tape couldn't be drawn, and their source counted a fault.
+    TapeFault,
+}
+
+impl From<AllocError> for Lost {
+    ghost from_gives = { λ _ l. l ≡ lost.Memory };
+
+    fn from(_: AllocError) -> Self {
+        Lost::Memory
+    }
+}
+
+impl From<Failed> for Lost {
+    ghost from_gives = { λ _ l. l ≡ lost.TapeFault };
+
+    fn from(_: Failed) -> Self {
+        Lost::TapeFault
+    }
+}
+
+/// Why a message leads nowhere, of a miner that draws its tape from a source.
+#[derive(Clone, Copy, Drop)]
+pub enum StreamErr {
+    /// The miner has ended.
+    NotAwaited { link: Link },
+    /// The oldest message of this link, which is awaited, is refused, for this cause.
+    BadMessage { link: Link, cause: BadMessage },
+    /// The miner is of no further use, for this cause.
+    Lost(Lost),
+}
+
+/// What is answered where the miner has its whole tape by itself.
+pub(crate) fn of_whole(answer: Result<Step, StreamErr>) -> Result<Step, MinerErr>
+    ensures { result ≡ settled answer }
+{
+    match answer {
+        Ok(step) => Ok(step),
+        Err(StreamErr::NotAwaited { link }) => Err(MinerErr::NotAwaited { link }),
+        Err(StreamErr::BadMessage { link, cause }) => Err(MinerErr::BadMessage { link, cause }),
+        Err(StreamErr::Lost(_)) => Err(MinerErr::Memory),
+    }
 }

@@ -1,12 +1,13 @@
 // An engine at its start, a message that comes, and where it stands.
-ghost use Rattle.std.specs.Prelude.{◌≡◌, ◌≢◌, ℕ, true, false, IfOk, OnOk};
-ghost use Rattle.proto_core.specs.Standing.{AtItsEnd, standing_with};
-ghost use Rattle.miner_core.specs.declared.rest.Rest.TheVariants.{Through};
+ghost use Rattle.std.specs.Prelude.{◌≡◌, ◌++◌, ℕ, List, true, false, IfOk, OnOk};
+ghost use Rattle.outside.specs.Tapes.{TapesState};
 ghost use Rattle.block_steps.specs.Outcomes.{mail_left};
-ghost use Rattle.miner_core.specs.Engines.{engine_left, ended_by, Rests};
-ghost use Rattle.miner_core.specs.Story.{Story, Follows, Leads, story_of, received, start_of, HasEnded, IsAnswerOf};
+ghost use Rattle.miner_core.specs.Drawing.{Draws, Delivers, IsAtItsEnd};
+ghost use Rattle.miner_core.specs.Engines.{engine_left, ended_by, end_by, with_words, IsSoundAlways, Rests};
+ghost use Rattle.miner_core.specs.Story.{Story, Follows, Leads, story_of, received, start_of, IsAnswerOf};
+ghost use Rattle.miner_core.specs.Streams.{settled, IsOfMessage};
 
-use crate::answer::{End, MinerErr, Step};
+use crate::answer::{End, Lost, Step, StreamErr};
 use crate::engine::{At, Engine};
 use crate::letting_go::Letting;
 use crate::rest::Rest;
@@ -14,13 +15,14 @@ use crate::task::Task;
 use code_machine::{most_steps, start};
 use gate_node::GateNode;
 use gates::Values;
+use outside::TapeSource;
 use proto_core::{Link, Msg, Party};
 use sc_text::Ending;
 use std::alloc::{AllocError, Global};
 use value_steps::Stage;
 
 impl<P: Party> Engine<P> {
-    /// Before the first step.
+    /// Before the first step, with the first words of its tape.
     pub fn new(
         alloc: Global,
         task: Task,
@@ -29,7 +31,7 @@ impl<P: Party> Engine<P> {
         budget: u64,
     ) -> Result<Self, AllocError>
         ensures story { IfOk result (λ e. story_of e budget ≡ start_of task dealt tape.items budget) }
-        ensures leads { IfOk result (λ e. Leads P.me e (start_of task dealt tape.items budget)) }
+        ensures leads { IfOk result (λ e. (more : List ℕ) → Leads P.me (with_words e more) (start_of task dealt (tape.items ++ more) budget)) }
     {
         let fuel = most_steps(&task.code, budget);
         let stage = Stage::new(alloc, budget, &[]);
@@ -49,8 +51,12 @@ impl<P: Party> Engine<P> {
 
     /// A message comes from one of the two others.
     fn receive(&mut self, link: Link, message: &Msg) -> Result<(), AllocError>
-        ensures leads { OnOk result ((s : Story) → Follows P.me self.old s → Leads P.me self.new (received P.me s link message.now)) }
+        requires sound { IsSoundAlways P.me self.old }
+        ensures leads { OnOk result ((more : List ℕ) (s : Story) → Follows P.me (with_words self.old more) s →
+            Leads P.me (with_words self.new more) (received P.me s link message.now)) }
         ensures story { OnOk result ((budget : ℕ) → story_of self.new budget ≡ received P.me (story_of self.old budget) link message.now) }
+        ensures sound { OnOk result (IsSoundAlways P.me self.new) }
+        ensures tape { OnOk result (self.new.node.tape ≡ self.old.node.tape) }
     {
         if link == P::number().previous().link_to_next() {
             self.node.receive_from_previous(message)?;
@@ -60,23 +66,26 @@ impl<P: Party> Engine<P> {
         Ok(())
     }
 
-    /// A message comes, and all is done that the messages lead to; where it then stands.
-    pub fn deliver(&mut self, link: Link, message: &Msg) -> Result<Rest, AllocError>
-        requires follows { (s : Story) × Follows P.me self.old s }
-        ensures follows { OnOk result ((s : Story) → Follows P.me self.old s → Follows P.me self.new (received P.me s link message.now)) }
-        ensures story { OnOk result ((budget : ℕ) → story_of self.new budget ≡ received P.me (story_of self.old budget) link message.now) }
-        ensures stands { IfOk result (λ rest. Rests P.me rest self.new) }
+    /// A message comes, and all is done that the messages and the tape lead to; where it then stands.
+    pub fn deliver<T: TapeSource>(
+        &mut self,
+        link: Link,
+        message: &Msg,
+        tapes: &mut T,
+    ) -> Result<Rest, Lost>
+        requires sound { IsSoundAlways P.me self.old }
+        ensures delivers { IfOk result (λ rest. Delivers P.me rest link message.now self.old self.new (T.state tapes.old) (T.state tapes.new)) }
+        ensures draws { Draws P.me (T.state tapes.old) (T.state tapes.new) result }
     {
         self.receive(link, message)?;
-        let rest = self.advance()?;
+        let rest = self.run_on(tapes)?;
         Ok(rest)
     }
 
-    /// Whether it has ended, where it stands so.
+    /// Whether it has ended, where it stands so, whatever words come.
     pub fn is_ended(&self, rest: Rest) -> bool
-        requires { Rests P.me rest self.now }
-        ensures ended { result ≡ true → standing_with (engine_left P.me self.now) (mail_left P.me self.now.node.links) ≡ AtItsEnd }
-        ensures going { result ≡ false → standing_with (engine_left P.me self.now) (mail_left P.me self.now.node.links) ≢ AtItsEnd }
+        ensures ended { result ≡ true → (more : List ℕ) → Rests P.me rest (with_words self.now more) → IsAtItsEnd P.me self.now more }
+        ensures going { result ≡ false → (more : List ℕ) → Rests P.me rest (with_words self.now more) → IsAtItsEnd P.me self.now more → ⊥ }
     {
         match rest {
             Rest::Waits(..) => false,
@@ -87,8 +96,7 @@ impl<P: Party> Engine<P> {
 
     /// How the run has ended, where all gates are through.
     fn end(&self) -> End
-        requires { Rests P.me Through self.now }
-        ensures { HasEnded (engine_left P.me self.now) result }
+        ensures { result ≡ end_by self.now.at }
     {
         match &self.at {
             At::Over(ending) => End::Over(*ending),
@@ -107,10 +115,11 @@ impl<P: Party> Engine<P> {
         }
     }
 
-    /// What is answered, where it stands so.
-    pub fn answer(&self, rest: Rest) -> Result<Step, MinerErr>
-        requires { Rests P.me rest self.now }
-        ensures { IsAnswerOf (engine_left P.me self.now) (mail_left P.me self.now.node.links) result }
+    /// What is answered, where it stands so, whatever words come.
+    pub fn answer(&self, rest: Rest) -> Result<Step, StreamErr>
+        ensures stands { (more : List ℕ) → Rests P.me rest (with_words self.now more) →
+            IsAnswerOf (engine_left P.me (with_words self.now more)) (mail_left P.me self.now.node.links) (settled result) }
+        ensures of_message { IsOfMessage result }
     {
         match rest {
             Rest::Through => {
@@ -120,7 +129,7 @@ impl<P: Party> Engine<P> {
             Rest::Stuck => Ok(Step::Ended(End::Unfit)),
             Rest::Waits(link, cause) => match cause {
                 None => Ok(Step::Waits(link)),
-                Some(cause) => Err(MinerErr::BadMessage { link, cause }),
+                Some(cause) => Err(StreamErr::BadMessage { link, cause }),
             },
         }
     }

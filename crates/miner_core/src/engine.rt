@@ -2,17 +2,17 @@ ghost use Rattle.std.specs.Prelude.{◌≡◌, ◌<◌, true, false, IfOk, OnOk,
 ghost use Rattle.gate_node.specs.Nodes as node;
 ghost use Rattle.code_turns.specs.declared.outcome.Turned.TheVariants.{Short};
 ghost use Rattle.miner_core.specs.declared.engine.At.TheVariants.{Ready, Again};
-ghost use Rattle.miner_core.specs.Engines.{engine_left, engine_outcome, engine_told, shown, IsSound, IsThrough, IsOver, Rests, Keeps, KeepsLinks, GoesOn};
-ghost use Rattle.miner_core.specs.Engines.{acting, led_to, measure, gates_stand};
+ghost use Rattle.miner_core.specs.Engines.{left_with, outcome_with, told_with, all_shown, IsSoundAlways};
+ghost use Rattle.miner_core.specs.Engines.{IsThroughAlways, IsOver, StandsAlways, Keeps, KeepsLinks};
+ghost use Rattle.miner_core.specs.Engines.{acting, led_to, measure, GoesOn};
 
 use crate::letting_go::Letting;
 use crate::notice::{Notice, tell};
-use crate::rest::{Rest, rest_at};
 use crate::stepping::{gates_from, step_told};
 use crate::task::Task;
 use code_machine::{Machine, marked, rewind};
 use code_turns::{Speech, Told, Turned, last_words, next_speech, told_yet};
-use gate_node::GateNode;
+use gate_node::{GateNode, Stand};
 use proto_core::Party;
 use sc_text::Ending;
 use std::alloc::{AllocError, Global};
@@ -97,11 +97,11 @@ impl<P: Party> Engine<P> {
     fn begin(&mut self) -> Result<(), AllocError>
         requires ready { self.old.at ≡ Ready }
         requires fuel { 0 < self.old.fuel }
-        requires through { IsThrough P.me self.old.node }
-        requires sound { IsSound P.me self.old }
-        ensures left { OnOk result (engine_left P.me self.new ≡ engine_left P.me self.old) }
+        requires through { IsThroughAlways P.me self.old.node }
+        requires sound { IsSoundAlways P.me self.old }
+        ensures left { OnOk result (left_with P.me self.new ≡ left_with P.me self.old) }
         ensures kept { OnOk result (KeepsLinks self.old self.new) }
-        ensures sound { OnOk result (IsSound P.me self.new) }
+        ensures sound { OnOk result (IsSoundAlways P.me self.new) }
         ensures falls { OnOk result (measure self.new < measure self.old) }
     {
         let from = self.stage.gates.len();
@@ -135,11 +135,11 @@ impl<P: Party> Engine<P> {
     #[inline(never)]
     fn again(&mut self) -> Result<(), AllocError>
         requires again { self.old.at ≡ Again }
-        requires through { IsThrough P.me self.old.node }
-        requires sound { IsSound P.me self.old }
-        ensures left { OnOk result (engine_left P.me self.new ≡ engine_left P.me self.old) }
+        requires through { IsThroughAlways P.me self.old.node }
+        requires sound { IsSoundAlways P.me self.old }
+        ensures left { OnOk result (left_with P.me self.new ≡ left_with P.me self.old) }
         ensures kept { OnOk result (KeepsLinks self.old self.new) }
-        ensures sound { OnOk result (IsSound P.me self.new) }
+        ensures sound { OnOk result (IsSoundAlways P.me self.new) }
         ensures falls { OnOk result (measure self.new < measure self.old) }
     {
         let before = told_yet(&self.stage);
@@ -162,13 +162,13 @@ impl<P: Party> Engine<P> {
     /// A step is through with its gates: it is told, and the run goes on.
     #[inline(never)]
     fn goes_on(&mut self, turned: Turned, speech: &Speech, before: Told) -> Result<(), AllocError>
-        requires through { IsThrough P.me self.old.node }
-        requires sound { IsSound P.me self.old }
-        ensures same { OnOk result (engine_outcome P.me self.new ≡ engine_outcome P.me (acting self.old turned speech.now before)) }
-        ensures told { OnOk result (engine_told P.me self.new ≡ engine_told P.me (acting self.old turned speech.now before)) }
+        requires through { IsThroughAlways P.me self.old.node }
+        requires sound { IsSoundAlways P.me self.old }
+        ensures same { OnOk result (outcome_with P.me self.new ≡ outcome_with P.me (acting self.old turned speech.now before)) }
+        ensures told { OnOk result (told_with P.me self.new ≡ told_with P.me (acting self.old turned speech.now before)) }
         ensures kept { OnOk result (Keeps self.old self.new) }
         ensures node { OnOk result (self.new.node ≡ self.old.node) }
-        ensures sound { OnOk result (IsSound P.me self.new) }
+        ensures sound { OnOk result (IsSoundAlways P.me self.new) }
         ensures falls { OnOk result (measure self.new < measure (acting self.old turned speech.now before)) }
     {
         let last = last_words(self.node.values());
@@ -187,14 +187,14 @@ impl<P: Party> Engine<P> {
     /// The next step, if fuel is left. Before it, what isn't needed any more is let go; an array into which it stores is, where it can be.
     fn ready(&mut self) -> Result<bool, AllocError>
         requires ready { self.old.at ≡ Ready }
-        requires through { IsThrough P.me self.old.node }
-        requires sound { IsSound P.me self.old }
-        ensures same { OnOk result (shown (engine_outcome P.me self.new) ≡ shown (engine_outcome P.me self.old)) }
-        ensures told { OnOk result (engine_told P.me self.new ≡ engine_told P.me self.old) }
+        requires through { IsThroughAlways P.me self.old.node }
+        requires sound { IsSoundAlways P.me self.old }
+        ensures same { OnOk result (all_shown (outcome_with P.me self.new) ≡ all_shown (outcome_with P.me self.old)) }
+        ensures told { OnOk result (told_with P.me self.new ≡ told_with P.me self.old) }
         ensures kept { OnOk result (Keeps self.old self.new) }
-        ensures sound { OnOk result (IsSound P.me self.new) }
+        ensures sound { OnOk result (IsSoundAlways P.me self.new) }
         ensures falls { IfOk result (λ more. more ≡ true → measure self.new < measure self.old) }
-        ensures over { IfOk result (λ more. more ≡ false → IsOver P.me self.new self.new.at × IsThrough P.me self.new.node) }
+        ensures over { IfOk result (λ more. more ≡ false → IsOver P.me self.new self.new.at × IsThroughAlways P.me self.new.node) }
     {
         if self.fuel == 0 {
             return Ok(false);
@@ -207,14 +207,14 @@ impl<P: Party> Engine<P> {
 
     /// What comes next where all gates are through; false where nothing does.
     fn turn(&mut self) -> Result<bool, AllocError>
-        requires through { IsThrough P.me self.old.node }
-        requires sound { IsSound P.me self.old }
-        ensures same { OnOk result (shown (engine_outcome P.me self.new) ≡ shown (engine_outcome P.me self.old)) }
-        ensures told { OnOk result (engine_told P.me self.new ≡ engine_told P.me self.old) }
+        requires through { IsThroughAlways P.me self.old.node }
+        requires sound { IsSoundAlways P.me self.old }
+        ensures same { OnOk result (all_shown (outcome_with P.me self.new) ≡ all_shown (outcome_with P.me self.old)) }
+        ensures told { OnOk result (told_with P.me self.new ≡ told_with P.me self.old) }
         ensures kept { OnOk result (Keeps self.old self.new) }
-        ensures sound { OnOk result (IsSound P.me self.new) }
+        ensures sound { OnOk result (IsSoundAlways P.me self.new) }
         ensures falls { IfOk result (λ more. more ≡ true → measure self.new < measure self.old) }
-        ensures over { IfOk result (λ more. more ≡ false → IsOver P.me self.new self.new.at × IsThrough P.me self.new.node) }
+        ensures over { IfOk result (λ more. more ≡ false → IsOver P.me self.new self.new.at × IsThroughAlways P.me self.new.node) }
     {
         match mem::replace(&mut self.at, At::Ready) {
             At::Ready => {
@@ -245,42 +245,42 @@ impl<P: Party> Engine<P> {
         }
     }
 
-    /// Does all that the messages lead to, and answers where it then stands. What it has done, tells, and does with the messages that
-    /// are there, is the same before and behind.
-    pub fn advance(&mut self) -> Result<Rest, AllocError>
-        requires sound { IsSound P.me self.old }
-        ensures same { OnOk result (shown (engine_outcome P.me self.new) ≡ shown (engine_outcome P.me self.old)) }
-        ensures told { OnOk result (engine_told P.me self.new ≡ engine_told P.me self.old) }
-        ensures stands { IfOk result (λ s. Rests P.me s self.new) }
-        ensures sound { OnOk result (IsSound P.me self.new) }
+    /// Does all that the messages and the words that were supplied lead to, and answers where it then stands. What it has done, tells, and
+    /// does with the messages that are there, is the same before and behind, whatever words come.
+    pub fn advance(&mut self) -> Result<Stand, AllocError>
+        requires sound { IsSoundAlways P.me self.old }
+        ensures same { OnOk result (all_shown (outcome_with P.me self.new) ≡ all_shown (outcome_with P.me self.old)) }
+        ensures told { OnOk result (told_with P.me self.new ≡ told_with P.me self.old) }
+        ensures stands { IfOk result (λ s. StandsAlways P.me s self.new) }
+        ensures sound { OnOk result (IsSoundAlways P.me self.new) }
         ensures kept { OnOk result (Keeps self.old self.new) }
     {
         loop {
-            let rest = self.gates()?;
-            match rest {
-                Rest::Through => {}
-                Rest::Waits(..) => return Ok(rest),
-                Rest::Stuck => return Ok(rest),
+            let stand = self.gates()?;
+            match stand {
+                Stand::Through => {}
+                Stand::Waits(..) => return Ok(stand),
+                Stand::Stuck => return Ok(stand),
+                Stand::Wants(_) => return Ok(stand),
             }
             let more = self.turn()?;
             if !more {
-                return Ok(rest);
+                return Ok(stand);
             }
         }
     }
 
-    /// The gates that have begun, as far as the messages lead.
-    fn gates(&mut self) -> Result<Rest, AllocError>
-        requires sound { IsSound P.me self.old }
-        ensures same { OnOk result (engine_outcome P.me self.new ≡ engine_outcome P.me self.old) }
-        ensures told { OnOk result (engine_told P.me self.new ≡ engine_told P.me self.old) }
-        ensures stands { IfOk result (λ s. node.EngineStands P.me (gates_stand s) self.new.node) }
-        ensures sound { OnOk result (IsSound P.me self.new) }
+    /// The gates that have begun, as far as the messages and the words that were supplied lead.
+    fn gates(&mut self) -> Result<Stand, AllocError>
+        requires sound { IsSoundAlways P.me self.old }
+        ensures same { OnOk result (outcome_with P.me self.new ≡ outcome_with P.me self.old) }
+        ensures told { OnOk result (told_with P.me self.new ≡ told_with P.me self.old) }
+        ensures stands { IfOk result (λ s. node.StandsAlways P.me s self.new.node) }
+        ensures sound { OnOk result (IsSoundAlways P.me self.new) }
         ensures kept { OnOk result (Keeps self.old self.new) }
         ensures beside { measure self.new ≡ measure self.old }
     {
         let stand = self.node.advance()?;
-        let rest = rest_at(stand);
-        Ok(rest)
+        Ok(stand)
     }
 }

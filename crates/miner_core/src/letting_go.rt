@@ -9,7 +9,7 @@ ghost use Rattle.code_machine.specs.Views.{machine_seen};
 ghost use Rattle.driven_nodes.specs.Steps.{last_of};
 ghost use Rattle.own_code.specs.Named.{AreAmong, MachineNames};
 ghost use Rattle.miner_core.specs.declared.engine.At.TheVariants.{Ready};
-ghost use Rattle.miner_core.specs.Engines.{engine_left, forgetting, measure, IsSound, IsThrough, KeepsLinks, LeadsOn};
+ghost use Rattle.miner_core.specs.Engines.{left_with, all_forgetting, measure, IsSoundAlways, IsThroughAlways, KeepsLinks, LeadsOn};
 
 use crate::engine::{At, Engine};
 use code_turns::{Turned, last_words};
@@ -68,14 +68,14 @@ impl<P: Party> Engine<P> {
     #[inline(never)]
     pub fn let_go(&mut self) -> Result<(), AllocError>
         requires ready { self.old.at ≡ Ready }
-        requires through { IsThrough P.me self.old.node }
-        requires sound { IsSound P.me self.old }
-        ensures left { OnOk result (forgetting (engine_left P.me self.new) ≡ forgetting (engine_left P.me self.old)) }
+        requires through { IsThroughAlways P.me self.old.node }
+        requires sound { IsSoundAlways P.me self.old }
+        ensures left { OnOk result (all_forgetting (left_with P.me self.new) ≡ all_forgetting (left_with P.me self.old)) }
         ensures kept { OnOk result (KeepsLinks self.old self.new) }
         ensures ready { self.new.at ≡ Ready }
         ensures fuel { self.new.fuel ≡ self.old.fuel }
-        ensures through { OnOk result (IsThrough P.me self.new.node) }
-        ensures sound { OnOk result (IsSound P.me self.new) }
+        ensures through { OnOk result (IsThroughAlways P.me self.new.node) }
+        ensures sound { OnOk result (IsSoundAlways P.me self.new) }
     {
         if !self.lets_go_now() {
             return Ok(());
@@ -121,10 +121,10 @@ impl<P: Party> Engine<P> {
     /// to do, and all that is sent, opened and told then, is the same. No more words are held than before, so nothing large is left to let go.
     #[inline(never)]
     pub fn store_in_place(&mut self) -> Result<(), AllocError>
-        requires sound { IsSound P.me self.old }
-        ensures left { OnOk result (forgetting (engine_left P.me self.new) ≡ forgetting (engine_left P.me self.old)) }
+        requires sound { IsSoundAlways P.me self.old }
+        ensures left { OnOk result (all_forgetting (left_with P.me self.new) ≡ all_forgetting (left_with P.me self.old)) }
         ensures kept { OnOk result (KeepsLinks self.old self.new) }
-        ensures sound { OnOk result (IsSound P.me self.new) }
+        ensures sound { OnOk result (IsSoundAlways P.me self.new) }
         ensures beside { measure self.new ≡ measure self.old }
     {
         let Some(array) = self.spent() else {

@@ -7,17 +7,21 @@
 
 mod answer;
 mod delivery;
+mod drawing;
 mod engine;
 mod laws;
 mod letting_go;
 mod miner;
+mod no_tapes;
 mod notice;
 mod rest;
 mod stepping;
+mod stream;
 mod task;
 
-pub use answer::{End, MinerErr, Step};
+pub use answer::{End, Lost, MinerErr, Step, StreamErr};
 pub use laws::a_refusal_stays;
 pub use miner::Miner;
 pub use notice::Notice;
+pub use stream::StreamMiner;
 pub use task::Task;

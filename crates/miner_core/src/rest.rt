@@ -1,7 +1,6 @@
 // Where a miner rests.
 ghost use Rattle.std.specs.Prelude.{◌≡◌};
-ghost use Rattle.gate_node.specs.Nodes.{settled};
-ghost use Rattle.miner_core.specs.Engines.{gates_stand};
+ghost use Rattle.miner_core.specs.Engines.{rest_of};
 
 use gate_node::Stand;
 use proto_core::{BadMessage, Link};
@@ -19,7 +18,7 @@ pub(crate) enum Rest {
 
 /// Where a miner rests whose gates stand so, where no further words of its tape come.
 pub(crate) fn rest_at(stand: Stand) -> Rest
-    ensures { gates_stand result ≡ settled stand }
+    ensures { result ≡ rest_of stand }
 {
     match stand {
         Stand::Through => Rest::Through,

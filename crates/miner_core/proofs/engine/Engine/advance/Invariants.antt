@@ -1,14 +1,14 @@
 use Rattle.std.proofs.Common.{◌≡◌}
-use Rattle.miner_core.specs.Engines.{engine_outcome, engine_told, shown, IsSound, Keeps, measure}
+use Rattle.miner_core.specs.Engines.{outcome_with, told_with, all_shown, IsSoundAlways, Keeps, measure}
 use Rattle.miner_core.proofs.engine.Engine.advance.Given as goal
 
-abbrev pub invariant-loop-rest : goal.invariant-loop-rest
-invariant-loop-rest g l = record {
-  same : shown (engine_outcome g.P.Party.me l.self) ≡ shown (engine_outcome g.P.Party.me l.fn.self);
-  told : engine_told g.P.Party.me l.self ≡ engine_told g.P.Party.me l.fn.self;
-  sound : IsSound g.P.Party.me l.self;
+abbrev pub invariant-loop-stand : goal.invariant-loop-stand
+invariant-loop-stand g l = record {
+  same : all_shown (outcome_with g.P.Party.me l.self) ≡ all_shown (outcome_with g.P.Party.me l.fn.self);
+  told : told_with g.P.Party.me l.self ≡ told_with g.P.Party.me l.fn.self;
+  sound : IsSoundAlways g.P.Party.me l.self;
   kept : Keeps l.fn.self l.self;
 }
 
-abbrev pub decreases-loop-rest : goal.decreases-loop-rest
-decreases-loop-rest g l = measure l.self
+abbrev pub decreases-loop-stand : goal.decreases-loop-stand
+decreases-loop-stand g l = measure l.self

@@ -1,7 +1,7 @@
 use Rattle.std.proofs.Common.{rules, ◌≡◌, ◌∙◌, ◌-◌, suc, length, drop, ap, arith}
-use Rattle.gate_node.specs.OwnGates.{then_gates}
+use Rattle.gate_node.specs.Nodes.{filled}
 use Rattle.miner_core.proofs.Begins.{gates_quiet, begins_acts, begins_again}
-use Rattle.miner_core.proofs.Settled.{added_here}
+use Rattle.miner_core.specs.Engines.{with_words}
 use Rattle.miner_core.proofs.engine.Engine.begin.Goals as goal
 
 pub returns-then-wants_words-clause-left : goal.returns-then-wants_words-clause-left
@@ -11,10 +11,11 @@ returns-then-wants_words-clause-left g c =
     let from : c.len-from.result ≡ length e.stage.gates.items = search rules in
     let made = c.in_ok-gates.ensures ∙ ap (λ gates. drop c.len-from.result gates) c.deref.ensures.value
     ∙ ap (λ n. drop n c.step_told.new.stage.gates.items) from in
-    let left = added_here g.P.Party.me e.node c.add.new.self (then_gates g.P.Party.me e.node.dealt c.in_ok-gates.gates.items) c.in_ok-add.ensures.left in
-    begins_again g.P.Party.me e c.step_told.new.machine c.step_told.new.stage (e.fuel - 1) c.add.new.self c.in_ok-turned.turned c.in_ok-gates.gates.items
-    c.requires.ready c.requires.through left c.add.ensures.kept.dealt fuel c.in_ok-turned.ensures.step made
-    c.rewind.new.stage (c.wants_words.ensures.wants c.if-wants_words.true) (λ gained. c.rewind.ensures.again _ c.marked-mark.ensures gained)
+    λ d. λ more.
+    begins_again g.P.Party.me (with_words e more) c.step_told.new.machine c.step_told.new.stage (e.fuel - 1) (filled c.add.new.self more)
+    c.in_ok-turned.turned c.in_ok-gates.gates.items
+    c.requires.ready (c.requires.through more) (c.in_ok-add.ensures.left more) c.add.ensures.kept.dealt fuel c.in_ok-turned.ensures.step made
+    c.rewind.new.stage (c.wants_words.ensures.wants c.if-wants_words.true) (λ gained. c.rewind.ensures.again _ c.marked-mark.ensures gained) d
 
 pub returns-clause-left : goal.returns-clause-left
 returns-clause-left g c =
@@ -23,11 +24,12 @@ returns-clause-left g c =
     let from : c.len-from.result ≡ length e.stage.gates.items = search rules in
     let made = c.in_ok-gates.ensures ∙ ap (λ gates. drop c.len-from.result gates) c.deref.ensures.value
     ∙ ap (λ n. drop n c.step_told.new.stage.gates.items) from in
-    let left = added_here g.P.Party.me e.node c.add.new.self (then_gates g.P.Party.me e.node.dealt c.in_ok-gates.gates.items) c.in_ok-add.ensures.left in
-    begins_acts g.P.Party.me e c.step_told.new.machine c.step_told.new.stage (e.fuel - 1) c.add.new.self c.in_ok-turned.turned c.in_ok-gates.gates.items
-    c.requires.ready c.requires.through left c.add.ensures.kept.dealt fuel c.in_ok-turned.ensures.step made
+    λ d. λ more.
+    begins_acts g.P.Party.me (with_words e more) c.step_told.new.machine c.step_told.new.stage (e.fuel - 1) (filled c.add.new.self more)
+    c.in_ok-turned.turned c.in_ok-gates.gates.items
+    c.requires.ready (c.requires.through more) (c.in_ok-add.ensures.left more) c.add.ensures.kept.dealt fuel c.in_ok-turned.ensures.step made
     c.in_ok-speech.speech c.told_yet-before.result (c.wants_words.ensures.goes_on c.if-wants_words.false) c.told_yet-before.ensures.events
-    c.told_yet-before.ensures.opened c.in_ok-speech.ensures
+    c.told_yet-before.ensures.opened c.in_ok-speech.ensures d
 
 pub returns-then-wants_words-clause-sound : goal.returns-then-wants_words-clause-sound
 returns-then-wants_words-clause-sound g c =
@@ -36,12 +38,13 @@ returns-then-wants_words-clause-sound g c =
     let from : c.len-from.result ≡ length e.stage.gates.items = search rules in
     let made = c.in_ok-gates.ensures ∙ ap (λ gates. drop c.len-from.result gates) c.deref.ensures.value
     ∙ ap (λ n. drop n c.step_told.new.stage.gates.items) from in
-    let left = added_here g.P.Party.me e.node c.add.new.self (then_gates g.P.Party.me e.node.dealt c.in_ok-gates.gates.items) c.in_ok-add.ensures.left in
     record {
       stands = c.in_ok-turned.ensures.stands;
       quiet =
-          gates_quiet g.P.Party.me e c.step_told.new.machine c.step_told.new.stage (e.fuel - 1) c.add.new.self c.in_ok-turned.turned c.in_ok-gates.gates.items
-          c.requires.ready c.requires.through left c.add.ensures.kept.dealt fuel c.in_ok-turned.ensures.step made;
+          λ more.
+          gates_quiet g.P.Party.me (with_words e more) c.step_told.new.machine c.step_told.new.stage (e.fuel - 1) (filled c.add.new.self more)
+          c.in_ok-turned.turned c.in_ok-gates.gates.items
+          c.requires.ready (c.requires.through more) (c.in_ok-add.ensures.left more) c.add.ensures.kept.dealt fuel c.in_ok-turned.ensures.step made;
     }
 
 pub returns-clause-sound : goal.returns-clause-sound
@@ -51,10 +54,11 @@ returns-clause-sound g c =
     let from : c.len-from.result ≡ length e.stage.gates.items = search rules in
     let made = c.in_ok-gates.ensures ∙ ap (λ gates. drop c.len-from.result gates) c.deref.ensures.value
     ∙ ap (λ n. drop n c.step_told.new.stage.gates.items) from in
-    let left = added_here g.P.Party.me e.node c.add.new.self (then_gates g.P.Party.me e.node.dealt c.in_ok-gates.gates.items) c.in_ok-add.ensures.left in
     record {
       stands = c.in_ok-turned.ensures.stands;
       quiet =
-          gates_quiet g.P.Party.me e c.step_told.new.machine c.step_told.new.stage (e.fuel - 1) c.add.new.self c.in_ok-turned.turned c.in_ok-gates.gates.items
-          c.requires.ready c.requires.through left c.add.ensures.kept.dealt fuel c.in_ok-turned.ensures.step made;
+          λ more.
+          gates_quiet g.P.Party.me (with_words e more) c.step_told.new.machine c.step_told.new.stage (e.fuel - 1) (filled c.add.new.self more)
+          c.in_ok-turned.turned c.in_ok-gates.gates.items
+          c.requires.ready (c.requires.through more) (c.in_ok-add.ensures.left more) c.add.ensures.kept.dealt fuel c.in_ok-turned.ensures.step made;
     }

@@ -4,9 +4,10 @@ use Rattle.std.specs.BTreeSet.{contains}
 use Rattle.std.specs.Ordering.{nat_cmp}
 use Rattle.value_steps.specs.Views.{stage_seen}
 use Rattle.code_machine.specs.Besides.{with_gates}
-use Rattle.miner_core.specs.Engines.{place_at}
+use Rattle.gate_node.specs.Nodes.{filled}
+use Rattle.miner_core.specs.Engines.{place_at, with_words}
 use Rattle.miner_core.proofs.Forgetting.{is_held, let_go_left}
-use Rattle.miner_core.proofs.Settled.{through_here, through_quiet}
+use Rattle.miner_core.proofs.Further.{same_but_values_with, through_quiet_with}
 use Rattle.miner_core.proofs.engine.Engine.let_go.Goals as goal
 
 pub returns-clause-left : goal.returns-clause-left
@@ -17,15 +18,20 @@ returns-clause-left g c =
     let k = c.keep_only.ensures in
     let needed = c.in_ok-numbers in
     let counted : e.stage.made ≡ length e.node.values = search rules in
-    let_go_left i e n (record e.stage { gates = c.clear.new.self }) (record { done = c.len-done.result; next = c.saturating_add-next.result })
-    c.requires.ready c.requires.through (through_here i e.node n c.requires.through k.through) k.same
+    λ d. λ more.
+    let_go_left i (with_words e more) (filled n more) (record e.stage { gates = c.clear.new.self }) (record {
+      done = c.len-done.result;
+      next =
+          c.saturating_add-next.result;
+    })
+    c.requires.ready (c.requires.through more) (k.through more (c.requires.through more)) (same_but_values_with e.node n more k.same)
     (ap (λ gates. with_gates gates (stage_seen e.stage)) c.clear.ensures.items)
     (is_held (place_at i e) (λ number. IsTrue (contains nat_cmp needed.numbers number)) e.node.values n.values k.as_many counted
-    (needed.ensures.named e.task.code) needed.ensures.last k.kept)
+    (needed.ensures.named e.task.code) needed.ensures.last k.kept) d
 
 pub returns-clause-through : goal.returns-clause-through
 returns-clause-through g c =
-    through_here g.P.Party.me c.args.self.now.node c.keep_only.new.self c.requires.through c.keep_only.ensures.through
+    λ more. c.keep_only.ensures.through more (c.requires.through more)
 
 pub returns-clause-sound : goal.returns-clause-sound
 returns-clause-sound g c =
@@ -33,5 +39,5 @@ returns-clause-sound g c =
     let n = c.keep_only.new.self in
     record {
       stands = c.requires.sound.stands;
-      quiet = through_quiet i n (through_here i c.args.self.now.node n c.requires.through c.keep_only.ensures.through);
+      quiet = through_quiet_with i n (λ more. c.keep_only.ensures.through more (c.requires.through more));
     }

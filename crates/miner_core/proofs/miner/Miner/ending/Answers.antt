@@ -1,12 +1,11 @@
-use Rattle.std.proofs.Common.{sym, ◌∙◌, ap}
-use Rattle.miner_core.specs.Story.{Story, node, story_of}
-use Rattle.miner_core.proofs.Stops.{stop_at}
+use Rattle.std.proofs.Common.{◌≡◌, ◌∙◌, ap, subst}
+use Rattle.miner_core.specs.Story.{Story, AtStop}
+use Rattle.miner_core.proofs.Streaming.{at_whole}
 use Rattle.miner_core.proofs.miner.Miner.ending.Goals as goal
 
 pub returns : goal.returns
-returns g c = λ going p values is.
-    let e = c.self.inside.engine in
-    let h = c.self.invariant (ap (λ s. s.lost) c.self.view_is ∙ going) in
-    let there = stop_at g.P.Party.me e c.self.inside.rest (story_of e c.self.inside.budget) h.0 h.1 p values
-    (ap (λ (s : Story). (node g.P.Party.me s).left) c.self.view_is ∙ is) in
-    c.ending.ensures ∙ sym there.ended
+returns g c = λ going.
+    let i = g.P.Party.me in
+    let m = c.self.inside.inner in
+    subst (λ s. AtStop i s (λ p. c.ending.result ≡ p.ended)) c.self.view_is
+    (at_whole m (λ s. AtStop i s (λ p. c.ending.result ≡ p.ended)) c.self.invariant c.ending.ensures (ap (λ (s : Story). s.lost) c.self.view_is ∙ going))

@@ -1,0 +1,12 @@
+use Rattle.std.proofs.Common.{◌≡◌, ◌∙◌, ap, subst}
+use Rattle.miner_core.specs.Story.{Story, sent_to_previous}
+use Rattle.miner_core.proofs.Streaming.{at_whole}
+use Rattle.miner_core.proofs.miner.Miner.sent_to_previous.Goals as goal
+
+pub returns : goal.returns
+returns g c = λ going.
+    let i = g.P.Party.me in
+    let m = c.self.inside.inner in
+    subst (λ s. c.sent_to_previous.result.now ≡ sent_to_previous i s) c.self.view_is
+    (at_whole m (λ s. c.sent_to_previous.result.now ≡ sent_to_previous i s) c.self.invariant c.sent_to_previous.ensures (ap (λ (s : Story). s.lost)
+    c.self.view_is ∙ going))
