@@ -271,7 +271,7 @@ class Reader:
             most = self.table.most.get(name, WORD_END - 1)
             if not DIGITS.fullmatch(value) or len(value.lstrip("0")) > 20 or int(value.lstrip("0") or "0") > most:
                 self.found.append(f"`{name} {value}`: digits alone, of a number up to {most}")
-        if kind == "P" and not (DIGITS.fullmatch(value) and len(value.lstrip("0")) <= 5 and 1 <= int(value) <= LAST_PORT):
+        if kind == "P" and not (DIGITS.fullmatch(value) and 1 <= len(value.lstrip("0")) <= 5 and int(value.lstrip("0")) <= LAST_PORT):
             self.found.append(f"`{name} {value}`: digits alone, of a port from 1 to {LAST_PORT}")
         if kind == "HEX" and not SEED.fullmatch(value):
             self.found.append(f"`{name}` has 64 hexadecimal digits in lower case, and no 0x; there are {len(value)} signs")
