@@ -121,11 +121,11 @@ module _ {P : Type 0} (i : Number) where
 false_is_true : false ≡ true → ⊥
 false_is_true e = cc
 
-none_of : (l : Option Lost) → has_lost l ≡ false → l ≡ None
+pub none_of : (l : Option Lost) → has_lost l ≡ false → l ≡ None
 none_of None h = refl
 none_of (Some l) h = absurd cc
 
-itself : (xs : List ℕ) (n : ℕ) → n ≡ 0 → IsTapeOf xs n xs
+pub itself : (xs : List ℕ) (n : ℕ) → n ≡ 0 → IsTapeOf xs n xs
 itself xs n same =
     let none : drop (length xs) xs ≡ [] = ap (drop (length xs)) (sym (append-none xs)) ∙ drop-append_seam xs [] in
     record { begins = sym (append-none xs) ∙ ap (λ r. xs ++ r) (sym none); counted = omega (arith, same) }
@@ -133,7 +133,7 @@ itself xs n same =
 pub at_whole : (m : StreamState) (Q : Story → Type 0) → (m.lost ≡ None → m.ahead ≡ 0) → ForEachTape m Q → (story_so_far m).lost ≡ false → Q (story_so_far m)
 at_whole m Q none h going = let is = none_of m.lost going in h is m.story.tape (itself m.story.tape m.ahead (none is))
 
-no_length : (xs : List ℕ) → length xs ≡ 0 → xs ≡ []
+pub no_length : (xs : List ℕ) → length xs ≡ 0 → xs ≡ []
 no_length [] h = refl
 no_length (x ∷ xs) h = absurd (omega (arith, h))
 

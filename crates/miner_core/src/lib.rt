@@ -22,6 +22,7 @@ mod task;
 pub use answer::{End, Lost, MinerErr, Step, StreamErr};
 pub use laws::a_refusal_stays;
 pub use miner::Miner;
+pub use no_tapes::NoTapes;
 pub use notice::Notice;
 pub use stream::StreamMiner;
 pub use task::Task;

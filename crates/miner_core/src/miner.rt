@@ -1,9 +1,10 @@
-ghost use Rattle.std.specs.Prelude.{◌≡◌, ◌-◌, [], map, true, false, IfOk, Err};
+ghost use Rattle.std.specs.Prelude.{◌≡◌, ◌-◌, [], map, true, false, None, IfOk, Err};
 ghost use Rattle.proto_core.specs.Parties.{receiver_of};
 ghost use Rattle.proto_core.specs.Standing.{AtItsEnd};
 ghost use Rattle.code_turns.specs.Dealt.{drawn_by};
 ghost use Rattle.shared_gates.specs.Model.{miner_of};
 ghost use Rattle.miner_core.specs.Story.{sent_to_next, sent_to_previous, has_opened, has_told, stands_at, AtStop, IsAnswer, DeliverAnswers};
+ghost use Rattle.miner_core.specs.Streams.{story_so_far};
 ghost use Rattle.miner_core.specs.Views.{task_world, task_code, notice_seen};
 ghost use Rattle.miner_core.specs.declared.answer.MinerErr.TheVariants.{Memory, NotAwaited};
 
@@ -69,6 +70,23 @@ impl<P: Party> Miner<P> {
             Ok(inner) => Ok(Miner { inner }),
             Err(_) => Err(AllocError),
         }
+    }
+
+    /// The same miner as one that draws from a source, which has none of its tape left.
+    pub fn into_stream(self) -> StreamMiner<P>
+        ensures story { story_so_far result ≡ self }
+        ensures ahead { result.lost ≡ None → result.ahead ≡ 0 }
+    {
+        let Miner { inner } = self;
+        inner
+    }
+
+    /// A miner that draws, of whose tape no source has any left, by itself.
+    pub fn of_stream(inner: StreamMiner<P>) -> Miner<P>
+        requires { inner.lost ≡ None → inner.ahead ≡ 0 }
+        ensures { result ≡ story_so_far inner }
+    {
+        Miner { inner }
     }
 
     /// The oldest message of a link comes, which ends at this miner. It is kept, and all is done that the messages lead to; the answer

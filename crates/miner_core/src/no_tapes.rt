@@ -5,7 +5,7 @@ use outside::{Failed, TapeSource};
 
 /// A source that has no words, for a miner that was given its whole tape.
 #[derive(Drop)]
-pub(crate) struct NoTapes;
+pub struct NoTapes;
 
 impl TapeSource for NoTapes {
     ghost state = { λ _. no_words };

@@ -5,4 +5,5 @@ pub mod Greetings
 pub mod SentFrames
 pub mod Turning
 pub mod Rounds
+pub mod Along
 pub mod Honest

@@ -49,6 +49,9 @@ at_ease_after i s (step.Waits l) h = λ k cause e. no_refusal l k cause (sym h �
 at_ease_after i s (step.Ended x) h =
     λ k cause e. end_refuses k cause (sym (end_stands (node i s).left (node i s).unread x h) ∙ e)
 
+pub not_own : (i : Number) (link : Link) (s : Story) (a : LinksState) {T : Type 0} → TakesMessage i link s s a a {T = T} (Err stop.Memory)
+not_own i link s a = record { ok = tt; err = tt; sent = refl; later = later_self a }
+
 module _ (i : Number) (link : Link) (own : receiver_of link ≡ i) (s : Story) (c d : LinksState) where
   -- no message was read
   pub unread_is : (e : NodeErr) → IsUnread c d (count_of (sender_of link)) e → IsUndelivered i link s s c d e
@@ -129,6 +132,12 @@ module _ (i : Number) (a b : LinksState) (first s : Story) (counts : SentCounts)
   pub turns_end : (o : Option Ending) (ending : Ending) → o ≡ Some ending → TurnAnswers i a b first s counts (Ok o) → EndsTurns i a b first s (Ok ending)
   turns_end o ending is h =
       record { ok = subst (λ (v : Option Ending). TurnGoes i a b first s counts v) is h.ok; err = tt; later = h.later }
+
+  pub turns_stop : (e : NodeErr) → TurnAnswers i a b first s counts (Err e) → EndsTurns i a b first s (Err e)
+  turns_stop e h = record { ok = tt; err = h.err; later = h.later }
+
+  pub turns_go : (o : Option Ending) → o ≡ None → TurnAnswers i a b first s counts (Ok o) → IsServing i a b first s counts
+  turns_go o is h = subst (λ (v : Option Ending). TurnGoes i a b first s counts v) is h.ok
 
   pub turns_unended : IsServing i a b first s counts → EndsTurns i a b first s (Err stop.Memory)
   turns_unended h = record { ok = tt; err = fronts_before i a first b s counts h; later = h.later }

@@ -5,4 +5,5 @@ pub mod Serving
 pub mod Answers
 pub mod Turns
 pub mod Serves
+pub mod Tapes
 pub mod Laws

@@ -10,5 +10,5 @@ mod serving;
 mod transfers;
 
 pub use laws::{honest_peers_lead_to_the_end, nodes_do_as_their_miners};
-pub use node_err::NodeErr;
-pub use serving::{Served, serve};
+pub use node_err::{NodeErr, ServeErr};
+pub use serving::{Served, ServedStream, serve, serve_from};

@@ -34,6 +34,15 @@ pub enum NodeErr {
     Memory,
 }
 
+/// Why a node stopped before its end whose miner draws its tape from a source.
+#[derive(Drop)]
+pub enum ServeErr {
+    /// As any node stops.
+    Node(NodeErr),
+    /// Words of the miner's tape couldn't be drawn, and their source counted a fault.
+    TapeFault,
+}
+
 impl From<AllocError> for NodeErr {
     ghost from_gives = { λ _ e. e ≡ Memory };
 

@@ -1,12 +1,15 @@
 // The frames of a miner's messages, to its two peers.
-ghost use Rattle.std.specs.Prelude.{◌≡◌, ◌<◌, ◌≤◌, false, length, get_or, []};
+ghost use Rattle.std.specs.Prelude.{◌<◌, ◌≤◌, length, get_or, []};
+ghost use Rattle.proto_core.specs.Parties.{count_of, next_of, previous_of};
+ghost use Rattle.miner_core.specs.Story.{sent_to_next, sent_to_previous};
+ghost use Rattle.miner_core.specs.Streams.{ForEachTape};
 ghost use Rattle.wire.specs.Frames.{frame_bytes};
 ghost use Rattle.miner_node.specs.Transfers.{SendsAll};
 ghost use Rattle.miner_node.specs.Turns.{SendsFrom, SendsNew};
 
 use crate::node_err::NodeErr;
 use crate::transfers::send_all;
-use miner_core::Miner;
+use miner_core::StreamMiner;
 use outside::Links;
 use proto_core::{Messages, Party};
 use std::alloc::Global;
@@ -73,30 +76,45 @@ fn send_from<L: Links>(
     Ok(messages.len())
 }
 
+/// Sends the next miner the frames of the messages for it from number `sent` on; how many messages there are.
+fn send_next<P: Party, L: Links>(
+    alloc: Global,
+    miner: &StreamMiner<P>,
+    sent: usize,
+    links: &mut L,
+) -> Result<usize, NodeErr>
+    ensures { ForEachTape miner.now (λ s. SendsFrom (L.state links.old) (L.state links.new) (count_of (next_of P.me)) (sent_to_next P.me s) sent result) }
+{
+    let peer = P::number().next().as_u8();
+    send_from(alloc, miner.sent_to_next(), sent, peer, links)
+}
+
+/// The same of the previous miner.
+fn send_previous<P: Party, L: Links>(
+    alloc: Global,
+    miner: &StreamMiner<P>,
+    sent: usize,
+    links: &mut L,
+) -> Result<usize, NodeErr>
+    ensures { ForEachTape miner.now (λ s. SendsFrom (L.state links.old) (L.state links.new) (count_of (previous_of P.me)) (sent_to_previous P.me s)
+        sent result) }
+{
+    let peer = P::number().previous().as_u8();
+    send_from(alloc, miner.sent_to_previous(), sent, peer, links)
+}
+
 /// Sends what a miner has sent since these counts, and counts it.
 pub(crate) fn send_new<P: Party, L: Links>(
     alloc: Global,
-    miner: &Miner<P>,
+    miner: &StreamMiner<P>,
     counts: &mut SentCounts,
     links: &mut L,
 ) -> Result<(), NodeErr>
-    requires { miner.now.lost ≡ false }
-    ensures { SendsNew P.me miner.now counts.old counts.new (L.state links.old) (L.state links.new) result }
+    ensures { ForEachTape miner.now (λ s. SendsNew P.me s counts.old counts.new (L.state links.old) (L.state links.new) result) }
 {
-    let me = P::number();
-    counts.to_next = send_from(
-        alloc,
-        miner.sent_to_next(),
-        counts.to_next,
-        me.next().as_u8(),
-        links,
-    )?;
-    counts.to_previous = send_from(
-        alloc,
-        miner.sent_to_previous(),
-        counts.to_previous,
-        me.previous().as_u8(),
-        links,
-    )?;
+    let next = send_next(alloc, miner, counts.to_next, links)?;
+    counts.to_next = next;
+    let previous = send_previous(alloc, miner, counts.to_previous, links)?;
+    counts.to_previous = previous;
     Ok(())
 }
