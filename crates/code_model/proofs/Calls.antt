@@ -1,5 +1,5 @@
 -- A call of an instance does what evaluation's call does.
-use Rattle.std.proofs.Common.{◌≡◌, ℕ, zero, suc, ◌+◌, List, [], ◌∷◌, ◌++◌, length, Some, None, Ok, Err, Bool, true, false, refl, sym, ap}
+use Rattle.std.proofs.Common.{◌≡◌, ℕ, zero, suc, ◌+◌, ◌*◌, List, [], ◌∷◌, ◌++◌, length, Some, None, Ok, Err, Bool, true, false, refl, sym, ap}
 use Rattle.std.proofs.Common.{◌∙◌, subst, arith}
 use Rattle.std.specs.Prelude.{slice_get, nat_lt, map, sum}
 use Rattle.std.proofs.lemmas.Bool.{lt-ltb, le-ltb}
@@ -18,7 +18,7 @@ use Rattle.language_model.proofs.Onward.{onward_charge}
 use Rattle.verified_code.specs.Steps.{Step, Function}
 use Rattle.code_model.specs.Machine.{Caller, Machine, step, received, caller_of, entering, limit, resume, values_at}
 use Rattle.code_model.specs.Expressions.{Numbers}
-use Rattle.code_model.specs.Statements.{first_free, statements_width, statements_code}
+use Rattle.code_model.specs.Statements.{first_free, statements_depth, statements_code}
 use Rattle.code_model.specs.Programs.{last_step, body_end, function_code}
 use Rattle.code_model.specs.Fit.{gives_value, IsFitFunction, one_returns}
 use Rattle.code_model.proofs.Places.{HasAt, has_front, has_back, has_all}
@@ -78,7 +78,7 @@ module _ (w : World) (p : List Function) (number : Numbers) (fs : List TypedFunc
         e0 = omega (arith, statements_length number pl f.body (first_free f.slots) finish finish 0 0 0 0)
 
         last : Step
-        last = last_step f.given (first_free f.slots + statements_width f.body)
+        last = last_step f.given (first_free f.slots + 8 * statements_depth f.body)
 
         code : List Step
         code = cs ++ last ∷ []
@@ -109,7 +109,7 @@ module _ (w : World) (p : List Function) (number : Numbers) (fs : List TypedFunc
 
         -- it falls off its end only where nothing is given back
         falls_step : (g : Returned) → (gives_value g ≡ true → one_returns f.body ≡ true) → one_returns f.body ≡ false → (m1 : Machine) (s : Stage)
-            → step w p (Some (last_step g (first_free f.slots + statements_width f.body))) m1 s ≡ resume m1.stack nothing s
+            → step w p (Some (last_step g (first_free f.slots + 8 * statements_depth f.body))) m1 s ≡ resume m1.stack nothing s
         falls_step given.Nothing r h m1 s = refl
         falls_step (given.Value x) r h m1 s = absurd (clash (sym h ∙ r refl))
 

@@ -14,8 +14,8 @@ use Rattle.language_model.specs.Values.{Value, never_stored}
 use Rattle.language_model.specs.Evaluation.{Frame, is_private, begins, entered, place_in}
 use Rattle.bytecode.specs.declared.kind.Kind.{Kind}
 use Rattle.code_model.specs.Machine.{begun, filled_with}
-use Rattle.code_model.specs.Kinds.{slot_kind}
-use Rattle.code_model.specs.Statements.{shape_number, default_kinds, defaults_behind, statements_kinds}
+use Rattle.code_model.specs.Kinds.{slot_kind, rows_kinds}
+use Rattle.code_model.specs.Statements.{shape_number, default_kinds, defaults_behind, statements_depth}
 use Rattle.code_model.specs.Programs.{last_kinds}
 use Rattle.code_model.proofs.Gives.{IsSecret}
 use Rattle.code_model.proofs.Near.{Holds}
@@ -82,10 +82,10 @@ with_defaults (s ∷ ss) h = refl
 pub begins_holding : (fs : List TypedFunctionTree) (f : TypedFunctionTree) (b : List BoundDomain) (xs : List Value) (registers : Frame) → ArgumentsFit b
     f.slots xs
     → ((i : ℕ) → registers i ≡ filled_with (map (slot_kind b) f.slots
-    ++ (defaults_behind f.slots ++ (statements_kinds (place_in fs f b).here f.body ++ last_kinds b f.given))) xs i)
+    ++ (defaults_behind f.slots ++ (rows_kinds (statements_depth f.body) ++ last_kinds b f.given))) xs i)
     → Holds (place_in fs f b).here (entered b f.slots xs) registers
 begins_holding fs f b xs registers fit h =
-    let more = statements_kinds (place_in fs f b).here f.body ++ last_kinds b f.given in
+    let more = rows_kinds (statements_depth f.body) ++ last_kinds b f.given in
     record {
       agree = λ i l. h i ∙ filled_same b f.slots (defaults_behind f.slots ++ more) xs i l;
       fits = entered_fit b f.slots xs fit;

@@ -1,5 +1,5 @@
 -- The jumps of a program's code go forward.
-use Rattle.std.proofs.Common.{◌≡◌, ℕ, zero, suc, ◌+◌, ◌<◌, ◌≤◌, List, [], ◌∷◌, ◌++◌, length, Option, Some, None, Bool, true, false, subst}
+use Rattle.std.proofs.Common.{◌≡◌, ℕ, zero, suc, ◌+◌, ◌*◌, ◌<◌, ◌≤◌, List, [], ◌∷◌, ◌++◌, length, Option, Some, None, Bool, true, false, subst}
 use Rattle.std.proofs.Common.{arith, length-append}
 use Rattle.std.specs.Prelude.{slice_get, map}
 use Rattle.std.proofs.lemmas.Option.{none-some, same_Some}
@@ -28,10 +28,9 @@ use Rattle.language_model.specs.Evaluation.{StatementContext, gives_private, slo
 use Rattle.language_model.specs.Evaluation.{behind_next, connective}
 use Rattle.language_model.specs.Evaluation.{either, place_in}
 use Rattle.verified_code.specs.Steps.{Step, Literal, Move, Store, Fill, Put, Return, Branch, Jump, Function}
-use Rattle.code_model.specs.Kinds.{width}
 use Rattle.code_model.specs.Expressions.{Numbers, classifying, lacks, mixes, binary_code, cat_code, element_code, deciding, settling, cut_code}
-use Rattle.code_model.specs.Expressions.{stands_at, expression_code, arguments_code, unread_code}
-use Rattle.code_model.specs.Statements.{shape_number, first_free, statement_width, statements_width, behind_classifying, statement_code, statements_code}
+use Rattle.code_model.specs.Expressions.{classified_at, stands_at, next_row, expression_code, arguments_code, unread_code}
+use Rattle.code_model.specs.Statements.{shape_number, first_free, statements_depth, behind_classifying, statement_code, statements_code}
 use Rattle.code_model.specs.Programs.{last_step, function_code, body_end, code_of_found, instance_code, numbers_in, code_of}
 use Rattle.code_model.specs.Meaning.{IsForward, AreForward}
 use Rattle.code_model.proofs.Lengths.{statement_length, statements_length}
@@ -62,32 +61,32 @@ settling_on false t r pc = tt
 abbrev GoOnAll : (ℕ → List Step) → Type 0
 GoOnAll b = (q : ℕ) → GoOn q (b q)
 
-binary_on : (t v u pc line : ℕ) (op : BinaryOperator) (ds : Operands) (ga gb : Bool) (a : List Step) (b : ℕ → List Step) → GoOn pc a → GoOnAll b → GoOn pc
-    (binary_code t v u pc line op ds ga gb a b)
-binary_on t v u pc line op ds ga gb a b h k =
+binary_on : (d m n v u pc line : ℕ) (op : BinaryOperator) (ds : Operands) (ga gb : Bool) (a : List Step) (b : ℕ → List Step) → GoOn pc a → GoOnAll b → GoOn pc
+    (binary_code d m n v u pc line op ds ga gb a b)
+binary_on d m n v u pc line op ds ga gb a b h k =
     let l = mixes op ga gb in
     let r = mixes op gb ga in
     both_on pc a _ h (both_on (pc + length a) (b (pc + length a)) _ (k (pc + length a))
-    (both_on _ (classifying l (t + 1) v) _ (classifying_on l (t + 1) v _)
-    (both_on _ (classifying r (t + 2) u) _ (classifying_on r (t + 2) u _) (tt, tt))))
+    (both_on _ (classifying l m v) _ (classifying_on l m v _)
+    (both_on _ (classifying r n u) _ (classifying_on r n u _) (tt, tt))))
 
-cat_on : (t v u pc line : ℕ) (l r : Bool) (a : List Step) (b : ℕ → List Step) → GoOn pc a → GoOnAll b → GoOn pc (cat_code t v u pc line l r a b)
-cat_on t v u pc line l r a b h k =
-    let pb = pc + length a + length (classifying l (t + 1) v) in
-    both_on pc a _ h (both_on (pc + length a) (classifying l (t + 1) v) _ (classifying_on l (t + 1) v _)
-    (both_on pb (b pb) _ (k pb) (both_on _ (classifying r (t + 2) u) _ (classifying_on r (t + 2) u _) (tt, tt))))
+cat_on : (d m n v u pc line : ℕ) (l r : Bool) (a : List Step) (b : ℕ → List Step) → GoOn pc a → GoOnAll b → GoOn pc (cat_code d m n v u pc line l r a b)
+cat_on d m n v u pc line l r a b h k =
+    let pb = pc + length a + length (classifying l m v) in
+    both_on pc a _ h (both_on (pc + length a) (classifying l m v) _ (classifying_on l m v _)
+    (both_on pb (b pb) _ (k pb) (both_on _ (classifying r n u) _ (classifying_on r n u _) (tt, tt))))
 
 element_on : (t v u pc line : ℕ) (a : List Step) (b : ℕ → List Step) → GoOn pc a → GoOnAll b → GoOn pc (element_code t v u pc line a b)
 element_on t v u pc line a b h k = both_on pc a _ h (both_on (pc + length a) (b (pc + length a)) _ (k (pc + length a)) (tt, tt))
 
-cut_on : (t v u pc : ℕ) (c : Connective) (secret : Bool) (a : List Step) (b : ℕ → List Step) → GoOn pc a → GoOnAll b → GoOn pc (cut_code t v u pc c secret a b)
-cut_on t v u pc c secret a b h k =
+cut_on : (d q v u pc : ℕ) (c : Connective) (secret : Bool) (a : List Step) (b : ℕ → List Step) → GoOn pc a → GoOnAll b → GoOn pc (cut_code d q v u pc c secret a b)
+cut_on d q v u pc c secret a b h k =
     let pb = pc + length a + 1 in
     let pd = pb + length (b pb) + 2 in
-    let last = Move t u ∷ Jump (pd + 2) ∷ Literal (t + 1) datatype.Bool (truth_word (deciding c)) ∷ settling secret t (t + 1) ∷ [] in
+    let last = Move d u ∷ Jump (pd + 2) ∷ Literal q datatype.Bool (truth_word (deciding c)) ∷ settling secret d q ∷ [] in
     let jump : pb + length (b pb) + 1 < pd + 2 = omega arith in
     both_on pc a (Branch v (deciding c) pd ∷ (b pb ++ last)) h
-    (tt, both_on pb (b pb) last (k pb) (tt, (jump, (tt, (settling_on secret t (t + 1) _, tt)))))
+    (tt, both_on pb (b pb) last (k pb) (tt, (jump, (tt, (settling_on secret d q _, tt)))))
 
 either_on : (g : Bool) (pc : ℕ) (a b : List Step) → GoOn pc a → GoOn pc b → GoOn pc (either g a b)
 either_on true pc a b h k = h
@@ -100,41 +99,41 @@ module _ (number : Numbers) where
     expression_on here (truth_node b) t pc = (tt, tt)
     expression_on here (slot_node k) t pc = tt
     expression_on here (call_node line k es) t pc =
-        both_on pc _ _ (arguments_on here (bound_at (slice_get here.functions k) (domains here es)) (slots_of (slice_get here.functions k)) es (t + 1) pc)
+        both_on pc _ _ (arguments_on here (bound_at (slice_get here.functions k) (domains here es)) (slots_of (slice_get here.functions k)) es t pc)
         (tt, tt)
-    expression_on here (size_node e) t pc = both_on pc _ _ (expression_on here e (t + 1) pc) (tt, tt)
+    expression_on here (size_node e) t pc = both_on pc _ _ (expression_on here e t pc) (tt, tt)
     expression_on here (cat_node line a b) t pc =
-        cat_on t _ _ pc line (lacks (gives_private here (cat_node line a b)) (gives_private here a))
-        (lacks (gives_private here (cat_node line a b)) (gives_private here b)) _ _ (expression_on here a (t + 3) pc)
-        (λ q. expression_on here b (t + 3 + width a) q)
-    expression_on here (sum_node e) t pc = both_on pc _ _ (expression_on here e (t + 1) pc) (tt, tt)
-    expression_on here (bits_node line e) t pc = both_on pc _ _ (expression_on here e (t + 1) pc) (tt, tt)
-    expression_on here (element_node line a i) t pc = element_on t _ _ pc line _ _ (expression_on here a (t + 1) pc)
-        (λ q. expression_on here i (t + 1 + width a) q)
-    expression_on here (not_node e) t pc = both_on pc _ _ (expression_on here e (t + 1) pc) (tt, tt)
-    expression_on here (cast_node c e) t pc = both_on pc _ _ (expression_on here e (t + 1) pc) (tt, tt)
+        cat_on _ _ _ _ _ pc line (lacks (gives_private here (cat_node line a b)) (gives_private here a))
+        (lacks (gives_private here (cat_node line a b)) (gives_private here b)) _ _ (expression_on here a t pc)
+        (λ q. expression_on here b (next_row t) q)
+    expression_on here (sum_node e) t pc = both_on pc _ _ (expression_on here e t pc) (tt, tt)
+    expression_on here (bits_node line e) t pc = both_on pc _ _ (expression_on here e t pc) (tt, tt)
+    expression_on here (element_node line a i) t pc = element_on _ _ _ pc line _ _ (expression_on here a t pc)
+        (λ q. expression_on here i (next_row t) q)
+    expression_on here (not_node e) t pc = both_on pc _ _ (expression_on here e t pc) (tt, tt)
+    expression_on here (cast_node c e) t pc = both_on pc _ _ (expression_on here e t pc) (tt, tt)
     expression_on here (binary_node line op ds a b) t pc =
-        binary_on t _ _ pc line op ds (gives_private here a) (gives_private here b) _ _ (expression_on here a (t + 3) pc)
-        (λ q. expression_on here b (t + 3 + width a) q)
+        binary_on _ _ _ _ _ pc line op ds (gives_private here a) (gives_private here b) _ _ (expression_on here a t pc)
+        (λ q. expression_on here b (next_row t) q)
     expression_on here (cut_node c a b) t pc =
         either_on (gives_private here a) pc _ _
-        (binary_on t _ _ pc 0 (binary.Bools (connective c)) Scalars (gives_private here a) (gives_private here b) _ _
-        (expression_on here a (t + 3) pc) (λ q. expression_on here b (t + 3 + width a) q))
-        (cut_on t _ _ pc c (gives_private here b) _ _ (expression_on here a (t + 3) pc)
-        (λ q. expression_on here b (t + 3 + width a) q))
-    expression_on here (declassify_node e) t pc = both_on pc _ _ (expression_on here e (t + 1) pc) (tt, tt)
+        (binary_on _ _ _ _ _ pc 0 (binary.Bools (connective c)) Scalars (gives_private here a) (gives_private here b) _ _
+        (expression_on here a t pc) (λ q. expression_on here b (next_row t) q))
+        (cut_on _ _ _ _ pc c (gives_private here b) _ _ (expression_on here a t pc)
+        (λ q. expression_on here b (next_row t) q))
+    expression_on here (declassify_node e) t pc = both_on pc _ _ (expression_on here e t pc) (tt, tt)
 
     arguments_on : (here : Setting) (b : List BoundDomain) (ss : List Slot) (es : TypedTrees) (t pc : ℕ) → GoOn pc (arguments_code number here b ss t pc es)
     arguments_on here b ss Tree'.none t pc = tt
     arguments_on here b ss (Tree'.also e es) t pc =
         let f = lacks (next_is_private b ss) (gives_private here e) in
-        both_on pc _ _ (expression_on here e (t + 1) pc) (both_on _ (classifying f t (stands_at e (t + 1))) _
-        (classifying_on f t _ _)
-        (arguments_on here b (behind_next ss) es (t + 1 + width e) _))
+        both_on pc _ _ (expression_on here e t pc) (both_on _ (classifying f (classified_at here e t) (stands_at here e t)) _
+        (classifying_on f _ _ _)
+        (arguments_on here b (behind_next ss) es (next_row t) _))
 
   unread_on : (here : Setting) (e : TypedTree) (t pc : ℕ) → GoOn pc (unread_code number here t pc e)
   unread_on here (call_node line k es) t pc =
-      both_on pc _ _ (arguments_on here (bound_at (slice_get here.functions k) (domains here es)) (slots_of (slice_get here.functions k)) es (t + 1) pc)
+      both_on pc _ _ (arguments_on here (bound_at (slice_get here.functions k) (domains here es)) (slots_of (slice_get here.functions k)) es t pc)
       (tt, tt)
   unread_on here (word_node n) t pc = expression_on here (word_node n) t pc
   unread_on here (truth_node b) t pc = expression_on here (truth_node b) t pc
@@ -160,76 +159,71 @@ module _ (number : Numbers) where
     statement_on at empty_statement t x y pc hx hy = tt
     statement_on at (block_statement cs) t x y pc hx hy = statements_on at cs t x y pc hx hy
     statement_on at (if_statement e a b) t x y pc hx hy =
-        let ta = t + width e in
-        let tb = ta + statement_width a in
         let ce = expression_code number at.here t pc e in
         let pa = pc + length ce + 1 in
-        let ca = statement_code number at ta x y pa a in
+        let ca = statement_code number at t x y pa a in
         let pb = pa + length ca + 1 in
-        let cb = statement_code number at tb x y pb b in
+        let cb = statement_code number at t x y pb b in
         let rest2 = Jump (pb + length cb) ∷ cb in
-        let rest = Branch (stands_at e t) false pb ∷ (ca ++ rest2) in
+        let rest = Branch (stands_at at.here e t) false pb ∷ (ca ++ rest2) in
         let n1 = length-append ce rest in
         let n2 = length-append ca rest2 in
         let jump : pa + length ca < pb + length cb = omega arith in
         both_on pc ce rest (expression_on at.here e t pc) (
           tt,
-          both_on pa ca rest2 (statement_on at a ta x y pa (omega (arith, n1, n2, hx)) (omega (arith, n1, n2, hy)))
-              (jump, statement_on at b tb x y pb (omega (arith, n1, n2, hx)) (omega (arith, n1, n2, hy))),
+          both_on pa ca rest2 (statement_on at a t x y pa (omega (arith, n1, n2, hx)) (omega (arith, n1, n2, hy)))
+              (jump, statement_on at b t x y pb (omega (arith, n1, n2, hx)) (omega (arith, n1, n2, hy))),
         )
     statement_on at (loop_statement e step body) t x y pc hx hy =
-        let ts = t + statement_width body in
-        let te = ts + statement_width step in
         let n1 = length (statement_code number at t 0 0 0 body) in
-        let n2 = length (statement_code number at ts 0 0 0 step) in
-        let n3 = length (expression_code number at.here te 0 e) in
+        let n2 = length (statement_code number at t 0 0 0 step) in
+        let n3 = length (expression_code number at.here t 0 e) in
         let over = pc + 1 + n1 in
         let again = over + n2 in
         let out = again + n3 + 1 in
         let ca = statement_code number at t out over (pc + 1) body in
         let py = pc + 1 + length ca in
-        let cb = statement_code number at ts out again py step in
+        let cb = statement_code number at t out again py step in
         let pt = py + length cb in
-        let ce = expression_code number at.here te pt e in
+        let ce = expression_code number at.here t pt e in
         let ey : over ≡ py = omega (arith, statement_length number at body t out over (pc + 1) 0 0 0) in
-        let ez : again ≡ pt = omega (arith, ey, statement_length number at step ts out again py 0 0 0) in
+        let ez : again ≡ pt = omega (arith, ey, statement_length number at step t out again py 0 0 0) in
         let jump : pc < pt = omega arith in (
           jump,
-          both_on (pc + 1) ca (cb ++ (ce ++ Branch (stands_at e te) true (pc + 1) ∷ [])) (statement_on at body t out over (pc + 1)
+          both_on (pc + 1) ca (cb ++ (ce ++ Branch (stands_at at.here e t) true (pc + 1) ∷ [])) (statement_on at body t out over (pc + 1)
               (omega (arith, ey)) (omega (arith, ey)))
-              (both_on py cb (ce ++ Branch (stands_at e te) true (pc + 1) ∷ []) (statement_on at step ts out again py (omega (arith, ez))
+              (both_on py cb (ce ++ Branch (stands_at at.here e t) true (pc + 1) ∷ []) (statement_on at step t out again py (omega (arith, ez))
               (omega (arith, ez)))
-              (both_on pt ce (Branch (stands_at e te) true (pc + 1) ∷ []) (expression_on at.here e te pt) (tt, tt))),
+              (both_on pt ce (Branch (stands_at at.here e t) true (pc + 1) ∷ []) (expression_on at.here e t pt) (tt, tt))),
         )
     statement_on at (do_statement body e) t x y pc hx hy =
-        let te = t + statement_width body in
         let n1 = length (statement_code number at t 0 0 0 body) in
-        let n3 = length (expression_code number at.here te 0 e) in
+        let n3 = length (expression_code number at.here t 0 e) in
         let again = pc + n1 in
         let out = again + n3 + 1 in
         let ca = statement_code number at t out again pc body in
         let pt = pc + length ca in
-        let ce = expression_code number at.here te pt e in
+        let ce = expression_code number at.here t pt e in
         let ez : again ≡ pt = omega (arith, statement_length number at body t out again pc 0 0 0) in
-        both_on pc ca (ce ++ Branch (stands_at e te) true pc ∷ []) (statement_on at body t out again pc (omega (arith, ez)) (omega (arith, ez)))
-        (both_on pt ce (Branch (stands_at e te) true pc ∷ []) (expression_on at.here e te pt) (tt, tt))
+        both_on pc ca (ce ++ Branch (stands_at at.here e t) true pc ∷ []) (statement_on at body t out again pc (omega (arith, ez)) (omega (arith, ez)))
+        (both_on pt ce (Branch (stands_at at.here e t) true pc ∷ []) (expression_on at.here e t pt) (tt, tt))
     statement_on at break_statement t x y pc hx hy = let h : pc < x = omega (arith, hx) in (h, tt)
     statement_on at continue_statement t x y pc hx hy = let h : pc < y = omega (arith, hy) in (h, tt)
     statement_on at (return_statement None) t x y pc hx hy = (tt, tt)
     statement_on at (return_statement (Some e)) t x y pc hx hy =
-        both_on pc _ _ (expression_on at.here e (t + 1) pc) (behind_on at.secret_result (gives_private at.here e) t _ _ Return (λ r q. tt))
+        both_on pc _ _ (expression_on at.here e t pc) (behind_on at.secret_result (gives_private at.here e) _ _ _ Return (λ r q. tt))
     statement_on at (assert_statement line e) t x y pc hx hy = both_on pc _ _ (expression_on at.here e t pc) (tt, tt)
     statement_on at (store_statement k e) t x y pc hx hy =
-        both_on pc _ _ (expression_on at.here e (t + 1) pc) (behind_on (slot_is_private at.here k) (gives_private at.here e) t _ _ (Store k) (λ r q. tt))
-    statement_on at (default_statement k) t x y pc hx hy = behind_on (slot_is_private at.here k) false t
+        both_on pc _ _ (expression_on at.here e t pc) (behind_on (slot_is_private at.here k) (gives_private at.here e) _ _ _ (Store k) (λ r q. tt))
+    statement_on at (default_statement k) t x y pc hx hy = behind_on (slot_is_private at.here k) false _
         (length at.here.slots + shape_number (slot_shape at.here k)) pc (Store k) (λ r q. tt)
     statement_on at (fill_statement line k n e) t x y pc hx hy =
-        both_on pc _ _ (expression_on at.here n (t + 1) pc) (both_on _ _ _ (expression_on at.here e (t + 1 + width n) _)
-        (behind_on (slot_is_private at.here k) (gives_private at.here e) t _ _ (Fill line k (stands_at n (t + 1))) (λ r q. tt)))
+        both_on pc _ _ (expression_on at.here n t pc) (both_on _ _ _ (expression_on at.here e (next_row t) _)
+        (behind_on (slot_is_private at.here k) (gives_private at.here e) _ _ _ (Fill line k (stands_at at.here n t)) (λ r q. tt)))
     statement_on at (input_statement line k text) t x y pc hx hy = (tt, (tt, tt))
     statement_on at (element_statement line k i e) t x y pc hx hy =
-        both_on pc _ _ (expression_on at.here i (t + 1) pc) (both_on _ _ _ (expression_on at.here e (t + 1 + width i) _)
-        (behind_on (slot_is_private at.here k) (gives_private at.here e) t _ _ (Put line k (stands_at i (t + 1))) (λ r q. tt)))
+        both_on pc _ _ (expression_on at.here i t pc) (both_on _ _ _ (expression_on at.here e (next_row t) _)
+        (behind_on (slot_is_private at.here k) (gives_private at.here e) _ _ _ (Put line k (stands_at at.here i t)) (λ r q. tt)))
     statement_on at (publish_statement text e) t x y pc hx hy = both_on pc _ _ (expression_on at.here e t pc) (tt, tt)
     statement_on at (evaluate_statement e) t x y pc hx hy = unread_on at.here e t pc
 
@@ -238,10 +232,10 @@ module _ (number : Numbers) where
     statements_on at Statements'.none t x y pc hx hy = tt
     statements_on at (Statements'.also c cs) t x y pc hx hy =
         let a = statement_code number at t x y pc c in
-        let b = statements_code number at (t + statement_width c) x y (pc + length a) cs in
+        let b = statements_code number at t x y (pc + length a) cs in
         let n = length-append a b in
         both_on pc a b (statement_on at c t x y pc (omega (arith, n, hx)) (omega (arith, n, hy)))
-        (statements_on at cs (t + statement_width c) x y (pc + length a)
+        (statements_on at cs t x y (pc + length a)
         (omega (arith, n, hx)) (omega (arith, n, hy)))
 
 -- ---- FUNCTIONS
@@ -269,11 +263,11 @@ function_forward number fs f b pc target e =
     let t = first_free f.slots in
     let finish = body_end number fs f b in
     let cs = statements_code number pl t finish finish 0 f.body in
-    let last = last_step f.given (t + statements_width f.body) in
+    let last = last_step f.given (t + 8 * statements_depth f.body) in
     let e0 : finish ≡ 0 + length cs = omega (arith, statements_length number pl f.body t finish finish 0 0 0 0) in
     let r : 0 + pc < target = jump_at (cs ++ last ∷ []) 0 pc target
     (both_on 0 cs (last ∷ []) (statements_on number pl f.body t finish finish 0 (omega (arith, e0)) (omega (arith, e0)))
-    (last_on f.given (t + statements_width f.body) _, tt)) e in
+    (last_on f.given (t + 8 * statements_depth f.body) _, tt)) e in
     omega (arith, r)
 
 instance_forward : (fs : List TypedFunctionTree) (number : Numbers) (i : Instance) → IsForward (instance_code fs number i).steps

@@ -28,7 +28,7 @@ use Rattle.language_model.specs.Operations.{summed, not_too_large, bits_from, bi
 use Rattle.language_model.specs.Operations.{filled_from, filled, tested, published, asserted}
 use Rattle.language_model.specs.Evaluation.{given_value, asked_for, is_as_declared}
 use Rattle.language_model.proofs.Walk as walk
-use Rattle.language_model.proofs.Onward.{Onward, Went, stage_of, is_onward, onward_law, onward_draw, onward_gate, onward_charge}
+use Rattle.language_model.proofs.Onward.{Onward, Went, stage_of, is_onward, onward_law, onward_draw, onward_gate, onward_charge, onward_emit, onward_show}
 
 abbrev pub GivesAt : {A : Type 0} → Stage → Run A → (A → Type 0) → Type 0
 GivesAt s (Ok x) Q = (x.1.left ≤ s.left) × Q x.0
@@ -112,7 +112,7 @@ module _ (w : World) where
   revealed_gives v =
       gives_after w (walk.answer_holds w w (is_onward w) law w.source v.words) (λ words.
       let known = read_answer v.shape.element words in
-      gives_after w (law.on_show known) (λ _. gives_after w (law.on_emit (event.Open (elements_of (plain v.shape known)))) (λ _. plain_gives v.shape known)))
+      gives_after w (onward_show known) (λ _. gives_after w (onward_emit (event.Open (elements_of (plain v.shape known)))) (λ _. plain_gives v.shape known)))
 
   opened_gives : (x : Secrecy) (v : Value) → v.secrecy ≡ x → Gives (opened_from w x v) (IsSecret false)
   unfolding is_onward

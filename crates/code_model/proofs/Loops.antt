@@ -44,17 +44,17 @@ module _ (w : World) (p : List Function) (number : Numbers) (calls : Calls) (d :
   -- the test of a condition, and the branch behind it
   tests : (t pt target : ℕ) (e : TypedTree) (fr : Frame) (m : Machine) (s : Stage) (f : Bool → Effect Flow) (Q : Flow → Machine → Type 0) → Expressed w p
       number calls d place code stack room e → base w p number calls d place code stack room ≤ t
-      → HasAt code pt (test_code t pt e) → slice_get code (pt + length (test_code t pt e)) ≡ Some (Branch (stands_at e t) true target) → At pt fr m
+      → HasAt code pt (test_code t pt e) → slice_get code (pt + length (test_code t pt e)) ≡ Some (Branch (stands_at place.here e t) true target) → At pt fr m
       → ((o : Bool) (m2 : Machine) (s2 : Stage) → s2.left < s.left → At (either (same_bool o true) target (pt + length (test_code t pt e) + 1)) fr m2
       → Follows w p m2 s2 (f o s2) Q)
       → Follows w p m s ((value w calls place.here e fr >>= λ v. tested v >>= f) s) Q
   tests t pt target e fr m s f Q ev le has brn h k =
       follow w p m s (value w calls place.here e fr s) (λ v. tested v >>= f) (Evaluated w p number calls d place code stack room
-      (pt + length (test_code t pt e)) fr (stands_at e t) (gives_private place.here e)) Q
+      (pt + length (test_code t pt e)) fr (stands_at place.here e t) (gives_private place.here e)) Q
       ((evaluates w p number calls d place code stack room e t pt fr m ev le has h).from s)
       (λ v m1 s1 l1 e1 h1.
       follow w p m1 s1 (tested v s1) f (λ o m'. Branched m1 (either (same_bool o true) target (m1.pc + 1)) m') Q
-      ((branch_runs (stands_at e t) true target v m1 h1.value' (next_step w p number calls d place code stack room h1.standing brn)).from s1)
+      ((branch_runs (stands_at place.here e t) true target v m1 h1.value' (next_step w p number calls d place code stack room h1.standing brn)).from s1)
       (λ o m2 s2 l2 e2 h2.
       let paid = test_paid v s1 o s2 e2 in
       k o m2 s2 (omega (arith, paid, l1)) (
@@ -68,7 +68,7 @@ module _ (w : World) (p : List Function) (number : Numbers) (calls : Calls) (d :
   -- a loop, from its test on
   pub turns_run : (x y out over again t pc py pt : ℕ) (e : TypedTree) (st b : Frame → Effect Flow) → Expressed w p number calls d place code stack room e
       → base w p number calls d place code stack room ≤ t
-      → HasAt code pt (test_code t pt e) → slice_get code (pt + length (test_code t pt e)) ≡ Some (Branch (stands_at e t) true (pc + 1))
+      → HasAt code pt (test_code t pt e) → slice_get code (pt + length (test_code t pt e)) ≡ Some (Branch (stands_at place.here e t) true (pc + 1))
       → ((fr : Frame) (m : Machine) → At (pc + 1) fr m → Runs w p m (b fr) (Leads out over py))
       → ((fr : Frame) (m : Machine) → At py fr m → Runs w p m (st fr) (Leads out again pt))
       → out ≡ pt + length (test_code t pt e) + 1 → over ≡ py → again ≡ pt
@@ -119,7 +119,7 @@ module _ (w : World) (p : List Function) (number : Numbers) (calls : Calls) (d :
       base w p
       number
       calls d place code stack room ≤ t
-      → HasAt code pt (test_code t pt e) → slice_get code (pt + length (test_code t pt e)) ≡ Some (Branch (stands_at e t) true pc)
+      → HasAt code pt (test_code t pt e) → slice_get code (pt + length (test_code t pt e)) ≡ Some (Branch (stands_at place.here e t) true pc)
       → ((fr : Frame) (m : Machine) → At pc fr m → Runs w p m (b fr) (Leads out again pt))
       → out ≡ pt + length (test_code t pt e) + 1 → again ≡ pt
       → (k : ℕ) (fr : Frame) (m : Machine) (s : Stage) → s.left < k → At pc fr m → Follows w p m s (repeats k (value w calls place.here e) b fr s)

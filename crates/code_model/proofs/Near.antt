@@ -11,8 +11,10 @@ use Rattle.language_model.specs.Effects.{World, carry, done}
 use Rattle.language_model.specs.Values.{Value, is_secret, never_stored}
 use Rattle.language_model.specs.Operations.{classified, wanted, tested}
 use Rattle.language_model.specs.Evaluation.{Frame, slot_is_private, either}
+use Rattle.bytecode.specs.declared.kind.Kind.{Kind}
 use Rattle.verified_code.specs.Steps.{Step, Classify, Branch, Function}
 use Rattle.code_model.specs.Machine.{Machine, at, next, limit, same_bool}
+use Rattle.code_model.specs.Kinds.{kind_number, in_row}
 use Rattle.code_model.specs.Expressions.{classifying, picked, lacks}
 use Rattle.code_model.specs.Statements.{shape_number, first_free}
 use Rattle.code_model.specs.Fit.{MayStand}
@@ -37,30 +39,51 @@ near_less t l a = record { steps = a.steps; stack = a.stack; kept = λ i h. a.ke
 pub near_set : (t u : ℕ) (v : Value) (m : Machine) → t ≤ u → Near t m (next u v m)
 near_set t u v m l = record { steps = refl; stack = refl; kept = λ i h. put_other u i v m.registers (omega arith) }
 
--- a value stands in register t, and the machine is at a place
-pub record Landed (t to : ℕ) (m : Machine) (secret : Bool) (v : Value) (m' : Machine) : Type 0 where
+-- a value stands in register d, and the machine is at a place
+pub record Landed (t d to : ℕ) (m : Machine) (secret : Bool) (v : Value) (m' : Machine) : Type 0 where
   pub near : Near t m m'
   pub pc : m'.pc ≡ to
-  pub here : m'.registers t ≡ v
+  pub here : m'.registers d ≡ v
   pub private : IsSecret secret v
 
--- a value stands in register r: the first one of an expression, t, or that of a slot
+-- a value stands in register r: one of the first row of an expression, which begins at t, or that of a slot
 pub record Read (here : Setting) (r t to : ℕ) (m : Machine) (secret : Bool) (v : Value) (m' : Machine) : Type 0 where
   pub near : Near t m m'
   pub pc : m'.pc ≡ to
   pub held : m'.registers r ≡ v
   pub private : IsSecret secret v
-  pub low : r ≤ t
+  pub low : r < t + 8
   pub apart : (i : ℕ) → first_free here.slots ≤ i → i < t → r ≢ i
 
-pub read_own : {here : Setting} {t to : ℕ} {m m' : Machine} {secret : Bool} {v : Value} → Landed t to m secret v m' → Read here t t to m secret v m'
-read_own h = record {
+pub kind_few : (k : Kind) → kind_number k < 8
+kind_few k = go k.secret k.element k.array
+  where
+    go : (s : Bool) (e : _) (a : Bool) → kind_number (record { secret = s; element = e; array = a }) < 8
+    go true Uint64 true = omega arith
+    go true Uint64 false = omega arith
+    go true datatype.Bool true = omega arith
+    go true datatype.Bool false = omega arith
+    go false Uint64 true = omega arith
+    go false Uint64 false = omega arith
+    go false datatype.Bool true = omega arith
+    go false datatype.Bool false = omega arith
+
+-- a register of a row stands in that row
+pub row_from : (t : ℕ) (k : Kind) → t ≤ in_row t k
+row_from t k = omega arith
+
+pub row_below : (t : ℕ) (k : Kind) → in_row t k < t + 8
+row_below t k = let few = kind_few k in omega (arith, few)
+
+pub read_own : {here : Setting} {t to : ℕ} {m m' : Machine} {secret : Bool} {v : Value} (k : Kind) → Landed t (in_row t k) to m secret v m'
+    → Read here (in_row t k) t to m secret v m'
+read_own {t = t} k h = record {
   near = h.near;
   pc = h.pc;
   held = h.here;
   private = h.private;
-  low = omega arith;
-  apart = λ i l k. omega (arith, k);
+  low = row_below t k;
+  apart = λ i l j e. let from = row_from t k in omega (arith, from, j, e);
 }
 
 -- ---- WHAT THE REGISTERS HOLD

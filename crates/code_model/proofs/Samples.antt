@@ -1,5 +1,6 @@
 -- A program for which all that the law asks is there: f adds 1 to a private number, and main opens f(2), fills an array and publishes.
-use Rattle.std.proofs.Common.{◌≡◌, ℕ, List, [], ◌∷◌, Some, None, true, false, refl, sym, subst, arith, inl, inr}
+use Rattle.std.proofs.Common.{◌≡◌, ℕ, zero, suc, List, [], ◌∷◌, ◌++◌, length, Some, None, true, false, refl, sym, ap, subst, arith, inl, inr}
+use Rattle.std.specs.Prelude.{max}
 use Rattle.secrec_ast.specs.declared.expression.DataType.TheVariants.{Uint64}
 use Rattle.typed_tree.specs.declared.kinds.SlotDomain.TheVariants as domain
 use Rattle.typed_tree.specs.declared.function.Returned.TheVariants as given
@@ -11,15 +12,18 @@ use Rattle.typed_tree.specs.Shapes.{shape_of}
 use Rattle.typed_tree.specs.Tree.{word_node, truth_node, slot_node, call_node, binary_node, cut_node, declassify_node, typed_trees_of}
 use Rattle.typed_tree.specs.Statements.{block_statement, if_statement, loop_statement, do_statement, break_statement, return_statement, store_statement}
 use Rattle.typed_tree.specs.Statements.{default_statement, fill_statement, element_statement, publish_statement, empty_statement, evaluate_statement}
-use Rattle.typed_tree.specs.Statements.{typed_statements_of}
+use Rattle.typed_tree.specs.Statements.{TypedStatementTree, TypedStatementTrees, none, also, typed_statements_of}
 use Rattle.typed_tree.specs.Programs.{TypedFunctionTree, TypedProgramTree}
 use Rattle.reached_instances.specs.Instances.{Instance}
 use Rattle.sc_text.specs.Lists.{Among}
 use Rattle.language_model.specs.Effects.{World}
 use Rattle.language_model.specs.Reports.{evaluated}
-use Rattle.verified_code.specs.Steps.{ReturnNone}
+use Rattle.verified_code.specs.Steps.{Literal, Binary, Store, ReturnNone}
+use Rattle.code_model.specs.Kinds.{kind_of, rows_kinds}
+use Rattle.code_model.specs.Expressions.{Numbers}
+use Rattle.code_model.specs.Statements.{default_kinds, statements_depth}
 use Rattle.code_model.specs.Meaning.{mean_in}
-use Rattle.code_model.specs.Programs.{code_of}
+use Rattle.code_model.specs.Programs.{function_code, code_of}
 use Rattle.code_model.specs.Fit.{IsFitInstance, IsFitProgram, the_main}
 use Rattle.code_model.proofs.Means.{means}
 
@@ -113,6 +117,57 @@ fits = record {
 -- so its code means what it does, in every world
 sample : (w : World) (budget : ℕ) (answers : List ℕ) → mean_in w (code_of program instances) budget answers ≡ evaluated w program budget answers
 sample w budget answers = means program instances fits w budget answers
+
+-- ---- REGISTERS ARE USED AGAIN
+
+-- `x = x + 1`, for a public number x
+counting : TypedStatementTree
+counting = store_statement 0 (binary_node 1 (Words word.Add) Scalars (slot_node 0) (word_node 1))
+
+-- so many times
+counted : ℕ → TypedStatementTrees
+counted zero = none
+counted (suc n) = also counting (counted n)
+
+counting_function : ℕ → TypedFunctionTree
+counting_function n =
+    record {
+      name = [];
+      variables = 0;
+      parameters = 0;
+      slots = record { domain = domain.Public; shape = shape_of Uint64 false } ∷ [];
+      given = given.Nothing;
+      body = counted n;
+      size = 0;
+    }
+
+no_number : Numbers
+no_number k b = 0
+
+-- behind the slot and the four defaults there are two rows of eight, and the sum stands in the first, where its left operand might
+counting_code : (function_code no_number [] (counting_function 1) []).steps
+    ≡ Literal 13 Uint64 1 ∷ Binary 1 (Words word.Add) Scalars 5 0 13 ∷ Store 0 5 ∷ ReturnNone ∷ []
+unfolding counting_function counted counting
+counting_code = refl
+
+-- the second time it is the same code with the same registers
+counting_twice : (function_code no_number [] (counting_function 2) []).steps
+    ≡ Literal 13 Uint64 1 ∷ Binary 1 (Words word.Add) Scalars 5 0 13 ∷ Store 0 5 ∷ Literal 13 Uint64 1 ∷ Binary 1 (Words word.Add) Scalars 5 0 13
+    ∷ Store 0 5 ∷ ReturnNone ∷ []
+unfolding counting_function counted counting
+counting_twice = refl
+
+counting_depth : (n : ℕ) → statements_depth (counted (suc n)) ≡ 2
+unfolding counted counting
+counting_depth zero = refl
+counting_depth (suc n) = ap (max 2) (counting_depth n)
+
+-- however often, there are 21 registers
+counting_registers : (n : ℕ) → length (function_code no_number [] (counting_function (suc n)) []).kinds ≡ 21
+unfolding counting_function
+counting_registers n = ap (λ k. length (kind_of false (shape_of Uint64 false) ∷ (default_kinds ++ (rows_kinds k ++ [])))) (counting_depth n)
+
+-- ---- NOTHING
 
 -- the code of a program that does nothing is one step, and has no register
 nothing_program : TypedProgramTree

@@ -99,7 +99,7 @@ module _ (w : World) (p : List Function) (number : Numbers) (calls : Calls) (d :
   Expressed = Evaluates w p number calls d place.here
 
   pub evaluates : (e : TypedTree) (t pc : ℕ) (fr : Frame) (m : Machine) → Expressed e → base ≤ t → HasAt code pc (here_code t pc e) → Stands pc fr m → Runs w
-      p m (value w calls place.here e fr) (Evaluated (pc + length (here_code t pc e)) fr (stands_at e t) (gives_private place.here e))
+      p m (value w calls place.here e fr) (Evaluated (pc + length (here_code t pc e)) fr (stands_at place.here e t) (gives_private place.here e))
   evaluates e t pc fr m ev le has h =
       runs_more (ev t pc fr m (ready_standing t pc (here_code t pc e) le has h))
       (λ v m1 h1. runs_done (record { standing = standing_on le h h1.near h1.pc; value' = h1.held; private = h1.private }))
@@ -109,14 +109,14 @@ module _ (w : World) (p : List Function) (number : Numbers) (calls : Calls) (d :
   -- a statement of an expression and one step, which keeps the registers
   pub ends_with : (x y t pc : ℕ) (e : TypedTree) (i : ℕ → Step) (fr : Frame) (m : Machine) (c : Value → Effect (Unit {0})) →
       Expressed e → base ≤ t → HasAt code
-      pc (here_code t pc e ++ i (stands_at e t) ∷ []) → Stands pc fr m
+      pc (here_code t pc e ++ i (stands_at place.here e t) ∷ []) → Stands pc fr m
       → ((r : ℕ) (v : Value) (m1 : Machine) (s : Stage) → m1.registers r ≡ v → step w p (Some (i r)) m1 s ≡ carry (c v s) (λ u. done (at (m1.pc + 1) m1)))
       → ((v : Value) → Gives (c v) (Any {A = Unit {0}}))
       → Runs w p m (value w calls place.here e fr >>= λ v. c v >>= λ u. done (goes fr)) (Went x y (pc + length
-      (here_code t pc e ++ i (stands_at e t) ∷ [])))
+      (here_code t pc e ++ i (stands_at place.here e t) ∷ [])))
   ends_with x y t pc e i fr m c ev le has h st gives =
       let ce = here_code t pc e in
-      let r = stands_at e t in
+      let r = stands_at place.here e t in
       let last = i r ∷ [] in
       runs_bind (evaluates e t pc fr m ev le (has_front code pc ce last has) h) (λ v m1 h1.
       let to : m1.pc + 1 ≡ pc + length (ce ++ last) = omega (arith, h1.standing.1, length-append ce last) in
@@ -132,15 +132,15 @@ module _ (w : World) (p : List Function) (number : Numbers) (calls : Calls) (d :
     pub private : IsSecret secret v
     pub kept : (i : ℕ) → i ≢ t → m'.registers i ≡ m.registers i
 
-  pub wants : (n g : Bool) (t u to : ℕ) (x : Value) (fr : Frame) (m : Machine) (is : List Step) → base ≤ t → HasAt code to
-      (classifying (lacks n g) t u ++ is) → Stands to fr m → m.registers u ≡ x → IsSecret g x → MayStand g n
-      → Runs w p m (wanted n x) (Given (to + length (classifying (lacks n g) t u)) fr (picked (lacks n g) t u) n t m)
-  wants n g t u to x fr m is le has h e q may =
-      let cl = classifying (lacks n g) t u in
+  pub wants : (n g : Bool) (c u to : ℕ) (x : Value) (fr : Frame) (m : Machine) (is : List Step) → base ≤ c → HasAt code to
+      (classifying (lacks n g) c u ++ is) → Stands to fr m → m.registers u ≡ x → IsSecret g x → MayStand g n
+      → Runs w p m (wanted n x) (Given (to + length (classifying (lacks n g) c u)) fr (picked (lacks n g) c u) n c m)
+  wants n g c u to x fr m is le has h e q may =
+      let cl = classifying (lacks n g) c u in
       let here : HasAt m.steps m.pc cl = stands code m.steps to m.pc cl h.0 h.1 (has_front code to cl is has) in
-      runs_more (wanting_runs n g t u x m q may e here)
+      runs_more (wanting_runs n g c u x m q may e here)
       (λ v m1 h1. runs_done (record {
-        standing = standing_on le h (near_wanting t (omega arith) h1) (h1.pc ∙ ap (λ z. z + length cl) h.1);
+        standing = standing_on le h (near_wanting c (omega arith) h1) (h1.pc ∙ ap (λ z. z + length cl) h.1);
         value' = h1.here;
         private = h1.private;
         kept = h1.kept;

@@ -1,7 +1,7 @@
 -- The code of an expression.
 --
--- Its registers are counted up from t, and its value stands in t, but that of a variable in its slot. Targets of branches are places in
--- the function's code, so that the code hangs on the place pc where it stands.
+-- Its registers are in rows of eight, the first of which begins at t. There its value stands, in the register of its kind, but that of a
+-- variable in its slot. Targets of branches are places in the function's code, so that the code hangs on the place pc where it stands.
 use Rattle.std.specs.Prelude.{ℕ, ◌+◌, Bool, true, false, not, ◌&&◌, List, [], ◌∷◌, ◌++◌, length, Option, Some, None}
 use Rattle.std.specs.List.{slice_get}
 use Rattle.secrec_ast.specs.declared.expression.DataType.TheVariants.{Uint64}
@@ -25,7 +25,7 @@ use Rattle.language_model.specs.Words.{truth_word}
 use Rattle.language_model.specs.Operations.{is_product}
 use Rattle.language_model.specs.Evaluation.{gives_private, bound_at, slots_of, next_is_private, behind_next, connective, either}
 use Rattle.verified_code.specs.Steps.{Step, Literal, Move, Binary, Not, Cast, Classify, At, Size, Cat, Sum, Bits, Declassify, Branch, Jump, Call}
-use Rattle.code_model.specs.Kinds.{width}
+use Rattle.code_model.specs.Kinds.{kind_in, private_kind_in, truth_kind, in_row}
 
 -- the number that the code gives to an instance
 abbrev pub Numbers : Type 0
@@ -62,35 +62,50 @@ mixes op this other = not (is_product op) && lacks other this
 
 -- ---- WHERE A VALUE STANDS
 
--- t being the first register of the expression: a variable is read in its slot, without a step
-abbrev pub stands_at : TypedTree → (t : ℕ) → ℕ
-stands_at (slot_node k) t = k
-stands_at e t = t
+-- the register for the value of an expression in the row that begins at t, and the one for its classification
+abbrev pub own_at : Setting → TypedTree → (t : ℕ) → ℕ
+own_at here e t = in_row t (kind_in here e)
+
+abbrev pub classified_at : Setting → TypedTree → (t : ℕ) → ℕ
+classified_at here e t = in_row t (private_kind_in here e)
+
+-- a variable is read in its slot, without a step, and each other value in its own register
+abbrev pub read_at : TypedTree → (own : ℕ) → ℕ
+read_at (slot_node k) own = k
+read_at e own = own
+
+abbrev pub stands_at : Setting → TypedTree → (t : ℕ) → ℕ
+stands_at here e t = read_at e (own_at here e t)
+
+-- where the next row begins
+abbrev pub next_row : ℕ → ℕ
+next_row t = t + 8
 
 -- ---- NODES WITH ONE OPERAND: c is its code, r the register where it stands
 
 abbrev pub one_code : (ℕ → Step) → (r : ℕ) → (c : List Step) → List Step
 one_code step r c = c ++ step r ∷ []
 
--- ---- NODES WITH TWO OPERANDS: ca is the code of the left one, cb that of the right one at its place, v and u the registers where they stand
+-- ---- NODES WITH TWO OPERANDS: ca is the code of the left one, cb that of the right one at its place, v and u the registers where they stand,
+-- m and n those for their classifications, and d the node's own
 
 -- both operands, and then the classification of one of them
-abbrev pub binary_code : (t v u pc line : ℕ) → BinaryOperator → Operands → (left right : Bool) → List Step → (ℕ → List Step) → List Step
-binary_code t v u pc line op ds ga gb ca cb =
+abbrev pub binary_code : (d m n v u pc line : ℕ) → BinaryOperator → Operands → (left right : Bool) → List Step → (ℕ → List Step) → List Step
+binary_code d m n v u pc line op ds ga gb ca cb =
     let l = mixes op ga gb in
     let r = mixes op gb ga in
-    ca ++ (cb (pc + length ca) ++ (classifying l (t + 1) v
-    ++ (classifying r (t + 2) u ++ Binary line op ds t (picked l (t + 1) v) (picked r (t + 2) u) ∷ [])))
+    ca ++ (cb (pc + length ca) ++ (classifying l m v
+    ++ (classifying r n u ++ Binary line op ds d (picked l m v) (picked r n u) ∷ [])))
 
 -- each operand is classified right behind its code, where it lacks that
-abbrev pub cat_code : (t v u pc line : ℕ) → (left right : Bool) → List Step → (ℕ → List Step) → List Step
-cat_code t v u pc line l r ca cb =
-    let cl = classifying l (t + 1) v in
+abbrev pub cat_code : (d m n v u pc line : ℕ) → (left right : Bool) → List Step → (ℕ → List Step) → List Step
+cat_code d m n v u pc line l r ca cb =
+    let cl = classifying l m v in
     ca ++ (cl ++ (cb (pc + length ca + length cl)
-    ++ (classifying r (t + 2) u ++ Cat line t (picked l (t + 1) v) (picked r (t + 2) u) ∷ [])))
+    ++ (classifying r n u ++ Cat line d (picked l m v) (picked r n u) ∷ [])))
 
-abbrev pub element_code : (t v u pc line : ℕ) → List Step → (ℕ → List Step) → List Step
-element_code t v u pc line ca cb = ca ++ (cb (pc + length ca) ++ At line t v u ∷ [])
+abbrev pub element_code : (d v u pc line : ℕ) → List Step → (ℕ → List Step) → List Step
+element_code d v u pc line ca cb = ca ++ (cb (pc + length ca) ++ At line d v u ∷ [])
 
 -- the left operand that decides alone
 abbrev pub deciding : Connective → Bool
@@ -98,78 +113,82 @@ deciding AndAlso = false
 deciding OrElse = true
 
 -- a classified value, or the same one
-abbrev pub settling : Bool → (t r : ℕ) → Step
-settling true t r = Classify t r
-settling false t r = Move t r
+abbrev pub settling : Bool → (d r : ℕ) → Step
+settling true d r = Classify d r
+settling false d r = Move d r
 
--- the test of the left operand; the right one; and what stands in its place where the left one decides
-abbrev pub cut_code : (t v u pc : ℕ) → Connective → (secret : Bool) → List Step → (ℕ → List Step) → List Step
-cut_code t v u pc c secret ca cb =
+-- the test of the left operand; the right one; and what stands in its place where the left one decides, with the register q for a truth value
+abbrev pub cut_code : (d q v u pc : ℕ) → Connective → (secret : Bool) → List Step → (ℕ → List Step) → List Step
+cut_code d q v u pc c secret ca cb =
     let pb = pc + length ca + 1 in
     let pd = pb + length (cb pb) + 2 in
-    ca ++ (Branch v (deciding c) pd ∷ (cb pb ++ (Move t u ∷ Jump (pd + 2)
-    ∷ Literal (t + 1) datatype.Bool (truth_word (deciding c)) ∷ settling secret t (t + 1) ∷ [])))
+    ca ++ (Branch v (deciding c) pd ∷ (cb pb ++ (Move d u ∷ Jump (pd + 2)
+    ∷ Literal q datatype.Bool (truth_word (deciding c)) ∷ settling secret d q ∷ [])))
 
 -- ---- EXPRESSIONS
 
 module _ (number : Numbers) where
   abbrev mutual
     pub expression_code : Setting → (t pc : ℕ) → TypedTree → List Step
-    expression_code here t pc (word_node n) = Literal t Uint64 n ∷ []
-    expression_code here t pc (truth_node b) = Literal t datatype.Bool (truth_word b) ∷ []
+    expression_code here t pc (word_node n) = Literal (own_at here (word_node n) t) Uint64 n ∷ []
+    expression_code here t pc (truth_node b) = Literal (own_at here (truth_node b) t) datatype.Bool (truth_word b) ∷ []
     expression_code here t pc (slot_node k) = []
     expression_code here t pc (call_node line k es) =
         let b = bound_at (slice_get here.functions k) (domains here es) in
         let ss = slots_of (slice_get here.functions k) in
-        arguments_code here b ss (t + 1) pc es ++ Call line (number k b) (Some t) (arguments_places here b ss (t + 1) es) ∷ []
-    expression_code here t pc (size_node e) = one_code (Size t) (stands_at e (t + 1)) (expression_code here (t + 1) pc e)
+        arguments_code here b ss t pc es
+        ++ Call line (number k b) (Some (own_at here (call_node line k es) t)) (arguments_places here b ss t es) ∷ []
+    expression_code here t pc (size_node e) = one_code (Size (own_at here (size_node e) t)) (stands_at here e t) (expression_code here t pc e)
     expression_code here t pc (cat_node line a b) =
         let g = gives_private here (cat_node line a b) in
-        let tb = t + 3 + width a in
-        cat_code t (stands_at a (t + 3)) (stands_at b tb) pc line (lacks g (gives_private here a)) (lacks g (gives_private here b))
-        (expression_code here (t + 3) pc a) (λ p. expression_code here tb p b)
-    expression_code here t pc (sum_node e) = one_code (Sum t) (stands_at e (t + 1)) (expression_code here (t + 1) pc e)
-    expression_code here t pc (bits_node line e) = one_code (Bits line t) (stands_at e (t + 1)) (expression_code here (t + 1) pc e)
+        let tb = next_row t in
+        cat_code (own_at here (cat_node line a b) t) (classified_at here a t) (classified_at here b tb) (stands_at here a t) (stands_at here b tb) pc line
+        (lacks g (gives_private here a)) (lacks g (gives_private here b)) (expression_code here t pc a) (λ p. expression_code here tb p b)
+    expression_code here t pc (sum_node e) = one_code (Sum (own_at here (sum_node e) t)) (stands_at here e t) (expression_code here t pc e)
+    expression_code here t pc (bits_node line e) = one_code (Bits line (own_at here (bits_node line e) t)) (stands_at here e t) (expression_code here t pc e)
     expression_code here t pc (element_node line a i) =
-        let ti = t + 1 + width a in
-        element_code t (stands_at a (t + 1)) (stands_at i ti) pc line (expression_code here (t + 1) pc a) (λ p. expression_code here ti p i)
-    expression_code here t pc (not_node e) = one_code (Not t) (stands_at e (t + 1)) (expression_code here (t + 1) pc e)
-    expression_code here t pc (cast_node c e) = one_code (Cast c t) (stands_at e (t + 1)) (expression_code here (t + 1) pc e)
+        let ti = next_row t in
+        element_code (own_at here (element_node line a i) t) (stands_at here a t) (stands_at here i ti) pc line (expression_code here t pc a)
+        (λ p. expression_code here ti p i)
+    expression_code here t pc (not_node e) = one_code (Not (own_at here (not_node e) t)) (stands_at here e t) (expression_code here t pc e)
+    expression_code here t pc (cast_node c e) = one_code (Cast c (own_at here (cast_node c e) t)) (stands_at here e t) (expression_code here t pc e)
     expression_code here t pc (binary_node line op ds a b) =
-        let tb = t + 3 + width a in
-        binary_code t (stands_at a (t + 3)) (stands_at b tb) pc line op ds (gives_private here a) (gives_private here b)
-        (expression_code here (t + 3) pc a) (λ p. expression_code here tb p b)
+        let tb = next_row t in
+        binary_code (own_at here (binary_node line op ds a b) t) (classified_at here a t) (classified_at here b tb) (stands_at here a t)
+        (stands_at here b tb) pc line op ds (gives_private here a) (gives_private here b) (expression_code here t pc a) (λ p. expression_code here tb p b)
     expression_code here t pc (cut_node c a b) =
-        let tb = t + 3 + width a in
-        let v = stands_at a (t + 3) in
-        let u = stands_at b tb in
-        let ca = expression_code here (t + 3) pc a in
+        let tb = next_row t in
+        let d = own_at here (cut_node c a b) t in
+        let v = stands_at here a t in
+        let u = stands_at here b tb in
+        let ca = expression_code here t pc a in
         let cb = λ (p : ℕ). expression_code here tb p b in
         let gb = gives_private here b in
         either (gives_private here a)
-        (binary_code t v u pc 0 (binary.Bools (connective c)) Scalars (gives_private here a) gb ca cb)
-        (cut_code t v u pc c gb ca cb)
-    expression_code here t pc (declassify_node e) = one_code (Declassify t) (stands_at e (t + 1)) (expression_code here (t + 1) pc e)
+        (binary_code d (classified_at here a t) (classified_at here b tb) v u pc 0 (binary.Bools (connective c)) Scalars (gives_private here a) gb ca cb)
+        (cut_code d (in_row t (truth_kind false)) v u pc c gb ca cb)
+    expression_code here t pc (declassify_node e) =
+        one_code (Declassify (own_at here (declassify_node e) t)) (stands_at here e t) (expression_code here t pc e)
 
-    -- each argument, classified right behind its code where its parameter is private
+    -- each argument in a row of its own, classified right behind its code where its parameter is private
     pub arguments_code : Setting → List BoundDomain → List Slot → (t pc : ℕ) → TypedTrees → List Step
     arguments_code here b ss t pc Tree'.none = []
     arguments_code here b ss t pc (Tree'.also e es) =
-        let ce = expression_code here (t + 1) pc e in
-        let cl = classifying (lacks (next_is_private b ss) (gives_private here e)) t (stands_at e (t + 1)) in
-        ce ++ (cl ++ arguments_code here b (behind_next ss) (t + 1 + width e) (pc + length ce + length cl) es)
+        let ce = expression_code here t pc e in
+        let cl = classifying (lacks (next_is_private b ss) (gives_private here e)) (classified_at here e t) (stands_at here e t) in
+        ce ++ (cl ++ arguments_code here b (behind_next ss) (next_row t) (pc + length ce + length cl) es)
 
     pub arguments_places : Setting → List BoundDomain → List Slot → ℕ → TypedTrees → List ℕ
     arguments_places here b ss t Tree'.none = []
     arguments_places here b ss t (Tree'.also e es) =
-        picked (lacks (next_is_private b ss) (gives_private here e)) t (stands_at e (t + 1))
-        ∷ arguments_places here b (behind_next ss) (t + 1 + width e) es
+        picked (lacks (next_is_private b ss) (gives_private here e)) (classified_at here e t) (stands_at here e t)
+        ∷ arguments_places here b (behind_next ss) (next_row t) es
 
   -- where nobody reads what a call gives, it has a register only if there is something
   abbrev pub unread_code : Setting → (t pc : ℕ) → TypedTree → List Step
   unread_code here t pc (call_node line k es) =
       let b = bound_at (slice_get here.functions k) (domains here es) in
       let ss = slots_of (slice_get here.functions k) in
-      arguments_code here b ss (t + 1) pc es
-      ++ Call line (number k b) (result_at (slice_get here.functions k) t) (arguments_places here b ss (t + 1) es) ∷ []
+      arguments_code here b ss t pc es
+      ++ Call line (number k b) (result_at (slice_get here.functions k) (own_at here (call_node line k es) t)) (arguments_places here b ss t es) ∷ []
   unread_code here t pc e = expression_code here t pc e

@@ -1,9 +1,11 @@
--- The registers that the code of an expression has for its own: how many, and of which kinds.
+-- The registers of values on their way: how many, and of which kinds.
 --
--- Each node has a register of its own for its value; that of a variable stays unused. Its classification has one more, where an operand or
--- an argument may have to be classified.
-use Rattle.std.specs.Prelude.{ℕ, ◌+◌, Bool, true, false, List, [], ◌∷◌, ◌++◌, Option, Some, None}
+-- Such a value stands in a row of eight registers, one for each kind. An expression has the row where its code begins for its own value
+-- and for that of its first operand, and the rows behind it for its further operands: so each row is used again and again. Where a value
+-- has to be classified, it is so within its row.
+use Rattle.std.specs.Prelude.{ℕ, zero, suc, ◌+◌, max, Bool, true, false, List, [], ◌∷◌, ◌++◌, Option, Some, None}
 use Rattle.std.specs.List.{slice_get}
+use Rattle.secrec_ast.specs.declared.expression.DataType.{DataType}
 use Rattle.secrec_ast.specs.declared.expression.DataType.TheVariants.{Uint64}
 use Rattle.secrec_ast.specs.declared.expression.DataType.TheVariants as datatype
 use Rattle.typed_tree.specs.declared.kinds.Shape.{Shape}
@@ -18,31 +20,33 @@ use Rattle.typed_tree.specs.Programs.{TypedFunctionTree}
 use Rattle.reached_instances.specs.declared.instance.BoundDomain.{BoundDomain}
 use Rattle.reached_instances.specs.Domains.{Setting, domain_under}
 use Rattle.language_model.specs.Operations.{result_shape, cast_shape}
-use Rattle.language_model.specs.Evaluation.{is_private, gives_private, slot_shape}
+use Rattle.language_model.specs.Evaluation.{is_private, gives_private, slot_shape, either}
 use Rattle.bytecode.specs.declared.kind.Kind.{Kind}
 
 -- ---- HOW MANY
 
 abbrev mutual
-  pub width : TypedTree → ℕ
-  width (word_node n) = 1
-  width (truth_node b) = 1
-  width (slot_node k) = 1
-  width (call_node line k es) = 1 + widths es
-  width (size_node e) = 1 + width e
-  width (cat_node line a b) = 3 + width a + width b
-  width (sum_node e) = 1 + width e
-  width (bits_node line e) = 1 + width e
-  width (element_node line a i) = 1 + width a + width i
-  width (not_node e) = 1 + width e
-  width (cast_node c e) = 1 + width e
-  width (binary_node line op ds a b) = 3 + width a + width b
-  width (cut_node c a b) = 3 + width a + width b
-  width (declassify_node e) = 1 + width e
+  -- how many rows the code of an expression has
+  pub depth : TypedTree → ℕ
+  depth (word_node n) = 1
+  depth (truth_node b) = 1
+  depth (slot_node k) = 1
+  depth (call_node line k es) = max (depths es) 1
+  depth (size_node e) = depth e
+  depth (cat_node line a b) = max (depth a) (1 + depth b)
+  depth (sum_node e) = depth e
+  depth (bits_node line e) = depth e
+  depth (element_node line a i) = max (depth a) (1 + depth i)
+  depth (not_node e) = depth e
+  depth (cast_node c e) = depth e
+  depth (binary_node line op ds a b) = max (depth a) (1 + depth b)
+  depth (cut_node c a b) = max (depth a) (1 + depth b)
+  depth (declassify_node e) = depth e
 
-  pub widths : TypedTrees → ℕ
-  widths Tree'.none = 0
-  widths (Tree'.also e es) = 1 + width e + widths es
+  -- each argument stands in a row of its own
+  pub depths : TypedTrees → ℕ
+  depths Tree'.none = 0
+  depths (Tree'.also e es) = max (depth e) (1 + depths es)
 
 -- ---- OF WHICH KINDS
 
@@ -81,42 +85,32 @@ kind_in here e = kind_of (gives_private here e) (shape_in here e)
 abbrev pub private_kind_in : Setting → TypedTree → Kind
 private_kind_in here e = kind_of true (shape_in here e)
 
--- beside the value of a node with two operands
-abbrev pub operand_kinds : Setting → (left right : TypedTree) → List Kind
-operand_kinds here a b = private_kind_in here a ∷ private_kind_in here b ∷ []
-
 abbrev pub truth_kind : (secret : Bool) → Kind
 truth_kind secret = kind_of secret (shape_of datatype.Bool false)
 
--- where the left operand is public, the first of the two is for what it decides alone
-abbrev pub cut_kinds : Setting → (left right : TypedTree) → List Kind
-cut_kinds here a b = truth_kind (gives_private here a) ∷ truth_kind true ∷ []
+-- ---- ROWS
 
-abbrev mutual
-  -- in the order of the registers
-  pub expression_kinds : Setting → TypedTree → List Kind
-  expression_kinds here (word_node n) = kind_in here (word_node n) ∷ []
-  expression_kinds here (truth_node b) = kind_in here (truth_node b) ∷ []
-  expression_kinds here (slot_node k) = kind_in here (slot_node k) ∷ []
-  expression_kinds here (call_node line k es) = kind_in here (call_node line k es) ∷ arguments_kinds here es
-  expression_kinds here (size_node e) = kind_in here (size_node e) ∷ expression_kinds here e
-  expression_kinds here (cat_node line a b) =
-      kind_in here (cat_node line a b) ∷ (operand_kinds here a b ++ (expression_kinds here a ++ expression_kinds here b))
-  expression_kinds here (sum_node e) = kind_in here (sum_node e) ∷ expression_kinds here e
-  expression_kinds here (bits_node line e) = kind_in here (bits_node line e) ∷ expression_kinds here e
-  expression_kinds here (element_node line a i) =
-      kind_in here (element_node line a i) ∷ (expression_kinds here a ++ expression_kinds here i)
-  expression_kinds here (not_node e) = kind_in here (not_node e) ∷ expression_kinds here e
-  expression_kinds here (cast_node c e) = kind_in here (cast_node c e) ∷ expression_kinds here e
-  expression_kinds here (binary_node line op ds a b) =
-      kind_in here (binary_node line op ds a b) ∷ (operand_kinds here a b ++ (expression_kinds here a ++ expression_kinds here b))
-  expression_kinds here (cut_node c a b) =
-      kind_in here (cut_node c a b) ∷ (cut_kinds here a b ++ (expression_kinds here a ++ expression_kinds here b))
-  expression_kinds here (declassify_node e) = kind_in here (declassify_node e) ∷ expression_kinds here e
+abbrev pub element_number : DataType → ℕ
+element_number Uint64 = 0
+element_number datatype.Bool = 2
 
-  pub arguments_kinds : Setting → TypedTrees → List Kind
-  arguments_kinds here Tree'.none = []
-  arguments_kinds here (Tree'.also e es) = private_kind_in here e ∷ (expression_kinds here e ++ arguments_kinds here es)
+-- the place of a kind in a row
+abbrev pub kind_number : Kind → ℕ
+kind_number k = either k.secret 4 0 + (element_number k.element + either k.array 1 0)
+
+abbrev pub shape_kinds : (secret : Bool) → List Kind
+shape_kinds secret =
+    kind_of secret (shape_of Uint64 false) ∷ kind_of secret (shape_of Uint64 true) ∷ kind_of secret (shape_of datatype.Bool false)
+    ∷ kind_of secret (shape_of datatype.Bool true) ∷ []
+
+-- the kinds of so many rows
+abbrev pub rows_kinds : ℕ → List Kind
+rows_kinds zero = []
+rows_kinds (suc n) = shape_kinds false ++ (shape_kinds true ++ rows_kinds n)
+
+-- the register for a kind in the row that begins at t
+abbrev pub in_row : (t : ℕ) → Kind → ℕ
+in_row t k = t + kind_number k
 
 -- ---- SLOTS
 

@@ -1,5 +1,5 @@
 -- The code of a typed function under a binding, and of a program.
-use Rattle.std.specs.Prelude.{ℕ, ◌+◌, List, [], ◌∷◌, ◌++◌, length, map, Option, Some, None, if◌then◌else◌}
+use Rattle.std.specs.Prelude.{ℕ, ◌+◌, ◌*◌, List, [], ◌∷◌, ◌++◌, length, map, Option, Some, None, if◌then◌else◌}
 use Rattle.std.specs.List.{slice_get}
 use Rattle.typed_tree.specs.declared.function.Returned.{Returned}
 use Rattle.typed_tree.specs.declared.function.Returned.TheVariants as given
@@ -9,9 +9,9 @@ use Rattle.reached_instances.specs.Instances.{Instance, same_instance}
 use Rattle.language_model.specs.Evaluation.{place_in}
 use Rattle.bytecode.specs.declared.kind.Kind.{Kind}
 use Rattle.verified_code.specs.Steps.{Step, Return, ReturnNone, Function}
-use Rattle.code_model.specs.Kinds.{slot_kind}
+use Rattle.code_model.specs.Kinds.{slot_kind, rows_kinds}
 use Rattle.code_model.specs.Expressions.{Numbers}
-use Rattle.code_model.specs.Statements.{defaults_behind, first_free, statements_width, statements_kinds, statements_code}
+use Rattle.code_model.specs.Statements.{defaults_behind, first_free, statements_depth, statements_code}
 
 abbrev pub given_kind : List BoundDomain → Returned → Option Kind
 given_kind b given.Nothing = None
@@ -38,9 +38,9 @@ module _ (number : Numbers) (fs : List TypedFunctionTree) where
       record {
         parameters = f.parameters;
         gives = given_kind b f.given;
-        kinds = map (slot_kind b) f.slots ++ (defaults_behind f.slots ++ (statements_kinds (place_in fs f b).here f.body ++ last_kinds b f.given));
+        kinds = map (slot_kind b) f.slots ++ (defaults_behind f.slots ++ (rows_kinds (statements_depth f.body) ++ last_kinds b f.given));
         steps = statements_code number (place_in fs f b) (first_free f.slots) (body_end f b) (body_end f b) 0 f.body
-            ++ last_step f.given (first_free f.slots + statements_width f.body) ∷ [];
+            ++ last_step f.given (first_free f.slots + 8 * statements_depth f.body) ∷ [];
       }
 
 -- ---- PROGRAMS

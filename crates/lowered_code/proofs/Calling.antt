@@ -9,11 +9,11 @@ use Rattle.typed_tree.specs.declared.function.Returned.TheVariants.{Nothing, Val
 use Rattle.typed_tree.specs.Programs.{TypedFunctionTree}
 use Rattle.reached_instances.specs.declared.instance.BoundDomain.{BoundDomain}
 use Rattle.reached_instances.specs.Domains.{given_domain, call_domain}
-use Rattle.language_model.specs.Evaluation.{is_private, bound_at, slots_of, place_in}
+use Rattle.language_model.specs.Evaluation.{is_private, bound_at, slots_of}
 use Rattle.bytecode.specs.declared.kind.Kind.{Kind}
-use Rattle.code_model.specs.Kinds.{kind_of, slot_kind, returned_shape, called_shape}
+use Rattle.code_model.specs.Kinds.{kind_of, slot_kind, rows_kinds, returned_shape, called_shape}
 use Rattle.code_model.specs.Kinded.{HasKind, ResultFits}
-use Rattle.code_model.specs.Statements.{defaults_behind, statements_kinds}
+use Rattle.code_model.specs.Statements.{defaults_behind, statements_depth}
 use Rattle.code_model.specs.Expressions.{Numbers, given_at, result_at}
 use Rattle.code_model.specs.Programs.{given_kind, last_kinds, code_of_found}
 use Rattle.well_typed.specs.Expressions.{shape_given}
@@ -31,7 +31,7 @@ module _ (number : Numbers) (fs : List TypedFunctionTree) where
       let own = map (slot_kind b) f.slots in
       let many = length-map f.slots (slot_kind b) in
       let enough : f.parameters ≤ length own = omega (arith, few, many) in
-      take-append-le f.parameters own (defaults_behind f.slots ++ (statements_kinds (place_in fs f b).here f.body ++ last_kinds b f.given)) enough
+      take-append-le f.parameters own (defaults_behind f.slots ++ (rows_kinds (statements_depth f.body) ++ last_kinds b f.given)) enough
       ∙ take-map (slot_kind b) f.parameters f.slots
 
   module _ (ks : List Kind) (t : ℕ) where

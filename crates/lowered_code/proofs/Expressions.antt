@@ -2,7 +2,7 @@
 use Rattle.std.proofs.Common.{◌≡◌, ℕ, zero, suc, ◌+◌, ◌<◌, ◌≤◌, List, [], ◌∷◌, ◌++◌, length, take, map}
 use Rattle.std.proofs.Common.{Option, Some, Bool, true, false, refl, sym, ap, ◌∙◌, subst}
 use Rattle.std.proofs.Common.{arith}
-use Rattle.std.specs.Prelude.{slice_get}
+use Rattle.std.specs.Prelude.{slice_get, max}
 use Rattle.secrec_ast.specs.declared.expression.DataType.TheVariants.{Uint64}
 use Rattle.secrec_ast.specs.declared.expression.DataType.TheVariants as datatype
 use Rattle.typed_tree.specs.declared.kinds.Shape.{Shape}
@@ -26,17 +26,17 @@ use Rattle.language_model.specs.Evaluation.{is_private, gives_private, slots_of,
 use Rattle.bytecode.specs.declared.kind.Kind.{Kind}
 use Rattle.verified_code.specs.Steps.{Step, Function, Not, Cast, Size, Sum, Bits, Declassify, Call}
 use Rattle.code_model.specs.Fit.{IsFit, AreFit}
-use Rattle.code_model.specs.Kinds.{width, kind_of, slot_kind, shape_in, kind_in, private_kind_in, expression_kinds, arguments_kinds}
+use Rattle.code_model.specs.Kinds.{depth, depths, kind_of, slot_kind, shape_in, kind_in, private_kind_in, truth_kind, in_row}
 use Rattle.code_model.specs.Kinded.{HasKind, ResultFits, left_array, right_array}
-use Rattle.code_model.specs.Expressions.{Numbers, result_at, classifying, lacks, stands_at, binary_code, cut_code, expression_code}
+use Rattle.code_model.specs.Expressions.{Numbers, result_at, classifying, lacks, own_at, classified_at, stands_at, next_row, binary_code, cut_code, expression_code}
 use Rattle.code_model.specs.Expressions.{expression_code}
 use Rattle.code_model.specs.Expressions.{arguments_code, arguments_places, unread_code}
 use Rattle.code_model.specs.Programs.{code_of_found}
-use Rattle.code_model.proofs.Widths.{expression_registers}
+use Rattle.code_model.proofs.Widths.{depth_some}
 use Rattle.raw_steps.specs.Right.{kind, operand_element, AreOf, IsRight}
 use Rattle.well_typed.specs.Kinds.{scalar, operand_of, left_is_array, right_is_array}
 use Rattle.well_typed.specs.Expressions.{Gives, AreTaken}
-use Rattle.lowered_code.proofs.Standing.{clash, Stands, stands_first, stands_rest, stands_left, stands_right}
+use Rattle.lowered_code.proofs.Standing.{clash, HasRows, row_first, rows_left, rows_second}
 use Rattle.lowered_code.proofs.Standing.{AllRight, both_right, either_right, lacking_right, picked_kind}
 use Rattle.lowered_code.proofs.Shapes.{shape_is, goes_may, left_may, right_may, operand_is, left_is, right_is, source_is, cast_kind}
 use Rattle.lowered_code.proofs.Rows.{within_left, within_right, RightAt, binary_right, cat_right, element_right, cut_right}
@@ -57,31 +57,18 @@ module _ (number : Numbers) (c : List Function) (ks : List Kind) (gives : Option
   SlotsStand = (k : ℕ) (s : Slot) → slice_get here.slots k ≡ Some s → HasKind ks k (slot_kind here.binding s)
 
   module _ (Known : ℕ → List BoundDomain → Type 0) (known : (k : ℕ) (b : List BoundDomain) → Known k b → IsCallee k b) (slots : SlotsStand) where
-    -- behind the register of a node
-    one : {t : ℕ} {q : Kind} (e : TypedTree) → Stands ks t (q ∷ expression_kinds here e) → Stands ks (t + 1) (expression_kinds here e)
-    one e h = stands_rest _ refl h
+    -- the registers of a node's value and of its classification, where its rows stand
+    own_kind : (t : ℕ) (e : TypedTree) → HasRows ks t (depth e) → HasKind ks (own_at here e t) (kind_in here e)
+    own_kind t e h = row_first (kind_in here e) (depth_some e) h
 
-    left_of : {t : ℕ} {q p r : Kind} (a b : TypedTree) → Stands ks t (q ∷ p ∷ r ∷ (expression_kinds here a ++ expression_kinds here b))
-        → Stands ks (t + 3) (expression_kinds here a)
-    left_of {t = t} a b h =
-        let two : t + 2 ≡ t + 1 + 1 = omega arith in
-        let three : t + 3 ≡ t + 2 + 1 = omega arith in
-        stands_left (expression_kinds here a) (expression_kinds here b) (stands_rest (t + 3) three (stands_rest (t + 2) two (stands_rest (t + 1) refl h)))
+    classified_kind : (t : ℕ) (e : TypedTree) → HasRows ks t (depth e) → HasKind ks (classified_at here e t) (private_kind_in here e)
+    classified_kind t e h = row_first (private_kind_in here e) (depth_some e) h
 
-    right_of : {t : ℕ} {q p r : Kind} (a b : TypedTree) → Stands ks t (q ∷ p ∷ r ∷ (expression_kinds here a ++ expression_kinds here b))
-        → Stands ks (t + 3 + width a) (expression_kinds here b)
-    right_of {t = t} a b h =
-        let two : t + 2 ≡ t + 1 + 1 = omega arith in
-        let three : t + 3 ≡ t + 2 + 1 = omega arith in
-        let many = expression_registers here a in
-        let u : t + 3 + width a ≡ t + 3 + length (expression_kinds here a) = omega (arith, many) in
-        stands_right (t + 3 + width a) (expression_kinds here a) u (stands_rest (t + 3) three (stands_rest (t + 2) two (stands_rest (t + 1) refl h)))
+    left_of : {t : ℕ} (a b : TypedTree) → HasRows ks t (max (depth a) (1 + depth b)) → HasRows ks t (depth a)
+    left_of a b h = rows_left (depth a) (1 + depth b) h
 
-    first_of : {t : ℕ} {q p r : Kind} {more : List Kind} → Stands ks t (q ∷ p ∷ r ∷ more) → HasKind ks (t + 1) p
-    first_of h = stands_first (stands_rest _ refl h)
-
-    second_of : {t : ℕ} {q p r : Kind} {more : List Kind} → Stands ks t (q ∷ p ∷ r ∷ more) → HasKind ks (t + 2) r
-    second_of {t = t} h = let two : t + 2 ≡ t + 1 + 1 = omega arith in stands_first (stands_rest (t + 2) two (stands_rest (t + 1) refl h))
+    right_of : {t : ℕ} (a b : TypedTree) → HasRows ks t (max (depth a) (1 + depth b)) → HasRows ks (next_row t) (depth b)
+    right_of a b h = rows_second (depth a) (depth b) h
 
     -- the register of its classification
     private_at : (t : ℕ) (e : TypedTree) (s : Shape) → Gives here e (Some s) → HasKind ks t (private_kind_in here e) → HasKind ks t (kind_of true s)
@@ -97,33 +84,33 @@ module _ (number : Numbers) (c : List Function) (ks : List Kind) (gives : Option
     as_right r g op ds h =
         subst (λ e. HasKind ks r (kind g e (right_array ds))) (operand_is op) (subst (λ a. HasKind ks r (kind g (operand_of op) a)) (right_is ds) h)
 
-    -- its code is right wherever it ends within the function, from the register where its kinds stand
+    -- its code is right wherever it ends within the function, from where its rows begin
     abbrev pub ExpressionRight : TypedTree → Type 0
-    ExpressionRight e = (t pc : ℕ) → Stands ks t (expression_kinds here e) → RightAt c ks gives count pc (expression_code number here t pc e)
+    ExpressionRight e = (t pc : ℕ) → HasRows ks t (depth e) → RightAt c ks gives count pc (expression_code number here t pc e)
 
     -- the kind of an expression's value, where it stands
-    read_kind : (t : ℕ) (e : TypedTree) (s : Shape) → Gives here e (Some s) → Stands ks t (expression_kinds here e)
-        → HasKind ks (stands_at e t) (kind_in here e)
+    read_kind : (t : ℕ) (e : TypedTree) (s : Shape) → Gives here e (Some s) → HasRows ks t (depth e)
+        → HasKind ks (stands_at here e t) (kind_in here e)
     read_kind t (slot_node k) s h stands =
         slots k h.0 h.1 ∙ sym (ap (λ o. Some (kind_of (is_private (slot_domain here.binding o)) (shape_at o))) h.1)
-    read_kind t (word_node n) s h stands = stands_first stands
-    read_kind t (truth_node b) s h stands = stands_first stands
-    read_kind t (call_node line k es) s h stands = stands_first stands
-    read_kind t (size_node e) s h stands = stands_first stands
-    read_kind t (cat_node line a b) s h stands = stands_first stands
-    read_kind t (sum_node e) s h stands = stands_first stands
-    read_kind t (bits_node line e) s h stands = stands_first stands
-    read_kind t (element_node line a i) s h stands = stands_first stands
-    read_kind t (not_node e) s h stands = stands_first stands
-    read_kind t (cast_node c e) s h stands = stands_first stands
-    read_kind t (binary_node line op ds a b) s h stands = stands_first stands
-    read_kind t (cut_node c a b) s h stands = stands_first stands
-    read_kind t (declassify_node e) s h stands = stands_first stands
+    read_kind t (word_node n) s h stands = own_kind t (word_node n) stands
+    read_kind t (truth_node b) s h stands = own_kind t (truth_node b) stands
+    read_kind t (call_node line k es) s h stands = own_kind t (call_node line k es) stands
+    read_kind t (size_node e) s h stands = own_kind t (size_node e) stands
+    read_kind t (cat_node line a b) s h stands = own_kind t (cat_node line a b) stands
+    read_kind t (sum_node e) s h stands = own_kind t (sum_node e) stands
+    read_kind t (bits_node line e) s h stands = own_kind t (bits_node line e) stands
+    read_kind t (element_node line a i) s h stands = own_kind t (element_node line a i) stands
+    read_kind t (not_node e) s h stands = own_kind t (not_node e) stands
+    read_kind t (cast_node c e) s h stands = own_kind t (cast_node c e) stands
+    read_kind t (binary_node line op ds a b) s h stands = own_kind t (binary_node line op ds a b) stands
+    read_kind t (cut_node c a b) s h stands = own_kind t (cut_node c a b) stands
+    read_kind t (declassify_node e) s h stands = own_kind t (declassify_node e) stands
 
-    pub value_read : (t : ℕ) (e : TypedTree) (s : Shape) → Gives here e (Some s) → Stands ks t (expression_kinds here e)
-        → HasKind ks (stands_at e t) (kind_of (gives_private here e) s)
+    pub value_read : (t : ℕ) (e : TypedTree) (s : Shape) → Gives here e (Some s) → HasRows ks t (depth e)
+        → HasKind ks (stands_at here e t) (kind_of (gives_private here e) s)
     value_read t e s h stands =
-        subst (λ z. HasKind ks (stands_at e t) (kind_of (gives_private here e) z)) (shape_is here e s h) (read_kind t e s h stands)
+        subst (λ z. HasKind ks (stands_at here e t) (kind_of (gives_private here e) z)) (shape_is here e s h) (read_kind t e s h stands)
 
     behind_one : (t pc : ℕ) (e : TypedTree) (i : Step) → RightAt c ks gives count pc (expression_code number here t pc e) → IsRight c ks gives count i
         → RightAt c ks gives count pc (expression_code number here t pc e ++ i ∷ [])
@@ -136,44 +123,51 @@ module _ (number : Numbers) (c : List Function) (ks : List Kind) (gives : Option
     public_joined (Private k) db e = absurd (clash (sym e))
 
     cut_operands : (t pc : ℕ) (a b : TypedTree) (x : Connective) → Gives here a (Some (scalar datatype.Bool)) → Gives here b (Some (scalar datatype.Bool))
-        → ExpressionRight a → ExpressionRight b → Stands ks t (expression_kinds here (cut_node x a b))
+        → ExpressionRight a → ExpressionRight b → HasRows ks t (depth (cut_node x a b))
         → RightAt c ks gives count pc (expression_code number here t pc (cut_node x a b))
     cut_operands t pc a b x ga gb ra rb h l =
-        let u = t + 3 + width a in
-        let v = stands_at a (t + 3) in
-        let ub = stands_at b u in
-        let ca = expression_code number here (t + 3) pc a in
+        let u = next_row t in
+        let d = own_at here (cut_node x a b) t in
+        let m = classified_at here a t in
+        let n = classified_at here b u in
+        let q = in_row t (truth_kind false) in
+        let v = stands_at here a t in
+        let ub = stands_at here b u in
+        let ca = expression_code number here t pc a in
         let cb = λ (p : ℕ). expression_code number here u p b in
         let pa = gives_private here a in
         let pb = gives_private here b in
-        let first = binary_code t v ub pc 0 (binary.Bools (connective x)) Scalars pa pb ca cb in
-        let other = cut_code t v ub pc x pb ca cb in
-        let va = value_read (t + 3) a _ ga (left_of a b h) in
-        let vb = value_read u b _ gb (right_of a b h) in
+        let first = binary_code d m n v ub pc 0 (binary.Bools (connective x)) Scalars pa pb ca cb in
+        let other = cut_code d q v ub pc x pb ca cb in
+        let left = left_of a b h in
+        let right = right_of a b h in
+        let va = value_read t a _ ga left in
+        let vb = value_read u b _ gb right in
+        let own = own_kind t (cut_node x a b) h in
         either_right c ks gives count pa first other
-        (λ e. binary_right c ks gives count t v ub pc 0 (binary.Bools (connective x)) Scalars (domain here a) (domain here b) ca cb tt
-        (ra (t + 3) pc (left_of a b h)) (λ p. rb u p (right_of a b h)) va vb
-        (subst (λ g. HasKind ks (t + 1) (kind g datatype.Bool false)) e (first_of h)) (second_of h) (stands_first h)
+        (λ e. binary_right c ks gives count d m n v ub pc 0 (binary.Bools (connective x)) Scalars (domain here a) (domain here b) ca cb tt
+        (ra t pc left) (λ p. rb u p right) va vb
+        (private_at m a _ ga (classified_kind t a left)) (private_at n b _ gb (classified_kind u b right)) own
         (subst (λ g. pc + length (either g first other) < count) e l))
-        (λ e. cut_right c ks gives count t v ub pc x pb ca cb (ra (t + 3) pc (left_of a b h))
-        (λ p. rb u p (right_of a b h))
-        (subst (λ g. HasKind ks v (kind g datatype.Bool false)) e va) vb (subst (λ g. HasKind ks (t + 1) (kind g datatype.Bool false)) e (first_of h))
-        (subst (λ g. HasKind ks t (kind g datatype.Bool false)) (public_joined (domain here a) (domain here b) e) (stands_first h))
+        (λ e. cut_right c ks gives count d q v ub pc x pb ca cb (ra t pc left)
+        (λ p. rb u p right)
+        (subst (λ g. HasKind ks v (kind g datatype.Bool false)) e va) vb (row_first (truth_kind false) (depth_some (cut_node x a b)) h)
+        (subst (λ g. HasKind ks d (kind g datatype.Bool false)) (public_joined (domain here a) (domain here b) e) own)
         (subst (λ g. pc + length (either g first other) < count) e l))
 
     call_right : (t pc line k : ℕ) (es : TypedTrees) (o : Option TypedFunctionTree) (d : Option ℕ)
         → parameters_of o ≤ length (slots_of o)
         → slice_get c (number k (bound_at o (domains here es))) ≡ Some (code_of_found number here.functions (bound_at o (domains here es)) o)
         → ResultFits ks d (code_of_found number here.functions (bound_at o (domains here es)) o).gives
-        → AreOf ks (arguments_places number here (bound_at o (domains here es)) (slots_of o) (t + 1) es)
+        → AreOf ks (arguments_places number here (bound_at o (domains here es)) (slots_of o) t es)
         (map (slot_kind (bound_at o (domains here es))) (take (parameters_of o) (slots_of o)))
-        → RightAt c ks gives count pc (arguments_code number here (bound_at o (domains here es)) (slots_of o) (t + 1) pc es)
-        → RightAt c ks gives count pc (arguments_code number here (bound_at o (domains here es)) (slots_of o) (t + 1) pc es
-        ++ Call line (number k (bound_at o (domains here es))) d (arguments_places number here (bound_at o (domains here es)) (slots_of o) (t + 1) es) ∷ [])
+        → RightAt c ks gives count pc (arguments_code number here (bound_at o (domains here es)) (slots_of o) t pc es)
+        → RightAt c ks gives count pc (arguments_code number here (bound_at o (domains here es)) (slots_of o) t pc es
+        ++ Call line (number k (bound_at o (domains here es))) d (arguments_places number here (bound_at o (domains here es)) (slots_of o) t es) ∷ [])
     call_right t pc line k es o d few there result places h l =
         let b = bound_at o (domains here es) in
-        let ca = arguments_code number here b (slots_of o) (t + 1) pc es in
-        let is = Call line (number k b) d (arguments_places number here b (slots_of o) (t + 1) es) ∷ [] in
+        let ca = arguments_code number here b (slots_of o) t pc es in
+        let is = Call line (number k b) d (arguments_places number here b (slots_of o) t es) ∷ [] in
         both_right c ks gives count ca is (h (within_left count pc ca is l))
         ((code_of_found number here.functions b o, there, subst (AreOf ks _) (sym (first_kinds number here.functions b o few)) places, result), tt)
 
@@ -185,8 +179,8 @@ module _ (number : Numbers) (c : List Function) (ks : List Kind) (gives : Option
 
     mutual
       pub expression_right : (e : TypedTree) (s : Shape) → Gives here e (Some s) → IsFit Known here e → ExpressionRight e
-      expression_right (word_node n) s h f t pc stands l = ((stands_first stands, λ e. cc), tt)
-      expression_right (truth_node b) s h f t pc stands l = ((stands_first stands, λ e. truth_below b), tt)
+      expression_right (word_node n) s h f t pc stands l = ((own_kind t (word_node n) stands, λ e. cc), tt)
+      expression_right (truth_node b) s h f t pc stands l = ((own_kind t (truth_node b) stands, λ e. truth_below b), tt)
         where
           truth_below : (b : Bool) → truth_word b < 2
           truth_below true = omega arith
@@ -195,82 +189,94 @@ module _ (number : Numbers) (c : List Function) (ks : List Kind) (gives : Option
       expression_right (call_node line k es) s h f t pc stands l =
           let o = slice_get here.functions k in
           let ds = domains here es in
+          let d = own_at here (call_node line k es) t in
           let callee = known k (bound_at o ds) f.0 in
           let taken = subst (λ o. AreTaken here (bound_at o ds) (take (parameters_of o) (slots_of o)) es) (sym h.1) h.2 in
-          let all = arguments_right (bound_at o ds) (slots_of o) (parameters_of o) es taken f.1 (t + 1) pc (stands_rest (t + 1) refl stands) in
-          call_right t pc line k es o (Some t) callee.0 callee.1
-          (result_fits number here.functions ks t o ds h.0 s h.1 (sym h.3) (stands_first stands)) all.1 all.0 l
+          let all = arguments_right (bound_at o ds) (slots_of o) (parameters_of o) es taken f.1 t pc (rows_left (depths es) 1 stands) in
+          call_right t pc line k es o (Some d) callee.0 callee.1
+          (result_fits number here.functions ks d o ds h.0 s h.1 (sym h.3) (own_kind t (call_node line k es) stands)) all.1 all.0 l
       expression_right (size_node e) s h f t pc stands l =
-          behind_one (t + 1) pc e (Size t (stands_at e (t + 1))) (expression_right e _ h.1 f (t + 1) pc (one e stands))
-          (gives_private here e, h.0, value_read (t + 1) e _ h.1 (one e stands), stands_first stands) l
+          behind_one t pc e (Size (own_at here (size_node e) t) (stands_at here e t)) (expression_right e _ h.1 f t pc stands)
+          (gives_private here e, h.0, value_read t e _ h.1 stands, own_kind t (size_node e) stands) l
       expression_right (cat_node line a b) s h f t pc stands l =
           let g = is_private (joined_domain (domain here a) (domain here b)) in
-          let u = t + 3 + width a in
-          cat_right c ks gives count t (stands_at a (t + 3)) (stands_at b u) pc line g (gives_private here a) (gives_private here b) h.0
-          (expression_code number here (t + 3) pc a) (λ p. expression_code number here u p b)
+          let u = next_row t in
+          let d = own_at here (cat_node line a b) t in
+          let left = left_of a b stands in
+          let right = right_of a b stands in
+          cat_right c ks gives count d (classified_at here a t) (classified_at here b u) (stands_at here a t) (stands_at here b u) pc line g
+          (gives_private here a) (gives_private here b) h.0
+          (expression_code number here t pc a) (λ p. expression_code number here u p b)
           (left_may (domain here a) (domain here b)) (right_may (domain here a) (domain here b))
-          (expression_right a _ h.1 f.0 (t + 3) pc (left_of a b stands))
-          (λ p. expression_right b _ h.2 f.1 u p (right_of a b stands))
-          (value_read (t + 3) a _ h.1 (left_of a b stands)) (value_read u b _ h.2 (right_of a b stands))
-          (private_at (t + 1) a _ h.1 (first_of stands)) (private_at (t + 2) b _ h.2 (second_of stands))
-          (subst (λ z. HasKind ks t (kind_of g z)) (shape_is here a _ h.1) (stands_first stands)) l
+          (expression_right a _ h.1 f.0 t pc left)
+          (λ p. expression_right b _ h.2 f.1 u p right)
+          (value_read t a _ h.1 left) (value_read u b _ h.2 right)
+          (private_at (classified_at here a t) a _ h.1 (classified_kind t a left)) (private_at (classified_at here b u) b _ h.2 (classified_kind u b right))
+          (subst (λ z. HasKind ks d (kind_of g z)) (shape_is here a _ h.1) (own_kind t (cat_node line a b) stands)) l
       expression_right (sum_node e) s h f t pc stands l =
-          behind_one (t + 1) pc e (Sum t (stands_at e (t + 1))) (expression_right e _ h.0 f (t + 1) pc (one e stands))
-          (gives_private here e, value_read (t + 1) e _ h.0 (one e stands), stands_first stands) l
+          behind_one t pc e (Sum (own_at here (sum_node e) t) (stands_at here e t)) (expression_right e _ h.0 f t pc stands)
+          (gives_private here e, value_read t e _ h.0 stands, own_kind t (sum_node e) stands) l
       expression_right (bits_node line e) s h f t pc stands l =
-          behind_one (t + 1) pc e (Bits line t (stands_at e (t + 1))) (expression_right e _ h.1 f (t + 1) pc (one e stands))
-          (gives_private here e, h.0, value_read (t + 1) e _ h.1 (one e stands), stands_first stands) l
+          behind_one t pc e (Bits line (own_at here (bits_node line e) t) (stands_at here e t)) (expression_right e _ h.1 f t pc stands)
+          (gives_private here e, h.0, value_read t e _ h.1 stands, own_kind t (bits_node line e) stands) l
       expression_right (element_node line a i) s h f t pc stands l =
-          let rest = stands_rest (t + 1) refl stands in
-          let first = stands_left (expression_kinds here a) (expression_kinds here i) rest in
-          let many = expression_registers here a in
-          let u = t + 1 + width a in
-          let v = stands_at a (t + 1) in
-          let ui = stands_at i u in
-          let place : u ≡ t + 1 + length (expression_kinds here a) = omega (arith, many) in
-          let second = stands_right u (expression_kinds here a) place rest in
-          element_right c ks gives count t v ui pc line (gives_private here a) h.0 (expression_code number here (t + 1) pc a)
-          (λ p. expression_code number here u p i) (expression_right a _ h.1 f.0 (t + 1) pc first)
-          (λ p. expression_right i _ h.2 f.1 u p second) (value_read (t + 1) a _ h.1 first)
-          (subst (λ d. HasKind ks ui (kind_of (is_private d) (scalar Uint64))) h.3 (value_read u i _ h.2 second))
-          (subst (λ (z : Shape). HasKind ks t (kind (gives_private here a) z.element false)) (shape_is here a _ h.1) (stands_first stands)) l
+          let first = left_of a i stands in
+          let second = right_of a i stands in
+          let u = next_row t in
+          let d = own_at here (element_node line a i) t in
+          let v = stands_at here a t in
+          let ui = stands_at here i u in
+          element_right c ks gives count d v ui pc line (gives_private here a) h.0 (expression_code number here t pc a)
+          (λ p. expression_code number here u p i) (expression_right a _ h.1 f.0 t pc first)
+          (λ p. expression_right i _ h.2 f.1 u p second) (value_read t a _ h.1 first)
+          (subst (λ z. HasKind ks ui (kind_of (is_private z) (scalar Uint64))) h.3 (value_read u i _ h.2 second))
+          (subst (λ (z : Shape). HasKind ks d (kind (gives_private here a) z.element false)) (shape_is here a _ h.1)
+          (own_kind t (element_node line a i) stands)) l
       expression_right (not_node e) s h f t pc stands l =
-          behind_one (t + 1) pc e (Not t (stands_at e (t + 1))) (expression_right e _ h.1 f (t + 1) pc (one e stands)) (
+          let d = own_at here (not_node e) t in
+          behind_one t pc e (Not d (stands_at here e t)) (expression_right e _ h.1 f t pc stands) (
             gives_private here e,
             h.0,
-            value_read (t + 1) e _ h.1 (one e stands),
-            subst (λ z. HasKind ks t (kind_of (gives_private here e) z)) (shape_is here e _ h.1) (stands_first stands),
+            value_read t e _ h.1 stands,
+            subst (λ z. HasKind ks d (kind_of (gives_private here e) z)) (shape_is here e _ h.1) (own_kind t (not_node e) stands),
           ) l
       expression_right (cast_node x e) s h f t pc stands l =
           let g = gives_private here e in
-          let r = stands_at e (t + 1) in
-          behind_one (t + 1) pc e (Cast x t r) (expression_right e _ h.1 f (t + 1) pc (one e stands)) (
+          let d = own_at here (cast_node x e) t in
+          let r = stands_at here e t in
+          behind_one t pc e (Cast x d r) (expression_right e _ h.1 f t pc stands) (
             g,
             h.0,
-            subst (λ z. HasKind ks r (kind g z h.0)) (source_is x) (value_read (t + 1) e _ h.1 (one e stands)),
-            subst (λ (z : Shape). HasKind ks t (kind_of g (cast_shape x z.array))) (shape_is here e _ h.1) (stands_first stands) ∙ ap Some (cast_kind x g h.0),
+            subst (λ z. HasKind ks r (kind g z h.0)) (source_is x) (value_read t e _ h.1 stands),
+            subst (λ (z : Shape). HasKind ks d (kind_of g (cast_shape x z.array))) (shape_is here e _ h.1) (own_kind t (cast_node x e) stands)
+                ∙ ap Some (cast_kind x g h.0),
           ) l
       expression_right (binary_node line op ds a b) s h f t pc stands l =
-          let u = t + 3 + width a in
-          let v = stands_at a (t + 3) in
-          let ub = stands_at b u in
-          binary_right c ks gives count t v ub pc line op ds (domain here a) (domain here b) (expression_code number here (t + 3) pc a)
+          let u = next_row t in
+          let d = own_at here (binary_node line op ds a b) t in
+          let m = classified_at here a t in
+          let n = classified_at here b u in
+          let v = stands_at here a t in
+          let ub = stands_at here b u in
+          let left = left_of a b stands in
+          let right = right_of a b stands in
+          binary_right c ks gives count d m n v ub pc line op ds (domain here a) (domain here b) (expression_code number here t pc a)
           (λ p. expression_code number here u p b) h.3
-          (expression_right a _ h.0 f.0 (t + 3) pc (left_of a b stands))
-          (λ p. expression_right b _ h.1 f.1 u p (right_of a b stands))
-          (as_left v (gives_private here a) op ds (value_read (t + 3) a _ h.0 (left_of a b stands)))
-          (as_right ub (gives_private here b) op ds (value_read u b _ h.1 (right_of a b stands)))
-          (as_left (t + 1) true op ds (private_at (t + 1) a _ h.0 (first_of stands)))
-          (as_right (t + 2) true op ds (private_at (t + 2) b _ h.1 (second_of stands)))
-          (stands_first stands) l
+          (expression_right a _ h.0 f.0 t pc left)
+          (λ p. expression_right b _ h.1 f.1 u p right)
+          (as_left v (gives_private here a) op ds (value_read t a _ h.0 left))
+          (as_right ub (gives_private here b) op ds (value_read u b _ h.1 right))
+          (as_left m true op ds (private_at m a _ h.0 (classified_kind t a left)))
+          (as_right n true op ds (private_at n b _ h.1 (classified_kind u b right)))
+          (own_kind t (binary_node line op ds a b) stands) l
       expression_right (cut_node x a b) s h f t pc stands l =
           cut_operands t pc a b x h.0 h.1 (expression_right a _ h.0 f.0) (expression_right b _ h.1 f.1) stands l
       expression_right (declassify_node e) s h f t pc stands l =
-          behind_one (t + 1) pc e (Declassify t (stands_at e (t + 1))) (expression_right e _ h.1 f (t + 1) pc (one e stands))
-          (gives_private here e, (shape_in here e).element, (shape_in here e).array, read_kind (t + 1) e _ h.1 (one e stands), stands_first stands) l
+          behind_one t pc e (Declassify (own_at here (declassify_node e) t) (stands_at here e t)) (expression_right e _ h.1 f t pc stands)
+          (gives_private here e, (shape_in here e).element, (shape_in here e).array, read_kind t e _ h.1 stands, own_kind t (declassify_node e) stands) l
 
       arguments_right : (b : List BoundDomain) (ss : List Slot) (n : ℕ) (es : TypedTrees) → AreTaken here b (take n ss) es → AreFit Known here b ss es
-          → (t pc : ℕ) → Stands ks t (arguments_kinds here es) → ArgumentsRight b ss n t pc es
+          → (t pc : ℕ) → HasRows ks t (depths es) → ArgumentsRight b ss n t pc es
       arguments_right b [] zero Tree'.none h f t pc stands = ((λ l. tt), tt)
       arguments_right b [] (suc n) Tree'.none h f t pc stands = ((λ l. tt), tt)
       arguments_right b (s ∷ ss) zero Tree'.none h f t pc stands = ((λ l. tt), tt)
@@ -281,38 +287,38 @@ module _ (number : Numbers) (c : List Function) (ks : List Kind) (gives : Option
       arguments_right b (s ∷ ss) (suc n) (Tree'.also e es) h f t pc stands =
           let g = gives_private here e in
           let w = is_private (domain_under b s.domain) in
-          let rest = stands_rest (t + 1) refl stands in
-          let own = stands_left (expression_kinds here e) (arguments_kinds here es) rest in
-          let many = expression_registers here e in
-          let u : t + 1 + width e ≡ t + 1 + length (expression_kinds here e) = omega (arith, many) in
-          let behind = stands_right (t + 1 + width e) (expression_kinds here e) u rest in
-          let ce = expression_code number here (t + 1) pc e in
-          let r = stands_at e (t + 1) in
-          let cl = classifying (lacks w g) t r in
+          let own = rows_left (depth e) (1 + depths es) stands in
+          let behind = rows_second (depth e) (depths es) stands in
+          let ce = expression_code number here t pc e in
+          let r = stands_at here e t in
+          let m = classified_at here e t in
+          let cl = classifying (lacks w g) m r in
           let p = pc + length ce in
           let q = p + length cl in
-          let cs = arguments_code number here b ss (t + 1 + width e) q es in
-          let v = value_read (t + 1) e _ h.0 own in
-          let k = private_at t e _ h.0 (stands_first stands) in
-          let others = arguments_right b ss n es h.2 f.2 (t + 1 + width e) q behind in (
+          let cs = arguments_code number here b ss (next_row t) q es in
+          let v = value_read t e _ h.0 own in
+          let k = private_at m e _ h.0 (classified_kind t e own) in
+          let others = arguments_right b ss n es h.2 f.2 (next_row t) q behind in (
             λ l.
                 let after = within_right count pc p ce (cl ++ cs) refl l in
-                both_right c ks gives count ce _ (expression_right e _ h.0 f.0 (t + 1) pc own (within_left count pc ce (cl ++ cs) l))
-                (both_right c ks gives count cl cs (lacking_right c ks gives count w g s.shape t r v k)
+                both_right c ks gives count ce _ (expression_right e _ h.0 f.0 t pc own (within_left count pc ce (cl ++ cs) l))
+                (both_right c ks gives count cl cs (lacking_right c ks gives count w g s.shape m r v k)
                 (others.0 (within_right count p q cl cs refl after))),
-            (picked_kind c ks gives count w g s.shape t r (goes_may (domain here e) (domain_under b s.domain) h.1) v k, others.1),
+            (picked_kind c ks gives count w g s.shape m r (goes_may (domain here e) (domain_under b s.domain) h.1) v k, others.1),
           )
 
     -- where nobody reads what a call gives
-    pub unread_right : (e : TypedTree) (o : Option Shape) → Gives here e o → IsFit Known here e → (t pc : ℕ) → Stands ks t (expression_kinds here e)
+    pub unread_right : (e : TypedTree) (o : Option Shape) → Gives here e o → IsFit Known here e → (t pc : ℕ) → HasRows ks t (depth e)
         → RightAt c ks gives count pc (unread_code number here t pc e)
     unread_right (call_node line k es) s h f t pc stands l =
         let o = slice_get here.functions k in
         let ds = domains here es in
+        let d = own_at here (call_node line k es) t in
         let callee = known k (bound_at o ds) f.0 in
         let taken = subst (λ o. AreTaken here (bound_at o ds) (take (parameters_of o) (slots_of o)) es) (sym h.1) h.2 in
-        let all = arguments_right (bound_at o ds) (slots_of o) (parameters_of o) es taken f.1 (t + 1) pc (stands_rest (t + 1) refl stands) in
-        call_right t pc line k es o (result_at o t) callee.0 callee.1 (unread_fits number here.functions ks t o ds (stands_first stands)) all.1 all.0 l
+        let all = arguments_right (bound_at o ds) (slots_of o) (parameters_of o) es taken f.1 t pc (rows_left (depths es) 1 stands) in
+        call_right t pc line k es o (result_at o d) callee.0 callee.1
+        (unread_fits number here.functions ks d o ds (own_kind t (call_node line k es) stands)) all.1 all.0 l
     unread_right (word_node n) o h f t pc stands l = expression_right (word_node n) _ (h.0, refl) f t pc stands l
     unread_right (truth_node b) o h f t pc stands l = expression_right (truth_node b) _ refl f t pc stands l
     unread_right (slot_node k) o h f t pc stands l = expression_right (slot_node k) _ (h.0, h.1, refl) f t pc stands l

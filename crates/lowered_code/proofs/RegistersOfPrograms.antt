@@ -1,5 +1,5 @@
 -- The functions of a program within its limits have few registers.
-use Rattle.std.proofs.Common.{◌≡◌, ℕ, zero, suc, ◌+◌, ◌<◌, ◌≤◌, List, [], ◌∷◌, ◌++◌, length, map, Option, Some, None, Bool, true, false, refl, sym, ap, ◌∙◌}
+use Rattle.std.proofs.Common.{◌≡◌, ℕ, zero, suc, ◌+◌, ◌*◌, ◌<◌, ◌≤◌, List, [], ◌∷◌, ◌++◌, length, map, Option, Some, None, Bool, true, false, refl, sym, ap, ◌∙◌}
 use Rattle.std.proofs.Common.{subst, arith, length-append}
 use Rattle.std.specs.Prelude.{slice_get, nat_le}
 use Rattle.std.proofs.lemmas.Bool.{leb-true, leb-false}
@@ -21,19 +21,18 @@ use Rattle.name_resolution.specs.Sizes.{statements_nodes, function_nodes, counte
 use Rattle.name_resolution.proofs.SoundValues.{mapped, both_there, then_there, some_is}
 use Rattle.reached_instances.specs.declared.instance.BoundDomain.{BoundDomain}
 use Rattle.reached_instances.specs.Instances.{Instance}
-use Rattle.language_model.specs.Evaluation.{place_in}
 use Rattle.verified_code.specs.Steps.{Function}
-use Rattle.code_model.specs.Kinds.{slot_kind}
+use Rattle.code_model.specs.Kinds.{slot_kind, rows_kinds}
 use Rattle.code_model.specs.Expressions.{Numbers}
-use Rattle.code_model.specs.Statements.{defaults_behind, statements_width, statements_kinds}
+use Rattle.code_model.specs.Statements.{defaults_behind, statements_depth}
 use Rattle.code_model.specs.Programs.{last_kinds, function_code, numbers_in, code_of_found, instance_code, code_of}
-use Rattle.code_model.proofs.Widths.{statements_registers}
 use Rattle.raw_steps.specs.Instructions.{nowhere}
 use Rattle.raw_steps.proofs.Passing.{unmapped}
 use Rattle.well_typed.proofs.Calling.{known_in}
 use Rattle.well_typed.proofs.SlotsWritten.{slots_count}
 use Rattle.lowered_code.specs.Laws.{AreSmall, HasNumberedRegisters}
 use Rattle.lowered_code.proofs.Standing.{found_among}
+use Rattle.code_model.proofs.Widths.{statements_width, rows_length, statements_deep}
 use Rattle.lowered_code.proofs.RegistersOfBodies.{statements_take}
 
 -- ---- FUNCTIONS
@@ -101,18 +100,17 @@ one_last b Nothing = omega arith
 one_last b (Value s) = omega arith
 
 pub own_registers : (number : Numbers) (fs : List TypedFunctionTree) (f : TypedFunctionTree) (b : List BoundDomain) → length (function_code number fs f b).kinds
-    ≤ statements_width f.body + length f.slots + 5
+    ≤ 8 * statements_depth f.body + length f.slots + 5
 own_registers number fs f b =
-    let here = (place_in fs f b).here in
     let slots = map (slot_kind b) f.slots in
-    let body = statements_kinds here f.body in
+    let body = rows_kinds (statements_depth f.body) in
     let last = last_kinds b f.given in
     let n1 = length-append slots (defaults_behind f.slots ++ (body ++ last)) in
     let n2 = length-append (defaults_behind f.slots) (body ++ last) in
     let n3 = length-append body last in
     let m1 = length-map f.slots (slot_kind b) in
     let m2 = few_defaults f.slots in
-    let m3 = statements_registers here f.body in
+    let m3 = rows_length (statements_depth f.body) in
     let m4 = one_last b f.given in
     omega (arith, n1, n2, n3, m1, m2, m3, m4)
 
@@ -127,13 +125,14 @@ uncounted n h = go (nat_le n 4294967295) refl
         large : 4294967296 ≤ n → ⊥
         large l = let same = min-eq_right (let k : 4294967295 ≤ n = omega (arith, l) in k) in omega (arith, same, h)
 
-sized_few : (f : FunctionTree) (t : TypedFunctionTree) → IsSized f t → t.size ≤ 4095 → statements_width t.body + length t.slots + 5 ≤ nowhere
+sized_few : (f : FunctionTree) (t : TypedFunctionTree) → IsSized f t → t.size ≤ 4095 → 8 * statements_depth t.body + length t.slots + 5 ≤ nowhere
 sized_few f t s h =
     let size = s.size in
     let own : counted (function_nodes f) ≤ 4095 = subst (λ n. n ≤ 4095) size h in
     let same = uncounted (function_nodes f) (omega (arith, own)) in
     let registers = s.registers in
-    omega (arith, own, same, registers)
+    let deep = statements_deep t.body in
+    omega (arith, own, same, registers, deep)
 
 pub small_numbered : (source : ProgramTree) (p : TypedProgramTree) → typed_of source ≡ Some p → (is : List Instance) → AreSmall p is
     → HasNumberedRegisters (code_of p is)

@@ -62,55 +62,55 @@ module _ (c : List Function) (ks : List Kind) (gives : Option Kind) (count : ℕ
   mixing_right op ga gb e a t r h k =
       classifying_right c ks gives count (mixes op ga gb) e a t r (λ m. subst (λ g. HasKind ks r (kind g e a)) (mixing_public op ga gb m) h) (λ m. k)
 
-  pub binary_right : (t v u pc line : ℕ) (op : BinaryOperator) (ds : Operands) (da db : BoundDomain) (ca : List Step) (cb : ℕ → List Step)
+  pub binary_right : (d m n v u pc line : ℕ) (op : BinaryOperator) (ds : Operands) (da db : BoundDomain) (ca : List Step) (cb : ℕ → List Step)
       → MayOperate op (joined_domain da db) → RightAt pc ca → RightAnywhere cb
       → HasKind ks v (kind (is_private da) (operand_element op) (left_array ds))
       → HasKind ks u (kind (is_private db) (operand_element op) (right_array ds))
-      → HasKind ks (t + 1) (kind true (operand_element op) (left_array ds))
-      → HasKind ks (t + 2) (kind true (operand_element op) (right_array ds))
-      → HasKind ks t (kind_of (is_private (joined_domain da db)) (result_shape op ds))
-      → RightAt pc (binary_code t v u pc line op ds (is_private da) (is_private db) ca cb)
-  binary_right t v u pc line op ds da db ca cb m ra rb ha hb h1 h2 h l =
+      → HasKind ks m (kind true (operand_element op) (left_array ds))
+      → HasKind ks n (kind true (operand_element op) (right_array ds))
+      → HasKind ks d (kind_of (is_private (joined_domain da db)) (result_shape op ds))
+      → RightAt pc (binary_code d m n v u pc line op ds (is_private da) (is_private db) ca cb)
+  binary_right d m n v u pc line op ds da db ca cb may ra rb ha hb h1 h2 h l =
       let ga = is_private da in
       let gb = is_private db in
       let e = operand_element op in
-      let last : IsRight c ks gives count (Binary line op ds t (picked (mixes op ga gb) (t + 1) v) (picked (mixes op gb ga) (t + 2) u)) = (
+      let last : IsRight c ks gives count (Binary line op ds d (picked (mixes op ga gb) m v) (picked (mixes op gb ga) n u)) = (
         behind_mixing op ga gb,
         behind_mixing op gb ga,
-        picked_or (mixes op ga gb) ga e (left_array ds) (t + 1) v ha h1,
-        picked_or (mixes op gb ga) gb e (right_array ds) (t + 2) u hb h2,
-        secrecy_fits op ga gb (λ p. private_allowed op (joined_domain da db) m (joined_private da db ∙ p)),
-        subst (λ g. HasKind ks t (kind_of g (result_shape op ds))) (joined_private da db ∙ sym (mixed_or op ga gb)) h,
+        picked_or (mixes op ga gb) ga e (left_array ds) m v ha h1,
+        picked_or (mixes op gb ga) gb e (right_array ds) n u hb h2,
+        secrecy_fits op ga gb (λ p. private_allowed op (joined_domain da db) may (joined_private da db ∙ p)),
+        subst (λ g. HasKind ks d (kind_of g (result_shape op ds))) (joined_private da db ∙ sym (mixed_or op ga gb)) h,
       ) in
       let p = pc + length ca in
-      let rest = classifying (mixes op ga gb) (t + 1) v ++ (classifying (mixes op gb ga) (t + 2) u
-      ++ Binary line op ds t (picked (mixes op ga gb) (t + 1) v) (picked (mixes op gb ga) (t + 2) u) ∷ []) in
+      let rest = classifying (mixes op ga gb) m v ++ (classifying (mixes op gb ga) n u
+      ++ Binary line op ds d (picked (mixes op ga gb) m v) (picked (mixes op gb ga) n u) ∷ []) in
       both_right c ks gives count ca _ (ra (within_left count pc ca (cb p ++ rest) l))
       (both_right c ks gives count (cb p) _ (rb p (within_left count p (cb p) rest (within_right count pc p ca (cb p ++ rest) refl l)))
-      (both_right c ks gives count (classifying (mixes op ga gb) (t + 1) v) _ (mixing_right op ga gb e (left_array ds) (t + 1) v ha h1)
-      (both_right c ks gives count (classifying (mixes op gb ga) (t + 2) u) _ (mixing_right op gb ga e (right_array ds) (t + 2) u hb h2) (last, tt))))
+      (both_right c ks gives count (classifying (mixes op ga gb) m v) _ (mixing_right op ga gb e (left_array ds) m v ha h1)
+      (both_right c ks gives count (classifying (mixes op gb ga) n u) _ (mixing_right op gb ga e (right_array ds) n u hb h2) (last, tt))))
 
-  pub cat_right : (t v u pc line : ℕ) (g ga gb : Bool) (e : DataType) (ca : List Step) (cb : ℕ → List Step) → MayStand ga g → MayStand gb g
+  pub cat_right : (d m n v u pc line : ℕ) (g ga gb : Bool) (e : DataType) (ca : List Step) (cb : ℕ → List Step) → MayStand ga g → MayStand gb g
       → RightAt pc ca → RightAnywhere cb
-      → HasKind ks v (kind ga e true) → HasKind ks u (kind gb e true) → HasKind ks (t + 1) (kind true e true) → HasKind ks (t + 2) (kind true e true)
-      → HasKind ks t (kind g e true) → RightAt pc (cat_code t v u pc line (lacks g ga) (lacks g gb) ca cb)
-  cat_right t v u pc line g ga gb e ca cb ma mb ra rb ha hb h1 h2 h l =
-      let cl = classifying (lacks g ga) (t + 1) v in
-      let last : IsRight c ks gives count (Cat line t (picked (lacks g ga) (t + 1) v) (picked (lacks g gb) (t + 2) u)) = (
+      → HasKind ks v (kind ga e true) → HasKind ks u (kind gb e true) → HasKind ks m (kind true e true) → HasKind ks n (kind true e true)
+      → HasKind ks d (kind g e true) → RightAt pc (cat_code d m n v u pc line (lacks g ga) (lacks g gb) ca cb)
+  cat_right d m n v u pc line g ga gb e ca cb ma mb ra rb ha hb h1 h2 h l =
+      let cl = classifying (lacks g ga) m v in
+      let last : IsRight c ks gives count (Cat line d (picked (lacks g ga) m v) (picked (lacks g gb) n u)) = (
         g,
         e,
-        picked_kind c ks gives count g ga (shape_of e true) (t + 1) v ma ha h1,
-        picked_kind c ks gives count g gb (shape_of e true) (t + 2) u mb hb h2,
+        picked_kind c ks gives count g ga (shape_of e true) m v ma ha h1,
+        picked_kind c ks gives count g gb (shape_of e true) n u mb hb h2,
         h,
       ) in
       let p = pc + length ca in
       let q = p + length cl in
-      let rest = classifying (lacks g gb) (t + 2) u ++ Cat line t (picked (lacks g ga) (t + 1) v) (picked (lacks g gb) (t + 2) u) ∷ [] in
+      let rest = classifying (lacks g gb) n u ++ Cat line d (picked (lacks g ga) m v) (picked (lacks g gb) n u) ∷ [] in
       let behind = within_right count pc p ca (cl ++ (cb q ++ rest)) refl l in
       both_right c ks gives count ca _ (ra (within_left count pc ca (cl ++ (cb q ++ rest)) l))
-      (both_right c ks gives count cl _ (lacking_right c ks gives count g ga (shape_of e true) (t + 1) v ha h1)
+      (both_right c ks gives count cl _ (lacking_right c ks gives count g ga (shape_of e true) m v ha h1)
       (both_right c ks gives count (cb q) _ (rb q (within_left count q (cb q) rest (within_right count p q cl (cb q ++ rest) refl behind)))
-      (both_right c ks gives count (classifying (lacks g gb) (t + 2) u) _ (lacking_right c ks gives count g gb (shape_of e true) (t + 2) u hb h2) (last, tt))))
+      (both_right c ks gives count (classifying (lacks g gb) n u) _ (lacking_right c ks gives count g gb (shape_of e true) n u hb h2) (last, tt))))
 
   pub element_right : (t v u pc line : ℕ) (g : Bool) (e : DataType) (ca : List Step) (cb : ℕ → List Step) → RightAt pc ca → RightAnywhere cb
       → HasKind ks v (kind g e true) → HasKind ks u (public_scalar Uint64) → HasKind ks t (kind g e false) → RightAt pc (element_code t v u pc line ca cb)
@@ -129,13 +129,13 @@ module _ (c : List Function) (ks : List Kind) (gives : Option Kind) (count : ℕ
   deciding_below AndAlso = omega arith
   deciding_below OrElse = omega arith
 
-  pub cut_right : (t v u pc : ℕ) (x : Connective) (g : Bool) (ca : List Step) (cb : ℕ → List Step) → RightAt pc ca → RightAnywhere cb
-      → HasKind ks v (kind false datatype.Bool false) → HasKind ks u (kind g datatype.Bool false) → HasKind ks (t + 1) (kind false datatype.Bool false)
-      → HasKind ks t (kind g datatype.Bool false) → RightAt pc (cut_code t v u pc x g ca cb)
-  cut_right t v u pc x g ca cb ra rb ha hb h1 h l =
+  pub cut_right : (d q v u pc : ℕ) (x : Connective) (g : Bool) (ca : List Step) (cb : ℕ → List Step) → RightAt pc ca → RightAnywhere cb
+      → HasKind ks v (kind false datatype.Bool false) → HasKind ks u (kind g datatype.Bool false) → HasKind ks q (kind false datatype.Bool false)
+      → HasKind ks d (kind g datatype.Bool false) → RightAt pc (cut_code d q v u pc x g ca cb)
+  cut_right d q v u pc x g ca cb ra rb ha hb h1 h l =
       let pb = pc + length ca + 1 in
       let pd = pb + length (cb pb) + 2 in
-      let last = Move t u ∷ Jump (pd + 2) ∷ Literal (t + 1) datatype.Bool (truth_word (deciding x)) ∷ settling g t (t + 1) ∷ [] in
+      let last = Move d u ∷ Jump (pd + 2) ∷ Literal q datatype.Bool (truth_word (deciding x)) ∷ settling g d q ∷ [] in
       let whole = length-append ca (Branch v (deciding x) pd ∷ (cb pb ++ last)) in
       let right = length-append (cb pb) last in
       let branch : pd < count = omega (arith, l, whole, right) in
@@ -145,5 +145,5 @@ module _ (c : List Function) (ks : List Kind) (gives : Option Kind) (count : ℕ
       both_right c ks gives count ca _ (ra own) (
         (ha, branch),
         both_right c ks gives count (cb pb) last (rb pb second)
-            ((kind g datatype.Bool false, hb, h), (jump, ((h1, λ e. deciding_below x), (settling_right g t (t + 1) h1 h, tt)))),
+            ((kind g datatype.Bool false, hb, h), (jump, ((h1, λ e. deciding_below x), (settling_right g d q h1 h, tt)))),
       )

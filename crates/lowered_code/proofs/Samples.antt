@@ -143,6 +143,12 @@ default_registers more =
     word_kind ∷ record { secret = false; element = Uint64; array = true } ∷ record { secret = false; element = datatype.Bool; array = false }
     ∷ record { secret = false; element = datatype.Bool; array = true } ∷ more
 
+-- the registers of one row
+abbrev a_row : List Kind → List Kind
+a_row more =
+    default_registers (private_word ∷ record { secret = true; element = Uint64; array = true }
+    ∷ record { secret = true; element = datatype.Bool; array = false } ∷ record { secret = true; element = datatype.Bool; array = true } ∷ more)
+
 sample_code : RawCode
 sample_code =
     record {
@@ -150,14 +156,13 @@ sample_code =
       functions = record {
         parameters = 0;
         gives = None;
-        registers = private_word ∷ default_registers (private_word ∷ word_kind ∷ private_word ∷ private_word ∷ private_word ∷ []);
-        body = raw.Argument 5 0 1 ∷ raw.Store 0 5 ∷ raw.Call 1 7 (0 ∷ []) 1 ∷ raw.Declassify 6 7 ∷ raw.Publish 1 6 ∷ raw.ReturnNone ∷ [];
+        registers = private_word ∷ default_registers (a_row []);
+        body = raw.Argument 9 0 1 ∷ raw.Store 0 9 ∷ raw.Call 1 9 (0 ∷ []) 1 ∷ raw.Declassify 5 9 ∷ raw.Publish 1 5 ∷ raw.ReturnNone ∷ [];
       } ∷ record {
         parameters = 1;
         gives = Some private_word;
-        registers = private_word
-            ∷ default_registers (private_word ∷ private_word ∷ private_word ∷ private_word ∷ private_word ∷ word_kind ∷ private_word ∷ []);
-        body = raw.Literal 10 1 ∷ raw.Classify 8 10 ∷ raw.Binary 0 6 0 8 1 ∷ raw.Return 6 ∷ raw.Return 11 ∷ [];
+        registers = private_word ∷ default_registers (a_row (a_row (private_word ∷ [])));
+        body = raw.Literal 13 1 ∷ raw.Classify 17 13 ∷ raw.Binary 0 9 0 17 1 ∷ raw.Return 9 ∷ raw.Return 21 ∷ [];
       } ∷ [];
     }
 

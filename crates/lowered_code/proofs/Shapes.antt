@@ -1,5 +1,5 @@
 -- The kind of the value of a well-typed expression.
-use Rattle.std.proofs.Common.{◌≡◌, ℕ, List, Some, Bool, true, false, not, ◌&&◌, ◌||◌, refl, sym, ap, ◌∙◌, subst}
+use Rattle.std.proofs.Common.{◌≡◌, Some, Bool, true, false, not, ◌&&◌, ◌||◌, refl, sym, ap, ◌∙◌}
 use Rattle.std.proofs.lemmas.Option.{none-some, same_Some}
 use Rattle.typed_tree.specs.declared.kinds.Shape.{Shape}
 use Rattle.typed_tree.specs.declared.operators.Cast.{Cast}
@@ -20,17 +20,16 @@ use Rattle.reached_instances.specs.declared.instance.BoundDomain.{BoundDomain}
 use Rattle.reached_instances.specs.declared.instance.BoundDomain.TheVariants.{Public, Private}
 use Rattle.reached_instances.specs.Domains.{Setting, joined_domain}
 use Rattle.language_model.specs.Operations.{is_product, result_shape, cast_shape}
-use Rattle.language_model.specs.Evaluation.{is_private, gives_private, shape_at}
-use Rattle.bytecode.specs.declared.kind.Kind.{Kind}
+use Rattle.language_model.specs.Evaluation.{is_private, shape_at}
 use Rattle.verified_code.specs.Fitting as fitting
 use Rattle.code_model.specs.Fit.{MayStand}
-use Rattle.code_model.specs.Kinds.{kind_of, returned_shape, called_shape, shape_in, kind_in, expression_kinds}
-use Rattle.code_model.specs.Kinded.{HasKind, left_array, right_array, cast_source, cast_target}
+use Rattle.code_model.specs.Kinds.{kind_of, returned_shape, called_shape, shape_in}
+use Rattle.code_model.specs.Kinded.{left_array, right_array, cast_source, cast_target}
 use Rattle.code_model.specs.Expressions.{lacks, mixes}
 use Rattle.raw_steps.specs.Right.{operand_element}
 use Rattle.well_typed.specs.Kinds.{GoesTo, operand_of, MayOperate, left_is_array, right_is_array, cast_from, cast_to}
 use Rattle.well_typed.specs.Expressions.{Gives, shape_given}
-use Rattle.lowered_code.proofs.Standing.{clash, Stands, stands_first}
+use Rattle.lowered_code.proofs.Standing.{clash}
 
 -- ---- SHAPES
 
@@ -66,28 +65,6 @@ module _ (here : Setting) where
   shape_is (binary_node line op ds a b) s h = result_is op ds ∙ sym (same_Some s _ h.4)
   shape_is (cut_node c a b) s h = sym (same_Some s _ h.3)
   shape_is (declassify_node e) s h = shape_is e h.0 h.1 ∙ sym (same_Some s _ h.2)
-
-  module _ {ks : List Kind} where
-    -- the register of its value
-    pub value_stands : (t : ℕ) (e : TypedTree) → Stands ks t (expression_kinds here e) → HasKind ks t (kind_in here e)
-    value_stands t (word_node n) h = stands_first h
-    value_stands t (truth_node b) h = stands_first h
-    value_stands t (slot_node k) h = stands_first h
-    value_stands t (call_node line k es) h = stands_first h
-    value_stands t (size_node e) h = stands_first h
-    value_stands t (cat_node line a b) h = stands_first h
-    value_stands t (sum_node e) h = stands_first h
-    value_stands t (bits_node line e) h = stands_first h
-    value_stands t (element_node line a i) h = stands_first h
-    value_stands t (not_node e) h = stands_first h
-    value_stands t (cast_node c e) h = stands_first h
-    value_stands t (binary_node line op ds a b) h = stands_first h
-    value_stands t (cut_node c a b) h = stands_first h
-    value_stands t (declassify_node e) h = stands_first h
-
-    pub value_at : (t : ℕ) (e : TypedTree) (s : Shape) → Gives here e (Some s) → Stands ks t (expression_kinds here e) → HasKind ks t
-        (kind_of (gives_private here e) s)
-    value_at t e s h stands = subst (λ z. HasKind ks t (kind_of (gives_private here e) z)) (shape_is e s h) (value_stands t e stands)
 
 -- ---- SECRECY
 

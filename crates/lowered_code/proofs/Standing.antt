@@ -1,19 +1,22 @@
 -- Kinds that stand in the list of a function's kinds from a register on, and code all of whose steps are right.
-use Rattle.std.proofs.Common.{◌≡◌, ℕ, zero, suc, ◌+◌, List, [], ◌∷◌, ◌++◌, length, Option, Some, Bool, true, false, refl, ap, ◌∙◌, subst}
+use Rattle.std.proofs.Common.{◌≡◌, ℕ, zero, suc, ◌+◌, ◌*◌, ◌<◌, ◌≤◌, List, [], ◌∷◌, ◌++◌, length, Option, Some, Bool, true, false, refl, ap, ◌∙◌, subst}
 use Rattle.std.proofs.Common.{arith}
 use Rattle.std.proofs.Common.{sym, inl, inr}
-use Rattle.std.specs.Prelude.{slice_get}
+use Rattle.std.specs.Prelude.{slice_get, max}
+use Rattle.std.proofs.Math.Nat.{le-max_left, le-max_right}
 use Rattle.std.proofs.lemmas.Option.{none-some, same_Some}
 use Rattle.sc_text.specs.Lists.{Among}
 use Rattle.secrec_ast.specs.declared.expression.DataType.{DataType}
+use Rattle.secrec_ast.specs.declared.expression.DataType.TheVariants.{Uint64}
+use Rattle.secrec_ast.specs.declared.expression.DataType.TheVariants as datatype
 use Rattle.typed_tree.specs.declared.kinds.Shape.{Shape}
 use Rattle.language_model.specs.Evaluation.{either}
 use Rattle.bytecode.specs.declared.kind.Kind.{Kind}
 use Rattle.verified_code.specs.Steps.{Step, Function}
 use Rattle.code_model.specs.Fit.{MayStand}
-use Rattle.code_model.specs.Kinds.{kind_of}
+use Rattle.code_model.specs.Kinds.{kind_of, kind_number, shape_kinds, rows_kinds, in_row}
 use Rattle.code_model.specs.Kinded.{HasKind}
-use Rattle.code_model.specs.Expressions.{classifying, picked, lacks}
+use Rattle.code_model.specs.Expressions.{classifying, picked, lacks, next_row}
 use Rattle.raw_steps.specs.Right.{IsRight}
 
 pub clash : false ≡ true → ⊥
@@ -55,6 +58,62 @@ module _ {ks : List Kind} where
     at = λ k x there.
         let n : u + k ≡ t + (length a + k) = omega (arith, e) in ap (slice_get ks) n ∙ h.at (length a + k) x (behind a b k x there);
   }
+
+-- each kind has its place in a row
+row_there : (s : Bool) (e : DataType) (a : Bool) (more : List Kind) → slice_get (shape_kinds false ++ (shape_kinds true ++ more))
+    (kind_number (record { secret = s; element = e; array = a })) ≡ Some (record { secret = s; element = e; array = a })
+row_there false Uint64 false more = refl
+row_there false Uint64 true more = refl
+row_there false datatype.Bool false more = refl
+row_there false datatype.Bool true more = refl
+row_there true Uint64 false more = refl
+row_there true Uint64 true more = refl
+row_there true datatype.Bool false more = refl
+row_there true datatype.Bool true more = refl
+
+-- so many rows of registers begin at t
+pub record HasRows (ks : List Kind) (t n : ℕ) : Type 0 where
+  pub at : (j : ℕ) (k : Kind) → j < n → HasKind ks (in_row (t + 8 * j) k) k
+
+module _ {ks : List Kind} where
+  pub row_first : {t n : ℕ} (k : Kind) → 0 < n → HasRows ks t n → HasKind ks (in_row t k) k
+  row_first {t = t} k l h = let e : in_row t k ≡ in_row (t + 8 * 0) k = omega arith in ap (slice_get ks) e ∙ h.at 0 k l
+
+  pub rows_less : {t n : ℕ} (m : ℕ) → m ≤ n → HasRows ks t n → HasRows ks t m
+  rows_less m l h = record { at = λ j k b. h.at j k (omega (arith, l, b)) }
+
+  pub rows_next : {t n : ℕ} (m : ℕ) → 1 + m ≤ n → HasRows ks t n → HasRows ks (next_row t) m
+  rows_next {t = t} m l h = record {
+    at = λ j k b.
+        let e : in_row (next_row t + 8 * j) k ≡ in_row (t + 8 * (j + 1)) k = omega arith in ap (slice_get ks) e ∙ h.at (j + 1) k (omega (arith, l, b));
+  }
+
+  -- of one of two that begin at one place, and of one that begins a row later
+  pub rows_left : {t : ℕ} (a b : ℕ) → HasRows ks t (max a b) → HasRows ks t a
+  rows_left a b h = rows_less a (le-max_left a b) h
+
+  pub rows_right : {t : ℕ} (a b : ℕ) → HasRows ks t (max a b) → HasRows ks t b
+  rows_right a b h = rows_less b (le-max_right a b) h
+
+  pub rows_second : {t : ℕ} (a b : ℕ) → HasRows ks t (max a (1 + b)) → HasRows ks (next_row t) b
+  rows_second a b h = rows_next b (le-max_right a (1 + b)) h
+
+  pub rows_stand : (t n : ℕ) → Stands ks t (rows_kinds n) → HasRows ks t n
+  rows_stand t zero h = record { at = λ j k b. absurd (omega (arith, b)) }
+  rows_stand t (suc n) h =
+      let half : t + 4 ≡ t + length (shape_kinds false) = omega arith in
+      let whole : next_row t ≡ t + 4 + length (shape_kinds true) = omega arith in
+      record {
+        at = go (rows_stand (next_row t) n (stands_right (next_row t) (shape_kinds true) whole (stands_right (t + 4) (shape_kinds false) half h)));
+      }
+    where
+      go : HasRows ks (next_row t) n → (j : ℕ) (k : Kind) → j < suc n → HasKind ks (in_row (t + 8 * j) k) k
+      go rest zero k b =
+          let e : in_row (t + 8 * 0) k ≡ t + kind_number k = omega arith in
+          ap (slice_get ks) e ∙ h.at (kind_number k) k (row_there k.secret k.element k.array (rows_kinds n))
+      go rest (suc j) k b =
+          let e : in_row (t + 8 * suc j) k ≡ in_row (next_row t + 8 * j) k = omega arith in
+          ap (slice_get ks) e ∙ rest.at j k (omega (arith, b))
 
 -- a whole list stands in itself
 pub stands_itself : (ks : List Kind) → Stands ks 0 ks

@@ -1,5 +1,5 @@
 -- The code of a well-typed program is right.
-use Rattle.std.proofs.Common.{◌≡◌, ℕ, zero, suc, ◌+◌, ◌<◌, ◌≤◌, List, [], ◌∷◌, ◌++◌, length, map, Some}
+use Rattle.std.proofs.Common.{◌≡◌, ℕ, zero, suc, ◌+◌, ◌*◌, ◌<◌, ◌≤◌, List, [], ◌∷◌, ◌++◌, length, map, Some}
 use Rattle.std.proofs.Common.{None, Bool, true, false, cond, refl, sym, ap, ◌∙◌, subst}
 use Rattle.std.proofs.Common.{arith, length-append, ◌⊎◌, inl, inr}
 use Rattle.std.specs.Prelude.{slice_get}
@@ -24,15 +24,14 @@ use Rattle.language_model.specs.Evaluation.{either, place_in, slots_of}
 use Rattle.bytecode.specs.declared.kind.Kind.{Kind}
 use Rattle.verified_code.specs.Steps.{Step, Function, Jump}
 use Rattle.code_model.specs.Fit.{AreFitStatements, IsKnownIn, IsFitProgram, the_main}
-use Rattle.code_model.specs.Kinds.{kind_of, slot_kind}
+use Rattle.code_model.specs.Kinds.{kind_of, slot_kind, element_number, rows_kinds}
 use Rattle.code_model.specs.Kinded.{HasKind, is_return, IsIn}
 use Rattle.code_model.specs.Expressions.{Numbers}
-use Rattle.code_model.specs.Statements.{element_number, shape_number, default_kinds, defaults_behind, first_free, statements_width, statements_kinds}
+use Rattle.code_model.specs.Statements.{shape_number, default_kinds, defaults_behind, first_free, statements_depth}
 use Rattle.code_model.specs.Statements.{statements_code}
 use Rattle.code_model.specs.Programs.{given_kind, last_kinds, last_step, body_end, function_code, place_of, numbers_in, code_of_found, instance_code, code_of}
 use Rattle.code_model.proofs.Forward.{all_forward}
 use Rattle.code_model.proofs.Lengths.{statements_length}
-use Rattle.code_model.proofs.Widths.{statements_registers}
 use Rattle.raw_steps.specs.Instructions.{nowhere}
 use Rattle.raw_steps.specs.Right.{IsRight, IsRightFunction, AreRight}
 use Rattle.raw_steps.proofs.Passing.{mapped, unmapped}
@@ -44,10 +43,11 @@ use Rattle.well_typed.specs.Statements.{AreWellTypedStatements}
 use Rattle.well_typed.specs.Programs.{IsWellTypedInstance, IsWellTyped}
 use Rattle.lowered_code.specs.Laws.{HasNumberedRegisters, IsVerifiedWhereWellTyped, RunsWhereAccepted}
 use Rattle.lowered_code.proofs.Fits.{well_typed_fits, accepted_means}
-use Rattle.lowered_code.proofs.Standing.{clash, front, found_among, Stands, stands_itself, stands_left, stands_right, stands_first}
+use Rattle.lowered_code.proofs.Standing.{clash, front, found_among, Stands, stands_itself, stands_left, stands_right, stands_first, rows_stand}
 use Rattle.lowered_code.proofs.Standing.{both_right, right_at}
 use Rattle.lowered_code.proofs.Calling.{parameters_of}
 use Rattle.lowered_code.proofs.Limits.{within_small}
+use Rattle.code_model.proofs.Widths.{rows_length}
 use Rattle.lowered_code.proofs.RegistersOfPrograms.{small_numbered}
 use Rattle.lowered_code.proofs.Expressions.{IsCallee}
 use Rattle.lowered_code.proofs.Statements.{statements_right}
@@ -106,10 +106,10 @@ module _ (number : Numbers) (c : List Function) (fs : List TypedFunctionTree) (f
   body = statements_code number (place_in fs f b) (first_free f.slots) end end 0 f.body
 
   abbrev last_register : ℕ
-  last_register = first_free f.slots + statements_width f.body
+  last_register = first_free f.slots + 8 * statements_depth f.body
 
   abbrev behind_slots : List Kind
-  behind_slots = defaults_behind f.slots ++ (statements_kinds here f.body ++ last_kinds b f.given)
+  behind_slots = defaults_behind f.slots ++ (rows_kinds (statements_depth f.body) ++ last_kinds b f.given)
 
   from_slots : Stands own.kinds (length f.slots) behind_slots
   from_slots =
@@ -117,14 +117,14 @@ module _ (number : Numbers) (c : List Function) (fs : List TypedFunctionTree) (f
       let place : length f.slots ≡ 0 + length (map (slot_kind b) f.slots) = omega (arith, many) in
       stands_right (length f.slots) (map (slot_kind b) f.slots) place (stands_itself own.kinds)
 
-  from_body : Stands own.kinds (first_free f.slots) (statements_kinds here f.body ++ last_kinds b f.given)
+  from_body : Stands own.kinds (first_free f.slots) (rows_kinds (statements_depth f.body) ++ last_kinds b f.given)
   from_body = stands_right (first_free f.slots) (defaults_behind f.slots) refl from_slots
 
   from_last : Stands own.kinds last_register (last_kinds b f.given)
   from_last =
-      let many = statements_registers here f.body in
-      let place : last_register ≡ first_free f.slots + length (statements_kinds here f.body) = omega (arith, many) in
-      stands_right last_register (statements_kinds here f.body) place from_body
+      let many = rows_length (statements_depth f.body) in
+      let place : last_register ≡ first_free f.slots + length (rows_kinds (statements_depth f.body)) = omega (arith, many) in
+      stands_right last_register (rows_kinds (statements_depth f.body)) place from_body
 
   slots_stand : (k : ℕ) (s : Slot) → slice_get f.slots k ≡ Some s → HasKind own.kinds k (slot_kind b s)
   slots_stand k s there = front (map (slot_kind b) f.slots) behind_slots k (slot_kind b s) (mapped (slot_kind b) f.slots k s there)
@@ -158,8 +158,10 @@ module _ (number : Numbers) (c : List Function) (fs : List TypedFunctionTree) (f
         steps = right_at c own.kinds own.gives (length own.steps) own.steps
             (both_right c own.kinds own.gives (length own.steps) body (last ∷ [])
             (statements_right number c own.kinds (length own.steps) here Known slots_stand
-            (defaults_found own.kinds f.slots (statements_kinds here f.body ++ last_kinds b f.given) from_slots) known f.given false f.body typed fit
-            (first_free f.slots) end end 0 within within (stands_left (statements_kinds here f.body) (last_kinds b f.given) from_body) ends)
+            (defaults_found own.kinds f.slots (rows_kinds (statements_depth f.body) ++ last_kinds b f.given) from_slots) known f.given false f.body typed fit
+            (first_free f.slots) end end 0 within within
+            (rows_stand (first_free f.slots) (statements_depth f.body) (stands_left (rows_kinds (statements_depth f.body)) (last_kinds b f.given) from_body))
+            ends)
             (last_right f.given from_last, tt));
       }
 

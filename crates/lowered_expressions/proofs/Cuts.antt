@@ -3,10 +3,9 @@ use Rattle.std.proofs.Common.{◌≡◌, ℕ, ◌+◌, Bool, List, [], ◌∷◌
 use Rattle.std.specs.Prelude.{map, slice_set}
 use Rattle.std.proofs.lemmas.List.{map-append, length-map, length_push, set_at}
 use Rattle.typed_tree.specs.declared.operators.Connective.{Connective}
-use Rattle.bytecode.specs.declared.kind.Kind.{Kind}
 use Rattle.verified_code.specs.Steps.{Step, Branch}
 use Rattle.code_model.specs.Expressions.{deciding}
-use Rattle.lowered_expressions.specs.Built.{BodyPiece, whole, Built, with_step, with_code}
+use Rattle.lowered_expressions.specs.Built.{BodyPiece, whole, Built, with_step, with_steps}
 use Rattle.lowered_expressions.specs.Parts.{cut_end, cut_closed, cut_rest}
 use Rattle.lowered_expressions.proofs.Building.{body_of}
 
@@ -16,33 +15,29 @@ set_behind ps x y m e =
     let flat : ((ps ++ x ∷ []) ++ m) ++ e ≡ ps ++ x ∷ (m ++ e) = simp append_assoc in
     ap (λ (z : List BodyPiece). slice_set z (length ps) y) flat ∙ set_at ps x (m ++ e) y (length ps) refl
 
-pub cut_made : (b d f g : Built) (held : Step) (kb : List Kind) (cb : (t pc : ℕ) → List Step) (vb : ℕ → ℕ) (c : Connective) (secret : Bool)
-    (to left value branch : ℕ)
-    → d ≡ with_step b held → f ≡ with_code d kb (cb (length d.kinds) (length d.pieces)) → g ≡ cut_closed f c secret to left value branch
-    → value ≡ vb (length d.kinds) → branch ≡ length b.pieces
-    → g ≡ with_code b kb (cut_rest to left (vb (length b.kinds)) (length b.pieces) c secret (cb (length b.kinds)))
-cut_made b d f g held kb cb vb c secret to left value branch e h i v at =
-    let u = length b.kinds in
+pub cut_made : (b d f g : Built) (held : Step) (cb : (pc : ℕ) → List Step) (c : Connective) (secret : Bool)
+    (to beside left value branch : ℕ)
+    → d ≡ with_step b held → f ≡ with_steps d (cb (length d.pieces)) → g ≡ cut_closed f c secret to beside left value branch
+    → branch ≡ length b.pieces
+    → g ≡ with_steps b (cut_rest to beside left value (length b.pieces) c secret cb)
+cut_made b d f g held cb c secret to beside left value branch e h i at =
     let p = length b.pieces in
-    let n : length d.kinds ≡ u = ap (λ (z : Built). length z.kinds) e in
     let k : length d.pieces ≡ p + 1 = ap (λ (z : Built). length z.pieces) e ∙ length_push b.pieces (whole held) in
-    let code = cb u (p + 1) in
-    let q : f ≡ with_code (with_step b held) kb code =
-    h ∙ ap₂ (λ (x y : ℕ). with_code d kb (cb x y)) n k ∙ ap (λ (z : Built). with_code z kb code) e in
+    let code = cb (p + 1) in
+    let q : f ≡ with_steps (with_step b held) code = h ∙ ap (λ (y : ℕ). with_steps d (cb y)) k ∙ ap (λ (z : Built). with_steps z code) e in
     let m : length f.pieces ≡ p + 1 + length code =
     ap (λ (z : Built). length z.pieces) q ∙ length-append (b.pieces ++ whole held ∷ []) (map whole code)
     ∙ ap₂ (λ (x y : ℕ). x + y) (length_push b.pieces (whole held)) (length-map code whole) in
     let pd = p + 1 + length code + 2 in
     let over : length f.pieces + 4 ≡ pd + 2 = omega (arith, m) in
     let there : length f.pieces + 2 ≡ pd = omega (arith, m) in
-    let value_is : value ≡ vb u = v ∙ ap vb n in
-    let tail = cut_end c secret to (vb u) (pd + 2) in
-    let end : cut_end c secret to value (length f.pieces + 4) ≡ tail = ap₂ (λ (x y : ℕ). cut_end c secret to x y) value_is over in
+    let tail = cut_end c secret to beside value (pd + 2) in
+    let end : cut_end c secret to beside value (length f.pieces + 4) ≡ tail = ap (cut_end c secret to beside value) over in
     let set = whole (Branch left (deciding c) pd) in
     i
-    ∙ ap (λ (z : List Step). body_of f.kinds (slice_set (f.pieces ++ map whole z) branch (whole (Branch left (deciding c) (length f.pieces + 2))))) end
-    ∙ ap (λ (z : ℕ). body_of f.kinds (slice_set (f.pieces ++ map whole tail) branch (whole (Branch left (deciding c) z)))) there
-    ∙ ap (λ (z : ℕ). body_of f.kinds (slice_set (f.pieces ++ map whole tail) z set)) at
-    ∙ ap (λ (z : Built). body_of z.kinds (slice_set (z.pieces ++ map whole tail) p set)) q
-    ∙ ap (body_of (b.kinds ++ kb)) (set_behind b.pieces (whole held) set (map whole code) (map whole tail))
-    ∙ ap (λ (z : List BodyPiece). body_of (b.kinds ++ kb) (b.pieces ++ set ∷ z)) (sym (map-append whole code tail))
+    ∙ ap (λ (z : List Step). body_of (slice_set (f.pieces ++ map whole z) branch (whole (Branch left (deciding c) (length f.pieces + 2))))) end
+    ∙ ap (λ (z : ℕ). body_of (slice_set (f.pieces ++ map whole tail) branch (whole (Branch left (deciding c) z)))) there
+    ∙ ap (λ (z : ℕ). body_of (slice_set (f.pieces ++ map whole tail) z set)) at
+    ∙ ap (λ (z : Built). body_of (slice_set (z.pieces ++ map whole tail) p set)) q
+    ∙ ap body_of (set_behind b.pieces (whole held) set (map whole code) (map whole tail))
+    ∙ ap (λ (z : List BodyPiece). body_of (b.pieces ++ set ∷ z)) (sym (map-append whole code tail))

@@ -1,6 +1,5 @@
 -- Bodies of functions, as they are made.
 use Rattle.std.specs.Prelude.{ℕ, List, [], ◌∷◌, ◌++◌, map, slice_set}
-use Rattle.bytecode.specs.declared.kind.Kind.{Kind}
 use Rattle.verified_code.specs.Steps.{Step}
 
 -- a step, or a jump whose place isn't known yet: where a break or a continue of the loop around it leads
@@ -9,27 +8,18 @@ pub data BodyPiece : Type 0 where
   break_jump : BodyPiece
   continue_jump : BodyPiece
 
--- the kinds of the registers and the pieces so far
+-- the pieces so far
 pub record Built : Type 0 where
-  pub kinds : List Kind
   pub pieces : List BodyPiece
-
--- one more register
-abbrev pub with_kind : Built → Kind → Built
-with_kind b k = record { kinds = b.kinds ++ k ∷ []; pieces = b.pieces }
 
 -- one more step
 abbrev pub with_step : Built → Step → Built
-with_step b i = record { kinds = b.kinds; pieces = b.pieces ++ whole i ∷ [] }
+with_step b i = record { pieces = b.pieces ++ whole i ∷ [] }
 
 -- a step in the place of another piece
 abbrev pub with_step_at : Built → ℕ → Step → Built
-with_step_at b place i = record { kinds = b.kinds; pieces = slice_set b.pieces place (whole i) }
-
--- more registers and more steps
-abbrev pub with_code : Built → List Kind → List Step → Built
-with_code b ks is = record { kinds = b.kinds ++ ks; pieces = b.pieces ++ map whole is }
+with_step_at b place i = record { pieces = slice_set b.pieces place (whole i) }
 
 -- more steps
 abbrev pub with_steps : Built → List Step → Built
-with_steps b is = record { kinds = b.kinds; pieces = b.pieces ++ map whole is }
+with_steps b is = record { pieces = b.pieces ++ map whole is }

@@ -10,12 +10,11 @@ use Rattle.reached_instances.specs.Domains.{Setting, domains}
 use Rattle.language_model.specs.Words.{truth_word}
 use Rattle.language_model.specs.Evaluation.{gives_private, bound_at, slots_of}
 use Rattle.verified_code.specs.Steps.{Step, Literal, Move, Binary, Not, Cast, Size, Sum, Bits, Declassify, Branch, Jump, Call}
-use Rattle.code_model.specs.Kinds.{expression_kinds, arguments_kinds}
-use Rattle.code_model.specs.Expressions.{Numbers, classifying, picked, lacks, mixes, settling, deciding, stands_at, one_code, expression_code}
-use Rattle.code_model.specs.Expressions.{expression_code, arguments_code, arguments_places}
+use Rattle.code_model.specs.Expressions.{Numbers, classifying, picked, lacks, mixes, settling, deciding, classified_at, stands_at, expression_code}
+use Rattle.code_model.specs.Expressions.{arguments_code, arguments_places}
 use Rattle.lowered_expressions.specs.declared.closing.One.{One}
 use Rattle.lowered_expressions.specs.declared.closing.One.TheVariants as ones
-use Rattle.lowered_expressions.specs.Built.{Built, with_code, with_steps, with_step_at}
+use Rattle.lowered_expressions.specs.Built.{Built, with_steps, with_step_at}
 
 -- ---- ONE OPERAND
 
@@ -37,54 +36,48 @@ one_step ones.Declassify d r = Declassify d r
 
 -- ---- TWO OPERANDS, BEHIND THE CODE OF THE LEFT ONE
 
--- the right one at its place p; v and u the registers where the two stand
-abbrev pub binary_rest : (t v u p line : ℕ) → BinaryOperator → Operands → (left right : Bool) → (ℕ → List Step) → List Step
-binary_rest t v u p line op ds ga gb cb =
+-- the right one at its place p; v and u the registers where the two stand, m and n those for their classifications, and d the node's own
+abbrev pub binary_rest : (d m n v u p line : ℕ) → BinaryOperator → Operands → (left right : Bool) → (ℕ → List Step) → List Step
+binary_rest d m n v u p line op ds ga gb cb =
     let l = mixes op ga gb in
     let r = mixes op gb ga in
-    cb p ++ (classifying l (t + 1) v ++ (classifying r (t + 2) u ++ Binary line op ds t (picked l (t + 1) v) (picked r (t + 2) u) ∷ []))
+    cb p ++ (classifying l m v ++ (classifying r n u ++ Binary line op ds d (picked l m v) (picked r n u) ∷ []))
 
 -- what stands behind the right operand, and ends at a place
-abbrev pub cut_end : Connective → (secret : Bool) → (t u end : ℕ) → List Step
-cut_end c secret t u end =
-    Move t u ∷ Jump end ∷ Literal (t + 1) datatype.Bool (truth_word (deciding c)) ∷ settling secret t (t + 1) ∷ []
+abbrev pub cut_end : Connective → (secret : Bool) → (d q u end : ℕ) → List Step
+cut_end c secret d q u end =
+    Move d u ∷ Jump end ∷ Literal q datatype.Bool (truth_word (deciding c)) ∷ settling secret d q ∷ []
 
-abbrev pub cut_closed : Built → Connective → (secret : Bool) → (t v u branch : ℕ) → Built
-cut_closed b c secret t v u branch =
-    with_step_at (with_steps b (cut_end c secret t u (length b.pieces + 4))) branch (Branch v (deciding c) (length b.pieces + 2))
+abbrev pub cut_closed : Built → Connective → (secret : Bool) → (d q v u branch : ℕ) → Built
+cut_closed b c secret d q v u branch =
+    with_step_at (with_steps b (cut_end c secret d q u (length b.pieces + 4))) branch (Branch v (deciding c) (length b.pieces + 2))
 
 -- the branch at p, the right operand behind it
-abbrev pub cut_rest : (t v u p : ℕ) → Connective → (secret : Bool) → (ℕ → List Step) → List Step
-cut_rest t v u p c secret cb =
+abbrev pub cut_rest : (d q v u p : ℕ) → Connective → (secret : Bool) → (ℕ → List Step) → List Step
+cut_rest d q v u p c secret cb =
     let pb = p + 1 in
     let pd = pb + length (cb pb) + 2 in
-    Branch v (deciding c) pd ∷ (cb pb ++ cut_end c secret t u (pd + 2))
+    Branch v (deciding c) pd ∷ (cb pb ++ cut_end c secret d q u (pd + 2))
 
--- ---- CODE BEHIND A BODY
+-- ---- CODE BEHIND A BODY, with registers from the row t on
 
-module _ (number : Numbers) (here : Setting) (b : Built) where
+module _ (number : Numbers) (here : Setting) (b : Built) (t : ℕ) where
   -- an expression's
   abbrev pub with_expression : TypedTree → Built
-  with_expression e = with_code b (expression_kinds here e) (expression_code number here (length b.kinds) (length b.pieces) e)
+  with_expression e = with_steps b (expression_code number here t (length b.pieces) e)
 
-  -- an operand's, and its classification into a register where it is wanted private and isn't
-  abbrev pub with_operand : (wanted : Bool) → (classified : ℕ) → TypedTree → Built
-  with_operand wanted r e =
-      with_code b (expression_kinds here e)
-      (expression_code number here (length b.kinds) (length b.pieces) e
-      ++ classifying (lacks wanted (gives_private here e)) r (stands_at e (length b.kinds)))
-
-  -- the operand of an operation, and its step
-  abbrev pub with_one : One → (to : ℕ) → TypedTree → Built
-  with_one one to e =
-      with_code b (expression_kinds here e)
-      (one_code (one_step one to) (stands_at e (to + 1)) (expression_code number here (to + 1) (length b.pieces) e))
+  -- an operand's, and its classification where it is wanted private and isn't
+  abbrev pub with_operand : (wanted : Bool) → TypedTree → Built
+  with_operand wanted e =
+      with_steps b
+      (expression_code number here t (length b.pieces) e
+      ++ classifying (lacks wanted (gives_private here e)) (classified_at here e t) (stands_at here e t))
 
   -- a call's, with the register of what it gives
   abbrev pub with_call : (line function : ℕ) → (to : Option ℕ) → TypedTrees → Built
   with_call line k to es =
       let bound = bound_at (slice_get here.functions k) (domains here es) in
       let ss = slots_of (slice_get here.functions k) in
-      with_code b (arguments_kinds here es)
-      (arguments_code number here bound ss (length b.kinds) (length b.pieces) es
-      ++ Call line (number k bound) to (arguments_places number here bound ss (length b.kinds) es) ∷ [])
+      with_steps b
+      (arguments_code number here bound ss t (length b.pieces) es
+      ++ Call line (number k bound) to (arguments_places number here bound ss t es) ∷ [])

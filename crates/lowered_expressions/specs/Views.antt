@@ -44,7 +44,7 @@ piece_seen kept.Break = break_jump
 piece_seen kept.Continue = continue_jump
 
 abbrev pub built : bodies.Body → Built
-built b = record { kinds = b.registers.items; pieces = map piece_seen b.pieces.items }
+built b = record { pieces = map piece_seen b.pieces.items }
 
 abbrev pub here_of : arounds.Around → Setting
 here_of a = setting a.here

@@ -1,43 +1,23 @@
 // The body of a function that is being made.
-ghost use Rattle.std.specs.Prelude.{◌≡◌, ◌<◌, IfOk, OnOk, length};
-ghost use Rattle.lowered_expressions.specs.Built.{with_kind, with_step, with_step_at};
+ghost use Rattle.std.specs.Prelude.{◌≡◌, ◌<◌, OnOk, length};
+ghost use Rattle.lowered_expressions.specs.Built.{with_step, with_step_at};
 ghost use Rattle.lowered_expressions.specs.Views.{built, step_seen};
 
 use crate::step::{BodyPiece, Step};
-use bytecode::Kind;
 use std::alloc::AllocError;
 
-/// The registers and the pieces of a function so far.
+/// The pieces of a function so far.
 #[derive(Drop)]
 pub struct Body<'p> {
-    /// The kinds of its registers.
-    pub registers: Vec<Kind>,
     pub pieces: Vec<BodyPiece<'p>>,
 }
 
 impl<'p> Body<'p> {
-    /// The number of the next register.
-    pub fn next_register(&self) -> usize
-        ensures { result ≡ length (built self.now).kinds }
-    {
-        self.registers.len()
-    }
-
     /// The place of the next piece.
     pub fn next_place(&self) -> usize
         ensures { result ≡ length (built self.now).pieces }
     {
         self.pieces.len()
-    }
-
-    /// One more register of this kind; its number. An error comes where memory runs short.
-    pub fn fresh(&mut self, kind: Kind) -> Result<usize, AllocError>
-        ensures built { OnOk result (built self.new ≡ with_kind (built self.old) kind) }
-        ensures number { IfOk result (λ register. register ≡ length (built self.old).kinds) }
-    {
-        let register = self.registers.len();
-        self.registers.push(kind)?;
-        Ok(register)
     }
 
     /// One more step. An error comes where memory runs short.

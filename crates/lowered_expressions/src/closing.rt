@@ -1,5 +1,5 @@
 // The steps behind the code of a node's operands.
-ghost use Rattle.std.specs.Prelude.{◌≡◌, ◌+◌, ◌<◌, ◌≤◌, [], ◌∷◌, ◌++◌, OnOk, length};
+ghost use Rattle.std.specs.Prelude.{◌≡◌, ◌+◌, ◌<◌, [], ◌∷◌, ◌++◌, OnOk, length};
 ghost use Rattle.verified_code.specs.Steps as S;
 ghost use Rattle.code_model.specs.Expressions.{classifying, picked, settling};
 ghost use Rattle.lowered_expressions.specs.Built.{with_steps};
@@ -26,11 +26,12 @@ pub enum One {
 }
 
 /// An operation on two operands, of which the left one's code is there: the register of what it gives, the one where the left operand
-/// stands, and whether that operand is private.
+/// stands, one of its row for the left operand's classification, or for what it decides alone, and whether that operand is private.
 #[derive(Clone, Copy)]
 pub struct LeftOperand {
     pub to: usize,
     pub value: usize,
+    pub beside: usize,
     pub secret: bool,
 }
 
@@ -94,21 +95,20 @@ pub fn close_cut(
     value: usize,
     branch: usize,
 ) -> Result<(), AllocError>
-    requires branch { branch < length (built body.old).pieces }
-    requires registers { left.to + 1 ≤ length (built body.old).kinds }
-    ensures { OnOk result (built body.new ≡ cut_closed (built body.old) connective private left.to left.value value branch) }
+    requires { branch < length (built body.old).pieces }
+    ensures { OnOk result (built body.new ≡ cut_closed (built body.old) connective private left.to left.beside left.value value branch) }
 {
-    let to = left.to;
+    let LeftOperand { to, beside, .. } = left;
     let end = body.next_place() + 4;
     body.push(Step::Move { to, source: value })?;
     body.push(Step::Jump { target: end })?;
     let decided = body.next_place();
     body.push(Step::Literal {
-        to: to + 1,
+        to: beside,
         element: DataType::Bool,
         word: truth_word(deciding(connective)),
     })?;
-    body.push(settling(private, to, to + 1))?;
+    body.push(settling(private, to, beside))?;
     body.set(
         branch,
         Step::Branch {

@@ -5,7 +5,7 @@ ghost use Rattle.typed_tree.specs.Tree.{typed_tree};
 ghost use Rattle.typed_tree.specs.Programs.{typed_function_tree};
 ghost use Rattle.reached_instances.specs.Views.{setting};
 ghost use Rattle.language_model.specs.Evaluation.{gives_private};
-ghost use Rattle.code_model.specs.Kinds.{called_shape, kind_in, kind_of, private_kind_in, returned_shape, shape_in};
+ghost use Rattle.code_model.specs.Kinds.{called_shape, kind_in, kind_of, returned_shape, shape_in};
 
 use bytecode::Kind;
 use reached_instances::{Setting, domain, slot_shape};
@@ -88,11 +88,4 @@ pub fn kind(alloc: Global, here: &Setting<'_>, e: &TypedExpression) -> Result<Ki
 {
     let secret = gives_private(alloc, here, e)?;
     Ok(kind_of(secret, shape(here, e)))
-}
-
-/// The kind of what an expression gives, once it is classified.
-pub fn private_kind(here: &Setting<'_>, e: &TypedExpression) -> Kind
-    ensures { result ≡ private_kind_in (setting here.now) (typed_tree e.now) }
-{
-    kind_of(true, shape(here, e))
 }

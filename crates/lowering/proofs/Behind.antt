@@ -1,25 +1,18 @@
 -- Pieces behind others.
-use Rattle.std.proofs.Common.{◌≡◌, ℕ, ◌+◌, List, [], ◌∷◌, ◌++◌, length, sym, ap, ap₂, ◌∙◌, arith, append_assoc, length-append}
+use Rattle.std.proofs.Common.{◌≡◌, ℕ, ◌+◌, List, [], ◌∷◌, ◌++◌, length, sym, ap, ◌∙◌, arith, append_assoc, length-append}
 use Rattle.std.specs.Prelude.{slice_set}
 use Rattle.std.proofs.lemmas.List.{length_push, set_at}
-use Rattle.bytecode.specs.declared.kind.Kind.{Kind}
 use Rattle.verified_code.specs.Steps.{Step}
 use Rattle.lowered_expressions.specs.Built.{BodyPiece, whole, Built, with_step}
 use Rattle.lowered_expressions.proofs.Building.{body_of}
 use Rattle.lowering.specs.inner.Pieces.{with_pieces}
 
-pub then_pieces : (b : Built) (k l : List Kind) (p q : List BodyPiece) → with_pieces (with_pieces b k p) l q ≡ with_pieces b (k ++ l) (p ++ q)
-then_pieces b k l p q = ap₂ body_of (append_assoc b.kinds k l) (append_assoc b.pieces p q)
+pub then_pieces : (b : Built) (p q : List BodyPiece) → with_pieces (with_pieces b p) q ≡ with_pieces b (p ++ q)
+then_pieces b p q = ap body_of (append_assoc b.pieces p q)
 
 -- where a body goes on behind pieces, and behind a step
-pub registers_behind : (b d : Built) (k : List Kind) (p : List BodyPiece) → d ≡ with_pieces b k p → length d.kinds ≡ length b.kinds + length k
-registers_behind b d k p e = ap (λ (z : Built). length z.kinds) e ∙ length-append b.kinds k
-
-pub places_behind : (b d : Built) (k : List Kind) (p : List BodyPiece) → d ≡ with_pieces b k p → length d.pieces ≡ length b.pieces + length p
-places_behind b d k p e = ap (λ (z : Built). length z.pieces) e ∙ length-append b.pieces p
-
-pub registers_step : (b d : Built) (i : Step) → d ≡ with_step b i → length d.kinds ≡ length b.kinds
-registers_step b d i e = ap (λ (z : Built). length z.kinds) e
+pub places_behind : (b d : Built) (p : List BodyPiece) → d ≡ with_pieces b p → length d.pieces ≡ length b.pieces + length p
+places_behind b d p e = ap (λ (z : Built). length z.pieces) e ∙ length-append b.pieces p
 
 pub places_step : (b d : Built) (i : Step) → d ≡ with_step b i → length d.pieces ≡ length b.pieces + 1
 places_step b d i e = ap (λ (z : Built). length z.pieces) e ∙ length_push b.pieces (whole i)

@@ -8,9 +8,8 @@ use Rattle.typed_tree.specs.Statements.{fill_statement, input_statement, element
 use Rattle.typed_tree.specs.Statements as Statements'
 use Rattle.language_model.specs.Evaluation.{StatementContext}
 use Rattle.verified_code.specs.Steps.{Step, Branch, Jump}
-use Rattle.code_model.specs.Kinds.{width}
 use Rattle.code_model.specs.Expressions.{Numbers, stands_at, expression_code}
-use Rattle.code_model.specs.Statements.{statement_width, statement_code, statements_code, if_code}
+use Rattle.code_model.specs.Statements.{statement_code, statements_code, if_code}
 use Rattle.code_model.proofs.Lengths.{statement_length}
 use Rattle.lowered_expressions.specs.Built.{BodyPiece, whole}
 use Rattle.lowering.specs.inner.Pieces.{placed, settled, statement_pieces, statements_pieces, if_pieces}
@@ -50,10 +49,10 @@ module _ (number : Numbers) (at : StatementContext) (x y : ℕ) where
     statement_placed t pc empty_statement = refl
     statement_placed t pc (block_statement cs) = statements_placed t pc cs
     statement_placed t pc (if_statement e a b) =
-        if_placed x y pc (stands_at e t) (expression_code number at.here t pc e) (λ p. statement_pieces number at (t + width e) p a)
-        (λ p. statement_pieces number at (t + width e + statement_width a) p b) (λ p. statement_code number at (t + width e) x y p a)
-        (λ p. statement_code number at (t + width e + statement_width a) x y p b) (λ p. statement_placed (t + width e) p a)
-        (λ p. statement_placed (t + width e + statement_width a) p b)
+        if_placed x y pc (stands_at at.here e t) (expression_code number at.here t pc e) (λ p. statement_pieces number at t p a)
+        (λ p. statement_pieces number at t p b) (λ p. statement_code number at t x y p a)
+        (λ p. statement_code number at t x y p b) (λ p. statement_placed t p a)
+        (λ p. statement_placed t p b)
     statement_placed t pc (loop_statement e step body) = placed_whole x y (statement_code number at t 0 0 pc (loop_statement e step body))
     statement_placed t pc (do_statement body e) = placed_whole x y (statement_code number at t 0 0 pc (do_statement body e))
     statement_placed t pc break_statement = refl
@@ -76,9 +75,9 @@ module _ (number : Numbers) (at : StatementContext) (x y : ℕ) where
         let ps = statement_pieces number at t pc c in
         let is = statement_code number at t x y pc c in
         let n : length ps ≡ length is = same_length x y ps is (statement_placed t pc c) in
-        map-append (placed x y) ps (statements_pieces number at (t + statement_width c) (pc + length ps) cs)
-        ∙ ap₂ (λ (u v : List Step). u ++ v) (statement_placed t pc c) (statements_placed (t + statement_width c) (pc + length ps) cs)
-        ∙ ap (λ (z : ℕ). is ++ statements_code number at (t + statement_width c) x y (pc + z) cs) n
+        map-append (placed x y) ps (statements_pieces number at t (pc + length ps) cs)
+        ∙ ap₂ (λ (u v : List Step). u ++ v) (statement_placed t pc c) (statements_placed t (pc + length ps) cs)
+        ∙ ap (λ (z : ℕ). is ++ statements_code number at t x y (pc + z) cs) n
 
   -- how long they are hangs on no place
   pub statement_as_long : (t pc : ℕ) (c : TypedStatementTree) → length (statement_pieces number at t pc c) ≡ length (statement_code number at t 0 0 0 c)

@@ -1,15 +1,17 @@
 // The code of functions.
-ghost use Rattle.std.specs.Prelude.{◌≡◌, ◌++◌, IfOk, OnOk, false, map};
+ghost use Rattle.std.specs.Prelude.{◌≡◌, ◌++◌, IfOk, OnOk, length, map};
 ghost use Rattle.typed_tree.specs.Programs.{typed_function_tree};
-ghost use Rattle.code_model.specs.Statements.{default_kinds, defaults_behind};
-ghost use Rattle.code_model.specs.Kinds.{kind_of, slot_kind};
+ghost use Rattle.code_model.specs.Statements.{defaults_behind};
+ghost use Rattle.code_model.specs.Kinds.{kind_of, rows_kinds, shape_kinds, slot_kind};
 ghost use Rattle.typed_tree.specs.Shapes.{shape_of};
-ghost use Rattle.code_model.specs.Programs.{function_code, given_kind, nothing_code};
+ghost use Rattle.code_model.specs.Programs.{function_code, given_kind, last_kinds, last_step, nothing_code};
+ghost use Rattle.lowered_expressions.specs.Built.{with_step};
 ghost use Rattle.lowered_expressions.specs.Views.{built, here_of, numbers_of, piece_seen, step_seen};
-ghost use Rattle.lowering.specs.inner.Pieces.{placed, with_last};
+ghost use Rattle.lowering.specs.inner.Pieces.{placed};
 ghost use Rattle.lowering.specs.inner.Views.{function_seen};
 
 use crate::place::LoweringContext;
+use crate::rows::statements_depth;
 use crate::statements::statements;
 use bytecode::Kind;
 use lowered_expressions::{Around, Body, BodyPiece, Step, kind_of};
@@ -44,22 +46,33 @@ fn given_kind(binding: &[BoundDomain], given: Returned) -> Option<Kind>
     }
 }
 
-fn public_kind(element: DataType, array: bool) -> Kind
-    ensures { result ≡ kind_of false (shape_of element array) }
+fn shape_kind(secret: bool, element: DataType, array: bool) -> Kind
+    ensures { result ≡ kind_of secret (shape_of element array) }
 {
-    kind_of(false, Shape { element, array })
+    kind_of(secret, Shape { element, array })
 }
 
-// A register of each shape behind the slots, which nothing writes.
-fn push_defaults(registers: &mut Vec<Kind>) -> Result<(), AllocError>
-    ensures { OnOk result (registers.new.items ≡ registers.old.items ++ default_kinds) }
+// A register of each shape.
+fn push_shapes(registers: &mut Vec<Kind>, secret: bool) -> Result<(), AllocError>
+    ensures { OnOk result (registers.new.items ≡ registers.old.items ++ shape_kinds secret) }
 {
     registers.extend_from_slice(&[
-        public_kind(DataType::Uint64, false),
-        public_kind(DataType::Uint64, true),
-        public_kind(DataType::Bool, false),
-        public_kind(DataType::Bool, true),
+        shape_kind(secret, DataType::Uint64, false),
+        shape_kind(secret, DataType::Uint64, true),
+        shape_kind(secret, DataType::Bool, false),
+        shape_kind(secret, DataType::Bool, true),
     ])
+}
+
+// So many rows of registers for values on their way.
+fn push_rows(registers: &mut Vec<Kind>, rows: usize) -> Result<(), AllocError>
+    ensures { OnOk result (registers.new.items ≡ registers.old.items ++ rows_kinds rows) }
+{
+    for row in 0..rows {
+        push_shapes(registers, false)?;
+        push_shapes(registers, true)?;
+    }
+    Ok(())
 }
 
 // The kinds of the slots.
@@ -77,7 +90,7 @@ fn slot_kinds(
     Ok(kinds)
 }
 
-// The registers in front of those of the body: the slots, and behind them those of the defaults, if there is a slot.
+// The registers in front of the rows: the slots, and behind them those of the defaults, which nothing writes, if there is a slot.
 fn first_registers(
     alloc: Global,
     binding: &[BoundDomain],
@@ -87,7 +100,7 @@ fn first_registers(
 {
     let mut registers = slot_kinds(alloc, binding, slots)?;
     if !slots.is_empty() {
-        push_defaults(&mut registers)?;
+        push_shapes(&mut registers, false)?;
     }
     Ok(registers)
 }
@@ -95,15 +108,18 @@ fn first_registers(
 // The last step: nothing is given back, or a register that nothing writes.
 fn push_last(
     body: &mut Body<'_>,
+    registers: &mut Vec<Kind>,
     binding: &[BoundDomain],
     given: Returned,
 ) -> Result<(), AllocError>
-    ensures { OnOk result (built body.new ≡ with_last (built body.old) binding.now given) }
+    ensures body { OnOk result (built body.new ≡ with_step (built body.old) (last_step given (length registers.old.items))) }
+    ensures registers { OnOk result (registers.new.items ≡ registers.old.items ++ last_kinds binding.now given) }
 {
     match given {
         Returned::Nothing => body.push(Step::ReturnNone),
         Returned::Value(slot) => {
-            let source = body.fresh(slot_kind(binding, slot))?;
+            let source = registers.len();
+            registers.push(slot_kind(binding, slot))?;
             body.push(Step::Return { source })
         }
     }
@@ -149,15 +165,16 @@ pub fn function_steps<'p>(
         around: *around,
         secret_result: given_domain(binding, function.given).is_private(),
     };
-    let registers = first_registers(around.alloc, binding, &function.slots)?;
+    let mut registers = first_registers(around.alloc, binding, &function.slots)?;
+    let rows = statements_depth(&function.body)?;
+    push_rows(&mut registers, rows)?;
     let mut body = Body {
-        registers,
         pieces: Vec::new(around.alloc),
     };
     statements(&mut body, &at, &function.body)?;
     let end = body.next_place();
-    push_last(&mut body, binding, function.given)?;
-    let Body { registers, pieces } = body;
+    push_last(&mut body, &mut registers, binding, function.given)?;
+    let Body { pieces } = body;
     let steps = all_placed(around.alloc, pieces, end)?;
     Ok(FunctionSteps {
         parameters: function.parameters,

@@ -8,6 +8,7 @@ mod lists;
 mod naming;
 mod place;
 mod programs;
+mod rows;
 mod settling;
 mod simple_statements;
 mod statements;

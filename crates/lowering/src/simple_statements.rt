@@ -10,9 +10,10 @@ ghost use Rattle.lowering.specs.inner.Pieces.{with_statement};
 ghost use Rattle.lowering.specs.inner.Views.{numbers_at, place_seen};
 
 use crate::place::LoweringContext;
+use crate::rows::first_row;
 use lowered_expressions::{
-    Around, Body, Step, WantedOperand, argument, call, expression, given_to, kind, kind_of, lacks,
-    operand, private_kind, wanted,
+    Around, Body, CallHead, Step, WantedOperand, call, expression, given_to, in_row, kind, kind_of,
+    lacks, next_row, operand, wanted,
 };
 use reached_instances::{slot_is_private, slot_shape};
 use sc_text::Name;
@@ -32,7 +33,8 @@ pub fn returning(
     let Some(e) = e else {
         return body.push(Step::ReturnNone);
     };
-    let source = argument(body, &at.around, at.secret_result, e)?;
+    let row = first_row(&at.around.here);
+    let source = operand(body, &at.around, at.secret_result, row, e)?;
     body.push(Step::Return { source })
 }
 
@@ -46,7 +48,7 @@ pub fn assertion(
     ensures { OnOk result (built body.new ≡
         with_leaf (numbers_of around.now) (here_of around.now) (built body.old) (assert_statement line (typed_tree e.now))) }
 {
-    let condition = expression(body, around, e)?;
+    let condition = expression(body, around, first_row(&around.here), e)?;
     body.push(Step::Assert { line, condition })
 }
 
@@ -60,7 +62,7 @@ pub fn publishing<'p>(
     ensures { OnOk result (built body.new ≡
         with_leaf (numbers_of around.now) (here_of around.now) (built body.old) (publish_statement text.now (typed_tree e.now))) }
 {
-    let source = expression(body, around, e)?;
+    let source = expression(body, around, first_row(&around.here), e)?;
     body.push(Step::Publish { text, source })
 }
 
@@ -75,7 +77,7 @@ pub fn store(
         with_leaf (numbers_of around.now) (here_of around.now) (built body.old) (store_statement slot (typed_tree e.now))) }
 {
     let private = slot_is_private(&around.here, slot);
-    let source = argument(body, around, private, e)?;
+    let source = operand(body, around, private, first_row(&around.here), e)?;
     body.push(Step::Store { to: slot, source })
 }
 
@@ -102,7 +104,7 @@ pub fn default_store(
 {
     let here = &around.here;
     let shape = slot_shape(here, slot);
-    let classified = body.fresh(kind_of(true, shape))?;
+    let classified = in_row(first_row(here), kind_of(true, shape))?;
     let source = wanted(
         body,
         WantedOperand {
@@ -127,7 +129,7 @@ pub fn input<'p>(
 {
     let here = &around.here;
     let kind = kind_of(slot_is_private(here, slot), slot_shape(here, slot));
-    let to = body.fresh(kind)?;
+    let to = in_row(first_row(here), kind)?;
     body.push(Step::Argument {
         line,
         kind,
@@ -189,9 +191,10 @@ pub fn pair_store(
         (pair_statement store.pair store.line store.slot (typed_tree number.now) (typed_tree e.now))) }
 {
     let private = slot_is_private(&around.here, store.slot);
-    let classified = body.fresh(private_kind(&around.here, e))?;
-    let first = expression(body, around, number)?;
-    let second = operand(body, around, private, classified, e)?;
+    let row = first_row(&around.here);
+    let behind = next_row(row)?;
+    let first = expression(body, around, row, number)?;
+    let second = operand(body, around, private, behind, e)?;
     body.push(pair_step(store, first, second))
 }
 
@@ -204,11 +207,16 @@ pub fn unread(
     ensures { OnOk result (built body.new ≡
         with_leaf (numbers_of around.now) (here_of around.now) (built body.old) (evaluate_statement (typed_tree e.now))) }
 {
+    let row = first_row(&around.here);
     let TypedExpression::Call(line, function, list) = e else {
-        expression(body, around, e)?;
+        expression(body, around, row, e)?;
         return Ok(());
     };
-    let own = body.fresh(kind(around.alloc, &around.here, e)?)?;
-    let to = given_to(&around.here, *function, own);
-    call(body, around, *line, *function, to, list)
+    let own = in_row(row, kind(around.alloc, &around.here, e)?)?;
+    let head = CallHead {
+        line: *line,
+        function: *function,
+        to: given_to(&around.here, *function, own),
+    };
+    call(body, around, head, row, list)
 }

@@ -7,6 +7,7 @@ ghost use Rattle.lowering.specs.inner.Pieces.{with_statement, with_statements};
 ghost use Rattle.lowering.specs.inner.Views.{numbers_at, place_seen};
 
 use crate::place::LoweringContext;
+use crate::rows::first_row;
 use crate::settling::{push, settle};
 use crate::simple_statements::{
     Pair, PairStore, assertion, default_store, input, pair_store, publishing, returning, store,
@@ -16,7 +17,7 @@ use lowered_expressions::{Body, BodyPiece, Step, expression};
 use std::alloc::AllocError;
 use typed_tree::{TypedExpression, TypedStatement};
 
-/// Puts the registers and the code of a statement behind a body. An error comes where memory runs short.
+/// Puts the code of a statement behind a body. An error comes where memory runs short.
 #[cycle(statements)]
 fn statement<'p>(
     body: &mut Body<'p>,
@@ -87,7 +88,7 @@ fn choice<'p>(
     ensures { OnOk result (built body.new ≡ with_statement (numbers_at at.now) (place_seen at.now) (built body.old)
         (if_statement (typed_tree e.now) (typed_statement first.now) (typed_statement second.now))) }
 {
-    let condition = expression(body, &at.around, e)?;
+    let condition = expression(body, &at.around, first_row(&at.around.here), e)?;
     let branch = body.next_place();
     body.push(Step::ReturnNone)?;
     statement(body, at, first)?;
@@ -127,7 +128,7 @@ fn turns<'p>(
     let onward = body.next_place();
     statement(body, at, step)?;
     let test = body.next_place();
-    let condition = expression(body, &at.around, e)?;
+    let condition = expression(body, &at.around, first_row(&at.around.here), e)?;
     body.push(Step::Branch {
         condition,
         value: true,
@@ -154,7 +155,7 @@ fn repeats<'p>(
     let start = body.next_place();
     statement(body, at, repeated)?;
     let test = body.next_place();
-    let condition = expression(body, &at.around, e)?;
+    let condition = expression(body, &at.around, first_row(&at.around.here), e)?;
     body.push(Step::Branch {
         condition,
         value: true,

@@ -1,5 +1,5 @@
 -- The code of a tree says what the tree says: each step's word, line and name is one of the tree's, or a truth value, or no line.
-use Rattle.std.proofs.Common.{◌≡◌, ℕ, zero, suc, ◌+◌, List, [], ◌∷◌, ◌++◌, length, Option, Some, None, Bool, true, false, map, refl, sym, subst, inl, inr}
+use Rattle.std.proofs.Common.{◌≡◌, ℕ, zero, suc, ◌+◌, ◌*◌, List, [], ◌∷◌, ◌++◌, length, Option, Some, None, Bool, true, false, map, refl, sym, subst, inl, inr}
 use Rattle.std.specs.Prelude.{slice_get, IsTrue}
 use Rattle.std.proofs.lemmas.Option.{none-some, same_Some}
 use Rattle.sc_text.specs.Lists.{Among}
@@ -30,11 +30,11 @@ use Rattle.code_model.specs.Evaluation.{next_is_private, behind_next}
 use Rattle.code_model.specs.Evaluation.{connective, either}
 use Rattle.verified_code.specs.Steps.{Step, Function, Literal, Move, Store, Binary, Not, Cast, Classify, Fill, At, Put, Size, Cat, Sum, Bits, Declassify}
 use Rattle.verified_code.specs.Steps.{Argument, Publish, Assert, Branch, Jump, Call, Return, ReturnNone}
-use Rattle.code_model.specs.Kinds.{width, kind_of}
+use Rattle.code_model.specs.Kinds.{kind_of, truth_kind, in_row}
 use Rattle.code_model.specs.Kinded.{IsIn}
 use Rattle.code_model.specs.Expressions.{Numbers, result_at, classifying, picked, lacks, mixes, binary_code, cat_code, deciding, settling, cut_code}
-use Rattle.code_model.specs.Expressions.{stands_at, expression_code, arguments_code, arguments_places, unread_code}
-use Rattle.code_model.specs.Statements.{shape_number, first_free, statement_width, statements_width, if_code, loop_code, do_code, behind_classifying}
+use Rattle.code_model.specs.Expressions.{own_at, classified_at, stands_at, next_row, expression_code, arguments_code, arguments_places, unread_code}
+use Rattle.code_model.specs.Statements.{shape_number, first_free, statements_depth, if_code, loop_code, do_code, behind_classifying}
 use Rattle.code_model.specs.Statements.{statement_code, statements_code}
 use Rattle.code_model.specs.Programs.{last_step, body_end, function_code, numbers_in, code_of_found, instance_code, code_of}
 use Rattle.said_code.specs.Says.{TreeSays, TreesSay, StatementSays, StatementsSay, InstancesSay, StepSays}
@@ -108,26 +108,26 @@ module _ (is_word is_line : ℕ → Bool) (is_text : List ℕ → Bool) where
     truth_says true = one_word
     truth_says false = zero_word
 
-    binary_says : (t v u pc line : ℕ) (op : BinaryOperator) (ds : Operands) (ga gb : Bool) (ca : List Step) (cb : ℕ → List Step)
-        → IsTrue (is_line line) → AllSay ca → ((p : ℕ) → AllSay (cb p)) → AllSay (binary_code t v u pc line op ds ga gb ca cb)
-    binary_says t v u pc line op ds ga gb ca cb l a b =
-        both a (both (b (pc + length ca)) (both (classifying_says (mixes op ga gb) (t + 1) v) (both (classifying_says (mixes op gb ga) (t + 2) u)
-        (one (Binary line op ds t (picked (mixes op ga gb) (t + 1) v) (picked (mixes op gb ga) (t + 2) u)) l))))
+    binary_says : (d m n v u pc line : ℕ) (op : BinaryOperator) (ds : Operands) (ga gb : Bool) (ca : List Step) (cb : ℕ → List Step)
+        → IsTrue (is_line line) → AllSay ca → ((p : ℕ) → AllSay (cb p)) → AllSay (binary_code d m n v u pc line op ds ga gb ca cb)
+    binary_says d m n v u pc line op ds ga gb ca cb l a b =
+        both a (both (b (pc + length ca)) (both (classifying_says (mixes op ga gb) m v) (both (classifying_says (mixes op gb ga) n u)
+        (one (Binary line op ds d (picked (mixes op ga gb) m v) (picked (mixes op gb ga) n u)) l))))
 
-    cat_says : (t v u pc line : ℕ) (l r : Bool) (ca : List Step) (cb : ℕ → List Step) → IsTrue (is_line line) → AllSay ca → ((p : ℕ) → AllSay (cb p))
-        → AllSay (cat_code t v u pc line l r ca cb)
-    cat_says t v u pc line l r ca cb h a b =
-        both a (both (classifying_says l (t + 1) v) (both (b (pc + length ca + length (classifying l (t + 1) v)))
-        (both (classifying_says r (t + 2) u) (one (Cat line t (picked l (t + 1) v) (picked r (t + 2) u)) h))))
+    cat_says : (d m n v u pc line : ℕ) (l r : Bool) (ca : List Step) (cb : ℕ → List Step) → IsTrue (is_line line) → AllSay ca → ((p : ℕ) → AllSay (cb p))
+        → AllSay (cat_code d m n v u pc line l r ca cb)
+    cat_says d m n v u pc line l r ca cb h a b =
+        both a (both (classifying_says l m v) (both (b (pc + length ca + length (classifying l m v)))
+        (both (classifying_says r n u) (one (Cat line d (picked l m v) (picked r n u)) h))))
 
-    cut_says : (t v u pc : ℕ) (c : Connective) (secret : Bool) (ca : List Step) (cb : ℕ → List Step) → AllSay ca → ((p : ℕ) → AllSay (cb p))
-        → AllSay (cut_code t v u pc c secret ca cb)
-    cut_says t v u pc c secret ca cb a b =
+    cut_says : (d q v u pc : ℕ) (c : Connective) (secret : Bool) (ca : List Step) (cb : ℕ → List Step) → AllSay ca → ((p : ℕ) → AllSay (cb p))
+        → AllSay (cut_code d q v u pc c secret ca cb)
+    cut_says d q v u pc c secret ca cb a b =
         let pb = pc + length ca + 1 in
         let pd = pb + length (cb pb) + 2 in
-        both a (then_all (Branch v (deciding c) pd) tt (both (b pb) (then_all (Move t u) tt (then_all (Jump (pd + 2)) tt
-        (then_all (Literal (t + 1) datatype.Bool (truth_word (deciding c))) (truth_says (deciding c))
-        (one (settling secret t (t + 1)) (settling_says secret t (t + 1))))))))
+        both a (then_all (Branch v (deciding c) pd) tt (both (b pb) (then_all (Move d u) tt (then_all (Jump (pd + 2)) tt
+        (then_all (Literal q datatype.Bool (truth_word (deciding c))) (truth_says (deciding c))
+        (one (settling secret d q) (settling_says secret d q)))))))
 
     module _ (number : Numbers) (here : Setting) where
       abbrev bound_of : ℕ → TypedTrees → List BoundDomain
@@ -138,72 +138,77 @@ module _ (is_word is_line : ℕ → Bool) (is_text : List ℕ → Bool) where
 
       mutual
         pub expression_says : (e : TypedTree) (t pc : ℕ) → TreeSays is_word is_line is_text e → AllSay (expression_code number here t pc e)
-        expression_says (word_node n) t pc h = one (Literal t Uint64 n) h
-        expression_says (truth_node b) t pc h = one (Literal t datatype.Bool (truth_word b)) (truth_says b)
+        expression_says (word_node n) t pc h = one (Literal (own_at here (word_node n) t) Uint64 n) h
+        expression_says (truth_node b) t pc h = one (Literal (own_at here (truth_node b) t) datatype.Bool (truth_word b)) (truth_says b)
         expression_says (slot_node k) t pc h = nothing
         expression_says (call_node line k es) t pc h =
-            both (arguments_say (bound_of k es) (slots_at k) es (t + 1) pc h.1)
-            (one (Call line (number k (bound_of k es)) (Some t) (arguments_places number here (bound_of k es) (slots_at k) (t + 1) es)) h.0)
-        expression_says (size_node e) t pc h = both (expression_says e (t + 1) pc h)
-            (one (Size t (stands_at e (t + 1))) tt)
+            both (arguments_say (bound_of k es) (slots_at k) es t pc h.1)
+            (one (Call line (number k (bound_of k es)) (Some (own_at here (call_node line k es) t)) (arguments_places number here (bound_of k es) (slots_at k) t es))
+            h.0)
+        expression_says (size_node e) t pc h = both (expression_says e t pc h)
+            (one (Size (own_at here (size_node e) t) (stands_at here e t)) tt)
         expression_says (cat_node line a b) t pc h =
             let g = gives_private here (cat_node line a b) in
-            let u = t + 3 + width a in
-            cat_says t (stands_at a (t + 3)) (stands_at b u) pc line (lacks g (gives_private here a)) (lacks g (gives_private here b))
-            (expression_code number here (t + 3) pc a) (λ p. expression_code number here u p b) h.0
-            (expression_says a (t + 3) pc h.1) (λ p. expression_says b u p h.2)
-        expression_says (sum_node e) t pc h = both (expression_says e (t + 1) pc h)
-            (one (Sum t (stands_at e (t + 1))) tt)
+            let u = next_row t in
+            cat_says (own_at here (cat_node line a b) t) (classified_at here a t) (classified_at here b u) (stands_at here a t) (stands_at here b u) pc line
+            (lacks g (gives_private here a)) (lacks g (gives_private here b))
+            (expression_code number here t pc a) (λ p. expression_code number here u p b) h.0
+            (expression_says a t pc h.1) (λ p. expression_says b u p h.2)
+        expression_says (sum_node e) t pc h = both (expression_says e t pc h)
+            (one (Sum (own_at here (sum_node e) t) (stands_at here e t)) tt)
         expression_says (bits_node line e) t pc h =
-            both (expression_says e (t + 1) pc h.1) (one (Bits line t (stands_at e (t + 1))) h.0)
+            both (expression_says e t pc h.1) (one (Bits line (own_at here (bits_node line e) t) (stands_at here e t)) h.0)
         expression_says (element_node line a i) t pc h =
-            let u = t + 1 + width a in
-            let ca = expression_code number here (t + 1) pc a in
-            both (expression_says a (t + 1) pc h.1)
+            let u = next_row t in
+            let ca = expression_code number here t pc a in
+            both (expression_says a t pc h.1)
             (both (expression_says i u (pc + length ca) h.2)
-            (one (At line t (stands_at a (t + 1)) (stands_at i u)) h.0))
-        expression_says (not_node e) t pc h = both (expression_says e (t + 1) pc h)
-            (one (Not t (stands_at e (t + 1))) tt)
+            (one (At line (own_at here (element_node line a i) t) (stands_at here a t) (stands_at here i u)) h.0))
+        expression_says (not_node e) t pc h = both (expression_says e t pc h)
+            (one (Not (own_at here (not_node e) t) (stands_at here e t)) tt)
         expression_says (cast_node c e) t pc h =
-            both (expression_says e (t + 1) pc h) (one (Cast c t (stands_at e (t + 1))) tt)
+            both (expression_says e t pc h) (one (Cast c (own_at here (cast_node c e) t) (stands_at here e t)) tt)
         expression_says (binary_node line op ds a b) t pc h =
-            let u = t + 3 + width a in
-            binary_says t (stands_at a (t + 3)) (stands_at b u) pc line op ds (gives_private here a) (gives_private here b)
-            (expression_code number here (t + 3) pc a) (λ p. expression_code number here u p b) h.0
-            (expression_says a (t + 3) pc h.1) (λ p. expression_says b u p h.2)
+            let u = next_row t in
+            binary_says (own_at here (binary_node line op ds a b) t) (classified_at here a t) (classified_at here b u) (stands_at here a t)
+            (stands_at here b u) pc line op ds (gives_private here a) (gives_private here b)
+            (expression_code number here t pc a) (λ p. expression_code number here u p b) h.0
+            (expression_says a t pc h.1) (λ p. expression_says b u p h.2)
         expression_says (cut_node c a b) t pc h =
-            let v = stands_at a (t + 3) in
-            let u = t + 3 + width a in
-            let ub = stands_at b u in
-            let ca = expression_code number here (t + 3) pc a in
+            let v = stands_at here a t in
+            let u = next_row t in
+            let ub = stands_at here b u in
+            let d = own_at here (cut_node c a b) t in
+            let ca = expression_code number here t pc a in
             let cb = λ (p : ℕ). expression_code number here u p b in
-            let sa = expression_says a (t + 3) pc h.0 in
+            let sa = expression_says a t pc h.0 in
             let sb = λ (p : ℕ). expression_says b u p h.1 in
             either_say (gives_private here a)
-            (binary_says t v ub pc 0 (binary.Bools (connective c)) Scalars (gives_private here a) (gives_private here b) ca cb no_line sa sb)
-            (cut_says t v ub pc c (gives_private here b) ca cb sa sb)
+            (binary_says d (classified_at here a t) (classified_at here b u) v ub pc 0 (binary.Bools (connective c)) Scalars (gives_private here a) (gives_private here b) ca cb no_line sa sb)
+            (cut_says d (in_row t (truth_kind false)) v ub pc c (gives_private here b) ca cb sa sb)
         expression_says (declassify_node e) t pc h =
-            both (expression_says e (t + 1) pc h) (one (Declassify t (stands_at e (t + 1))) tt)
+            both (expression_says e t pc h) (one (Declassify (own_at here (declassify_node e) t) (stands_at here e t)) tt)
 
         arguments_say : (b : List BoundDomain) (ss : List Slot) (es : TypedTrees) (t pc : ℕ) → TreesSay is_word is_line is_text es
             → AllSay (arguments_code number here b ss t pc es)
         arguments_say b ss Tree'.none t pc h = nothing
         arguments_say b ss (Tree'.also e es) t pc h =
-            let ce = expression_code number here (t + 1) pc e in
+            let ce = expression_code number here t pc e in
             let w = lacks (next_is_private b ss) (gives_private here e) in
-            let r = stands_at e (t + 1) in
-            let cl = classifying w t r in
-            both (expression_says e (t + 1) pc h.0) (both (classifying_says w t r)
-            (arguments_say b (behind_next ss) es (t + 1 + width e) (pc + length ce + length cl) h.1))
+            let r = stands_at here e t in
+            let m = classified_at here e t in
+            let cl = classifying w m r in
+            both (expression_says e t pc h.0) (both (classifying_says w m r)
+            (arguments_say b (behind_next ss) es (next_row t) (pc + length ce + length cl) h.1))
 
       unread_says : (e : TypedTree) (t pc : ℕ) → TreeSays is_word is_line is_text e → AllSay (unread_code number here t pc e)
       unread_says (word_node n) t pc h = expression_says (word_node n) t pc h
       unread_says (truth_node b) t pc h = expression_says (truth_node b) t pc h
       unread_says (slot_node k) t pc h = expression_says (slot_node k) t pc h
       unread_says (call_node line k es) t pc h =
-          both (arguments_say (bound_of k es) (slots_at k) es (t + 1) pc h.1)
-          (one (Call line (number k (bound_of k es)) (result_at (slice_get here.functions k) t)
-          (arguments_places number here (bound_of k es) (slots_at k) (t + 1) es)) h.0)
+          both (arguments_say (bound_of k es) (slots_at k) es t pc h.1)
+          (one (Call line (number k (bound_of k es)) (result_at (slice_get here.functions k) (own_at here (call_node line k es) t))
+          (arguments_places number here (bound_of k es) (slots_at k) t es)) h.0)
       unread_says (size_node e) t pc h = expression_says (size_node e) t pc h
       unread_says (cat_node line a b) t pc h = expression_says (cat_node line a b) t pc h
       unread_says (sum_node e) t pc h = expression_says (sum_node e) t pc h
@@ -248,51 +253,48 @@ module _ (is_word is_line : ℕ → Bool) (is_text : List ℕ → Bool) where
         statement_says empty_statement t x y pc h = nothing
         statement_says (block_statement cs) t x y pc h = statements_say cs t x y pc h
         statement_says (if_statement e a b) t x y pc h =
-            let ta = t + width e in
-            if_says pc (stands_at e t) (code_of_tree t pc e) (λ p. statement_code number at ta x y p a)
-            (λ p. statement_code number at (ta + statement_width a) x y p b)
-            (tree e t pc h.0) (λ p. statement_says a ta x y p h.1) (λ p. statement_says b (ta + statement_width a) x y p h.2)
+            if_says pc (stands_at at.here e t) (code_of_tree t pc e) (λ p. statement_code number at t x y p a)
+            (λ p. statement_code number at t x y p b)
+            (tree e t pc h.0) (λ p. statement_says a t x y p h.1) (λ p. statement_says b t x y p h.2)
         statement_says (loop_statement e step body) t x y pc h =
-            let ts = t + statement_width body in
-            let te = ts + statement_width step in
             let py = pc + 1 + length (statement_code number at t 0 0 0 body) in
-            let pt = py + length (statement_code number at ts 0 0 0 step) in
-            let px = pt + length (code_of_tree te 0 e) + 1 in
-            loop_says pc (stands_at e te) (λ p. code_of_tree te p e) (λ p. statement_code number at t px py p body)
-            (λ p. statement_code number at ts px pt p step)
-            (λ p. tree e te p h.0) (λ p. statement_says body t px py p h.2) (λ p. statement_says step ts px pt p h.1)
+            let pt = py + length (statement_code number at t 0 0 0 step) in
+            let px = pt + length (code_of_tree t 0 e) + 1 in
+            loop_says pc (stands_at at.here e t) (λ p. code_of_tree t p e) (λ p. statement_code number at t px py p body)
+            (λ p. statement_code number at t px pt p step)
+            (λ p. tree e t p h.0) (λ p. statement_says body t px py p h.2) (λ p. statement_says step t px pt p h.1)
         statement_says (do_statement body e) t x y pc h =
-            let te = t + statement_width body in
             let pt = pc + length (statement_code number at t 0 0 0 body) in
-            let px = pt + length (code_of_tree te 0 e) + 1 in
-            do_says pc (stands_at e te) (λ p. code_of_tree te p e) (λ p. statement_code number at t px pt p body) (λ p. tree e te p h.1)
+            let px = pt + length (code_of_tree t 0 e) + 1 in
+            do_says pc (stands_at at.here e t) (λ p. code_of_tree t p e) (λ p. statement_code number at t px pt p body) (λ p. tree e t p h.1)
             (λ p. statement_says body t px pt p h.0)
         statement_says break_statement t x y pc h = one (Jump x) tt
         statement_says continue_statement t x y pc h = one (Jump y) tt
         statement_says (return_statement None) t x y pc h = one ReturnNone tt
         statement_says (return_statement (Some e)) t x y pc h =
-            both (tree e (t + 1) pc h) (behind_says at.secret_result (gives_private at.here e) t (stands_at e (t + 1)) Return (λ r. tt))
-        statement_says (assert_statement line e) t x y pc h = both (tree e t pc h.1) (one (Assert line (stands_at e t)) h.0)
+            both (tree e t pc h) (behind_says at.secret_result (gives_private at.here e) (classified_at at.here e t) (stands_at at.here e t) Return (λ r. tt))
+        statement_says (assert_statement line e) t x y pc h = both (tree e t pc h.1) (one (Assert line (stands_at at.here e t)) h.0)
         statement_says (store_statement k e) t x y pc h =
-            both (tree e (t + 1) pc h)
-            (behind_says (slot_is_private at.here k) (gives_private at.here e) t (stands_at e (t + 1)) (Store k) (λ r. tt))
+            both (tree e t pc h)
+            (behind_says (slot_is_private at.here k) (gives_private at.here e) (classified_at at.here e t) (stands_at at.here e t) (Store k) (λ r. tt))
         statement_says (default_statement k) t x y pc h =
-            behind_says (slot_is_private at.here k) false t (length at.here.slots + shape_number (slot_shape at.here k)) (Store k) (λ r. tt)
+            behind_says (slot_is_private at.here k) false (in_row t (kind_of true (slot_shape at.here k))) (length at.here.slots + shape_number (slot_shape at.here k)) (Store k) (λ r. tt)
         statement_says (fill_statement line k n e) t x y pc h =
-            let u = t + 1 + width n in
-            let cn = code_of_tree (t + 1) pc n in
-            both (tree n (t + 1) pc h.1) (both (tree e u (pc + length cn) h.2)
-            (behind_says (slot_is_private at.here k) (gives_private at.here e) t (stands_at e u) (Fill line k (stands_at n (t + 1)))
+            let u = next_row t in
+            let cn = code_of_tree t pc n in
+            both (tree n t pc h.1) (both (tree e u (pc + length cn) h.2)
+            (behind_says (slot_is_private at.here k) (gives_private at.here e) (classified_at at.here e u) (stands_at at.here e u) (Fill line k (stands_at at.here n t))
             (λ r. h.0)))
         statement_says (input_statement line k text) t x y pc h =
-            then_all (Argument line (kind_of (slot_is_private at.here k) (slot_shape at.here k)) text t) h (one (Store k t) tt)
+            let kind = kind_of (slot_is_private at.here k) (slot_shape at.here k) in
+            then_all (Argument line kind text (in_row t kind)) h (one (Store k (in_row t kind)) tt)
         statement_says (element_statement line k i e) t x y pc h =
-            let u = t + 1 + width i in
-            let ci = code_of_tree (t + 1) pc i in
-            both (tree i (t + 1) pc h.1) (both (tree e u (pc + length ci) h.2)
-            (behind_says (slot_is_private at.here k) (gives_private at.here e) t (stands_at e u) (Put line k (stands_at i (t + 1)))
+            let u = next_row t in
+            let ci = code_of_tree t pc i in
+            both (tree i t pc h.1) (both (tree e u (pc + length ci) h.2)
+            (behind_says (slot_is_private at.here k) (gives_private at.here e) (classified_at at.here e u) (stands_at at.here e u) (Put line k (stands_at at.here i t))
             (λ r. h.0)))
-        statement_says (publish_statement text e) t x y pc h = both (tree e t pc h.1) (one (Publish text (stands_at e t)) h.0)
+        statement_says (publish_statement text e) t x y pc h = both (tree e t pc h.1) (one (Publish text (stands_at at.here e t)) h.0)
         statement_says (evaluate_statement e) t x y pc h = unread_says number at.here e t pc h
 
         pub statements_say : (cs : TypedStatementTrees) (t x y pc : ℕ) → StatementsSay is_word is_line is_text cs
@@ -300,7 +302,7 @@ module _ (is_word is_line : ℕ → Bool) (is_text : List ℕ → Bool) where
         statements_say Statements'.none t x y pc h = nothing
         statements_say (Statements'.also c cs) t x y pc h =
             let code = statement_code number at t x y pc c in
-            both (statement_says c t x y pc h.0) (statements_say cs (t + statement_width c) x y (pc + length code) h.1)
+            both (statement_says c t x y pc h.0) (statements_say cs t x y (pc + length code) h.1)
 
     -- ---- FUNCTIONS
 
@@ -312,7 +314,7 @@ module _ (is_word is_line : ℕ → Bool) (is_text : List ℕ → Bool) where
         → StatementsSay is_word is_line is_text f.body → AllSay (function_code number fs f b).steps
     function_says number fs f b h =
         let end = body_end number fs f b in
-        let r = first_free f.slots + statements_width f.body in
+        let r = first_free f.slots + 8 * statements_depth f.body in
         both (statements_say number (place_in fs f b) f.body (first_free f.slots) end end 0 h) (one (last_step f.given r) (last_says f.given r))
 
     -- ---- PROGRAMS

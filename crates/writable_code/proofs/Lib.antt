@@ -6,6 +6,7 @@ pub mod Names
 pub mod Fields
 pub mod Resolving
 pub mod Weights
+pub mod Narrow
 pub mod Programs
 pub use Rattle.lowered_code.proofs.Limits
 pub use Rattle.lowered_code.proofs.RegistersOfPrograms

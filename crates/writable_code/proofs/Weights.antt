@@ -11,7 +11,8 @@ use Rattle.reached_instances.specs.declared.instance.BoundDomain.{BoundDomain}
 use Rattle.reached_instances.specs.Instances.{Instance}
 use Rattle.program_limits.specs.Limits.{size_in, sizes}
 use Rattle.code_model.specs.Expressions.{Numbers}
-use Rattle.code_model.specs.Statements.{statements_width}
+use Rattle.code_model.specs.Statements.{statements_depth}
+use Rattle.code_model.proofs.Widths.{statements_width, statements_deep}
 use Rattle.code_model.specs.Programs.{function_code, numbers_in, code_of_found, instance_code, code_of}
 use Rattle.lowered_code.specs.Instructions.{instruction, raw_function, names_of}
 use Rattle.said_code.proofs.Calling.{known_in}
@@ -28,7 +29,7 @@ use Rattle.writable_code.proofs.Making.{body_made}
 pub record IsModest (size : ℕ) (t : TypedFunctionTree) : Type 0 where
   pub steps : two (statements_width t.body) + two (counts t.body) + 1 ≤ 6 * size
   pub typed_statements : counts t.body + 2 ≤ size
-  pub registers : statements_width t.body + length t.slots + 5 ≤ two size + 1
+  pub registers : 8 * statements_depth t.body + length t.slots + 5 ≤ 16 * size
 
 pub function_modest : (d : Declared) (f : FunctionTree) (t : TypedFunctionTree) → typed_function d f ≡ Some t → t.size < 4294967295 → IsModest t.size t
 function_modest d f t e full =
@@ -37,11 +38,12 @@ function_modest d f t e full =
     let registers = sized.registers in
     let own : counted (function_nodes f) < 4294967295 = subst (λ n. n < 4294967295) size full in
     let same = uncounted (function_nodes f) own in
+    let deep = statements_deep t.body in
     let many = body_made (AllAtMost _) d f t (statements_counted d f.body.statements) e in
     record {
       steps = omega (arith, size, same, registers, many);
       typed_statements = omega (arith, size, same, many);
-      registers = omega (arith, size, same, registers);
+      registers = omega (arith, size, same, registers, deep);
     }
 
 function_within : (number : Numbers) (fs : List TypedFunctionTree) (names : List (List ℕ)) (f : TypedFunctionTree) (b : List BoundDomain)
@@ -53,8 +55,7 @@ function_within number fs names f b h =
     let many = length-map (function_code number fs f b).steps (instruction names) in
     let steps = h.steps in
     let registers = h.registers in
-    let some = h.typed_statements in
-    record { instructions = omega (arith, most, many, steps); registers = omega (arith, own, registers, some) }
+    record { instructions = omega (arith, most, many, steps); registers = omega (arith, own, registers) }
 
 -- ---- PROGRAMS
 

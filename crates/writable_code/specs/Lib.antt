@@ -1,3 +1,4 @@
 pub mod Sources
 pub mod Laws
+pub mod Narrow
 pub use Rattle.lowered_code.specs.RawCodes

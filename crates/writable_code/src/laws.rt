@@ -2,6 +2,9 @@
 ghost use Rattle.std.specs.Prelude.{List};
 ghost use Rattle.secrec_ast.specs.Programs.{ProgramTree};
 ghost use Rattle.verified_code.specs.Steps.{Function};
+ghost use Rattle.typed_tree.specs.Programs.{TypedProgramTree};
+ghost use Rattle.reached_instances.specs.Instances.{Instance};
+ghost use Rattle.writable_code.specs.Narrow.{HasNarrowFunctions};
 ghost use Rattle.writable_code.specs.Laws.{IsWritableWhereRight, IsWritableWhereAccepted, IsWithinWeightWhereTyped};
 
 /// Law: the raw code of steps that are right is writable, where it has few functions, few steps in each and few names, and where its
@@ -20,4 +23,10 @@ pub fn accepted_code_is_writable()
 /// weight, which is 16 times the size of the function that the instance is of, where this size is below the largest that is counted.
 pub fn functions_are_within_their_weight()
     ensures { (p : ProgramTree) → IsWithinWeightWhereTyped p }
+{}
+
+/// Law: each function of the raw code of a typed program's instances has at most as many registers as it has parameters and declared
+/// variables, and 128 for each node of the expressions of its largest statement, so that statement after statement uses them again.
+pub fn functions_are_narrow()
+    ensures { (p : TypedProgramTree) (is : List Instance) → HasNarrowFunctions p is }
 {}

@@ -6,5 +6,6 @@
 mod laws;
 
 pub use laws::{
-    accepted_code_is_writable, functions_are_within_their_weight, right_code_is_writable,
+    accepted_code_is_writable, functions_are_narrow, functions_are_within_their_weight,
+    right_code_is_writable,
 };

@@ -5,15 +5,10 @@ use Rattle.typed_tree.specs.Statements.{TypedStatementTree, TypedStatementTrees,
 use Rattle.typed_tree.specs.Statements.{break_statement, continue_statement, return_statement, assert_statement, store_statement, default_statement}
 use Rattle.typed_tree.specs.Statements.{fill_statement, input_statement, element_statement, publish_statement, evaluate_statement}
 use Rattle.typed_tree.specs.Statements as Statements'
-use Rattle.typed_tree.specs.declared.function.Returned.{Returned}
-use Rattle.reached_instances.specs.declared.instance.BoundDomain.{BoundDomain}
 use Rattle.language_model.specs.Evaluation.{StatementContext}
-use Rattle.bytecode.specs.declared.kind.Kind.{Kind}
 use Rattle.verified_code.specs.Steps.{Step, Branch, Jump}
-use Rattle.code_model.specs.Kinds.{width}
 use Rattle.code_model.specs.Expressions.{Numbers, stands_at, expression_code}
-use Rattle.code_model.specs.Statements.{statement_width, statement_code, statement_kinds, statements_kinds}
-use Rattle.code_model.specs.Programs.{last_kinds, last_step}
+use Rattle.code_model.specs.Statements.{first_free, statement_code}
 use Rattle.lowered_expressions.specs.Built.{BodyPiece, whole, break_jump, continue_jump, Built}
 
 -- ---- WHERE BREAKS AND CONTINUES LEAD
@@ -53,9 +48,8 @@ module _ (number : Numbers) (at : StatementContext) where
     pub statement_pieces : (t pc : ℕ) → TypedStatementTree → List BodyPiece
     statement_pieces t pc (block_statement cs) = statements_pieces t pc cs
     statement_pieces t pc (if_statement e a b) =
-        let ta = t + width e in
-        if_pieces pc (stands_at e t) (expression_code number at.here t pc e) (λ p. statement_pieces ta p a)
-        (λ p. statement_pieces (ta + statement_width a) p b)
+        if_pieces pc (stands_at at.here e t) (expression_code number at.here t pc e) (λ p. statement_pieces t p a)
+        (λ p. statement_pieces t p b)
     statement_pieces t pc break_statement = break_jump ∷ []
     statement_pieces t pc continue_statement = continue_jump ∷ []
     statement_pieces t pc c = map whole (statement_code number at t 0 0 pc c)
@@ -64,28 +58,23 @@ module _ (number : Numbers) (at : StatementContext) where
     statements_pieces t pc Statements'.none = []
     statements_pieces t pc (Statements'.also c cs) =
         let pieces = statement_pieces t pc c in
-        pieces ++ statements_pieces (t + statement_width c) (pc + length pieces) cs
+        pieces ++ statements_pieces t (pc + length pieces) cs
 
 -- ---- BEHIND A BODY
 
 abbrev pub with_piece : Built → BodyPiece → Built
-with_piece b p = record { kinds = b.kinds; pieces = b.pieces ++ p ∷ [] }
+with_piece b p = record { pieces = b.pieces ++ p ∷ [] }
 
-abbrev pub with_pieces : Built → List Kind → List BodyPiece → Built
-with_pieces b ks ps = record { kinds = b.kinds ++ ks; pieces = b.pieces ++ ps }
+abbrev pub with_pieces : Built → List BodyPiece → Built
+with_pieces b ps = record { pieces = b.pieces ++ ps }
 
 abbrev pub with_settled : Built → (from count x y : ℕ) → Built
-with_settled b from count x y = record { kinds = b.kinds; pieces = settled_part x y from count b.pieces }
+with_settled b from count x y = record { pieces = settled_part x y from count b.pieces }
 
+-- each statement has registers from the first row on
 module _ (number : Numbers) (at : StatementContext) (b : Built) where
   abbrev pub with_statement : TypedStatementTree → Built
-  with_statement c = with_pieces b (statement_kinds at.here c) (statement_pieces number at (length b.kinds) (length b.pieces) c)
+  with_statement c = with_pieces b (statement_pieces number at (first_free at.here.slots) (length b.pieces) c)
 
   abbrev pub with_statements : TypedStatementTrees → Built
-  with_statements cs = with_pieces b (statements_kinds at.here cs) (statements_pieces number at (length b.kinds) (length b.pieces) cs)
-
--- ---- THE END OF A FUNCTION
-
-abbrev pub with_last : Built → List BoundDomain → Returned → Built
-with_last b binding given =
-    record { kinds = b.kinds ++ last_kinds binding given; pieces = b.pieces ++ whole (last_step given (length b.kinds)) ∷ [] }
+  with_statements cs = with_pieces b (statements_pieces number at (first_free at.here.slots) (length b.pieces) cs)

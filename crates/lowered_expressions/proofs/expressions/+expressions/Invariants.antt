@@ -1,9 +1,9 @@
 use Rattle.std.proofs.Common.{◌≡◌, ◌+◌, ◌*◌, length, take, drop}
 use Rattle.std.specs.Prelude.{map}
 use Rattle.typed_tree.specs.Tree.{typed_tree, typed_trees_of}
-use Rattle.code_model.specs.Kinds.{width, widths, arguments_kinds}
+use Rattle.code_model.proofs.Widths.{width, widths}
 use Rattle.code_model.specs.Expressions.{arguments_code, arguments_places}
-use Rattle.lowered_expressions.specs.Built.{with_code}
+use Rattle.lowered_expressions.specs.Built.{with_steps}
 use Rattle.lowered_expressions.specs.Views.{built, here_of, numbers_of}
 use Rattle.lowered_expressions.specs.inner.Notes.{arguments_notes}
 use Rattle.lowered_expressions.proofs.expressions.+expressions.Given as goal
@@ -47,16 +47,14 @@ decreases-call l = 4 * widths (typed_trees_of (map typed_tree l.list.now.items))
 abbrev pub decreases-arguments : goal.decreases-arguments
 decreases-arguments l = 4 * widths (typed_trees_of (map typed_tree l.list.now.items))
 
-abbrev pub decreases-argument : goal.decreases-argument
-decreases-argument l = 4 * width (typed_tree l.e.now) + 3
-
 abbrev pub invariant-arguments-loop-e : goal.invariant-arguments-loop-e
 invariant-arguments-loop-e l = record {
   rest : l.rest ≡ arguments_notes (here_of l.around) (typed_trees_of (map typed_tree (drop l.e-index l.e-items)));
   count : length l.registers.items ≡ l.e-index;
-  code : built l.body ≡ with_code (built l.initial.body) (arguments_kinds (here_of l.around) (typed_trees_of (map typed_tree (take l.e-index l.e-items))))
-      (arguments_code (numbers_of l.around) (here_of l.around) l.binding l.slots (length (built l.initial.body).kinds) (length (built l.initial.body).pieces)
+  row : l.row ≡ l.first + 8 * l.e-index;
+  code : built l.body ≡ with_steps (built l.initial.body)
+      (arguments_code (numbers_of l.around) (here_of l.around) l.binding l.slots l.first (length (built l.initial.body).pieces)
       (typed_trees_of (map typed_tree (take l.e-index l.e-items))));
-  places : l.registers.items ≡ arguments_places (numbers_of l.around) (here_of l.around) l.binding l.slots (length (built l.initial.body).kinds)
+  places : l.registers.items ≡ arguments_places (numbers_of l.around) (here_of l.around) l.binding l.slots l.first
       (typed_trees_of (map typed_tree (take l.e-index l.e-items)));
 }

@@ -7,7 +7,7 @@ use Rattle.typed_tree.specs.Tree.{typed_tree, typed_trees_of}
 use Rattle.reached_instances.specs.Domains.{domains}
 use Rattle.reached_instances.specs.Views.{setting}
 use Rattle.reached_instances.proofs.Growing.{domains_more}
-use Rattle.code_model.specs.Kinds.{width, widths}
+use Rattle.code_model.proofs.Widths.{width, widths}
 use Rattle.lowered_expressions.specs.inner.Notes.{arguments_notes, notes_of, operands_notes}
 use Rattle.lowered_expressions.proofs.Arguments as several
 use Rattle.lowered_expressions.proofs.Noted.{arguments_notes_more, note_set}

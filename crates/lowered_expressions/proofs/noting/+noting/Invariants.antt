@@ -3,7 +3,7 @@ use Rattle.std.specs.Prelude.{map}
 use Rattle.typed_tree.specs.Tree.{typed_tree, typed_trees_of}
 use Rattle.reached_instances.specs.Domains.{domains}
 use Rattle.reached_instances.specs.Views.{setting}
-use Rattle.code_model.specs.Kinds.{width, widths}
+use Rattle.code_model.proofs.Widths.{width, widths}
 use Rattle.lowered_expressions.specs.inner.Notes.{arguments_notes}
 use Rattle.lowered_expressions.proofs.noting.+noting.Given as goal
 

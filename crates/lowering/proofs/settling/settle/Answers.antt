@@ -11,7 +11,7 @@ loop-place-init c =
     let b = built c.args.body.now in
     let none : c.args.from - c.args.from ≡ 0 = omega arith in
     record {
-      code = ap (body_of b.kinds) (part_begins c.args.break_to c.args.continue_to c.args.from (c.args.from - c.args.from) b.pieces none);
+      code = ap body_of (part_begins c.args.break_to c.args.continue_to c.args.from (c.args.from - c.args.from) b.pieces none);
       many = refl;
     }
 
@@ -28,7 +28,7 @@ loop-place-preserved c =
       code =
           c.settle_one.ensures
           ∙ ap (λ (z : Built). with_settled z k 1 x y) c.loop-place.invariant.code
-          ∙ ap (body_of b.kinds) (part_next x y c.args.from k n (k + 1 - c.args.from) b.pieces there next);
+          ∙ ap body_of (part_next x y c.args.from k n (k + 1 - c.args.from) b.pieces there next);
       many =
           ap (λ (z : Built). length z.pieces) c.settle_one.ensures ∙ part_length x y k 1 (built c.loop-place.body).pieces ∙ c.loop-place.invariant.many;
     }

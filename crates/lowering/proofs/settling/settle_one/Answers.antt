@@ -9,7 +9,7 @@ pub returns-in-Whole : goal.returns-in-Whole
 returns-in-Whole c =
     let b = built c.args.body.now in
     let i = step_seen c.in-Whole.field-0 in
-    ap (body_of b.kinds)
+    ap body_of
     (part_whole c.args.break_to c.args.continue_to c.args.place b.pieces i c.requires
     (seen_at piece_seen c.args.body.now.pieces.items c.args.place c.index.result.now (whole i) c.requires c.index.ensures (ap piece_seen c.in-Whole.is)))
 
@@ -17,7 +17,7 @@ pub returns-in-Break : goal.returns-in-Break
 returns-in-Break c =
     let b = built c.args.body.now in
     c.set.ensures
-    ∙ ap (body_of b.kinds)
+    ∙ ap body_of
     (part_at c.args.break_to c.args.continue_to c.args.place b.pieces break_jump break_jump c.requires
     (seen_at piece_seen c.args.body.now.pieces.items c.args.place c.index.result.now break_jump c.requires c.index.ensures (ap piece_seen c.in-Break.is)))
 
@@ -25,6 +25,6 @@ pub returns-in-Continue : goal.returns-in-Continue
 returns-in-Continue c =
     let b = built c.args.body.now in
     c.set-in-Continue.ensures
-    ∙ ap (body_of b.kinds)
+    ∙ ap body_of
     (part_at c.args.break_to c.args.continue_to c.args.place b.pieces continue_jump continue_jump c.requires
     (seen_at piece_seen c.args.body.now.pieces.items c.args.place c.index.result.now continue_jump c.requires c.index.ensures (ap piece_seen c.in-Continue.is)))

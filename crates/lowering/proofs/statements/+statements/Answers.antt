@@ -1,15 +1,14 @@
-use Rattle.std.proofs.Common.{◌≡◌, ◌+◌, ◌-◌, ◌<◌, true, false, [], ◌∷◌, ◌++◌, length, take, get_or, refl, sym, ap, ◌∙◌, subst, arith, rules}
+use Rattle.std.proofs.Common.{◌≡◌, ℕ, ◌+◌, ◌-◌, ◌<◌, true, false, [], ◌∷◌, ◌++◌, length, take, get_or, refl, sym, ap, ◌∙◌, subst, arith, rules}
 use Rattle.std.specs.Prelude.{map}
 use Rattle.std.proofs.lemmas.List.{take_more, map-append, length-set}
 use Rattle.typed_tree.specs.declared.statement.TypedStatement.{TypedStatement}
 use Rattle.typed_tree.specs.Tree.{typed_tree}
 use Rattle.typed_tree.specs.Statements.{typed_statement, typed_statements_of}
 use Rattle.verified_code.specs.Steps.{Branch, Jump, ReturnNone}
-use Rattle.code_model.specs.Kinds.{width, expression_kinds}
 use Rattle.code_model.specs.Expressions.{stands_at, expression_code}
-use Rattle.code_model.specs.Statements.{statement_width, statement_kinds}
-use Rattle.code_model.proofs.Widths.{expression_registers}
+use Rattle.code_model.specs.Statements.{first_free}
 use Rattle.lowered_expressions.specs.Built.{Built, whole}
+use Rattle.lowered_expressions.specs.Parts.{with_expression}
 use Rattle.lowered_expressions.specs.Views.{built}
 use Rattle.lowering.specs.inner.Pieces.{statement_pieces, with_statements}
 use Rattle.lowering.specs.inner.Views.{numbers_at, place_seen}
@@ -17,7 +16,7 @@ use Rattle.lowering.proofs.Weights.{weight, weights, weights_item}
 use Rattle.lowering.proofs.SettledParts.{part_length}
 use Rattle.lowering.proofs.Behind.{places_behind, places_step}
 use Rattle.lowering.proofs.Choices.{if_made}
-use Rattle.lowering.proofs.Loops.{statement_registers, loop_made, do_made}
+use Rattle.lowering.proofs.Loops.{loop_made, do_made}
 use Rattle.lowering.proofs.Sequences.{statements_begin, statements_more}
 use Rattle.lowering.proofs.statements.+statements.Goals as goal
 
@@ -61,11 +60,11 @@ choice-set-requires t c =
     let b2 = built c.push.new.self in
     let b4 = built c.push-2.new.self in
     let p2 = places_step (built c.expression.new.body) b2 ReturnNone c.in_ok-push.ensures in
-    let p3 = places_behind b2 (built c.statement.new.body) (statement_kinds at.here (typed_statement c.args.first.now))
-    (statement_pieces number at (length b2.kinds) (length b2.pieces) (typed_statement c.args.first.now)) c.in_ok-statement.ensures in
+    let p3 = places_behind b2 (built c.statement.new.body)
+    (statement_pieces number at (first_free at.here.slots) (length b2.pieces) (typed_statement c.args.first.now)) c.in_ok-statement.ensures in
     let p4 = places_step (built c.statement.new.body) b4 ReturnNone c.in_ok-push-2.ensures in
-    let p5 = places_behind b4 (built c.statement-2.new.body) (statement_kinds at.here (typed_statement c.args.second.now))
-    (statement_pieces number at (length b4.kinds) (length b4.pieces) (typed_statement c.args.second.now)) c.in_ok-statement-2.ensures in
+    let p5 = places_behind b4 (built c.statement-2.new.body)
+    (statement_pieces number at (first_free at.here.slots) (length b4.pieces) (typed_statement c.args.second.now)) c.in_ok-statement-2.ensures in
     omega (arith, p2, p3, p4, p5, c.next_place-branch.ensures)
 
 pub choice-set-requires-2 : goal.choice-set-requires-2
@@ -74,8 +73,8 @@ choice-set-requires-2 t c =
     let at = place_seen c.args.at.now in
     let b4 = built c.push-2.new.self in
     let p4 = places_step (built c.statement.new.body) b4 ReturnNone c.in_ok-push-2.ensures in
-    let p5 = places_behind b4 (built c.statement-2.new.body) (statement_kinds at.here (typed_statement c.args.second.now))
-    (statement_pieces number at (length b4.kinds) (length b4.pieces) (typed_statement c.args.second.now)) c.in_ok-statement-2.ensures in
+    let p5 = places_behind b4 (built c.statement-2.new.body)
+    (statement_pieces number at (first_free at.here.slots) (length b4.pieces) (typed_statement c.args.second.now)) c.in_ok-statement-2.ensures in
     let p6 = ap (λ (z : Built). length z.pieces) c.set.ensures
     ∙ length-set (built c.statement-2.new.body).pieces c.next_place-branch.result
     (whole (Branch c.in_ok-condition.condition false c.next_place-target.result)) in
@@ -88,15 +87,15 @@ choice-returns t c =
     let e = typed_tree c.args.e.now in
     let x = typed_statement c.args.first.now in
     let y = typed_statement c.args.second.now in
+    let row = first_free at.here.slots in
     if_made (built c.args.body.now) (built c.expression.new.body) (built c.push.new.self) (built c.statement.new.body) (built c.push-2.new.self)
     (built c.statement-2.new.body) (built c.set.new.self) (built c.set-2.new.self)
-    (expression_kinds at.here e) (statement_kinds at.here x) (statement_kinds at.here y)
-    (λ n p. expression_code number at.here n p e) (stands_at e) (λ n p. statement_pieces number at n p x) (λ n p. statement_pieces number at n p y)
-    (width e) (statement_width x) c.in_ok-condition.condition c.next_place-branch.result c.next_place-jump.result c.next_place-target.result
+    (λ p. expression_code number at.here row p e) (λ p. statement_pieces number at row p x) (λ p. statement_pieces number at row p y)
+    c.in_ok-condition.condition (stands_at at.here e row) c.next_place-branch.result c.next_place-jump.result c.next_place-target.result
     c.next_place-end.result
-    c.in_ok-condition.ensures.built c.in_ok-push.ensures c.in_ok-statement.ensures c.in_ok-push-2.ensures c.in_ok-statement-2.ensures c.set.ensures
+    (c.in_ok-condition.ensures.built ∙ ap (λ (t : ℕ). with_expression number at.here (built c.args.body.now) t e) c.first_row.ensures) c.in_ok-push.ensures c.in_ok-statement.ensures c.in_ok-push-2.ensures c.in_ok-statement-2.ensures c.set.ensures
     c.set-2.ensures
-    (expression_registers at.here e) (statement_registers at.here x) c.in_ok-condition.ensures.register c.next_place-branch.ensures c.next_place-jump.ensures
+    (c.in_ok-condition.ensures.register ∙ ap (stands_at at.here e) c.first_row.ensures) c.next_place-branch.ensures c.next_place-jump.ensures
     c.next_place-target.ensures c.next_place-end.ensures
 
 -- ---- LOOPS
@@ -111,11 +110,11 @@ turns-set-requires t c =
     let b4 = built c.expression.new.body in
     let e = typed_tree c.args.e.now in
     let p1 = places_step (built c.args.body.now) b1 ReturnNone c.in_ok-push.ensures in
-    let p2 = places_behind b1 b2 (statement_kinds at.here (typed_statement c.args.repeated.now))
-    (statement_pieces number at (length b1.kinds) (length b1.pieces) (typed_statement c.args.repeated.now)) c.in_ok-statement.ensures in
-    let p3 = places_behind b2 b3 (statement_kinds at.here (typed_statement c.args.step.now))
-    (statement_pieces number at (length b2.kinds) (length b2.pieces) (typed_statement c.args.step.now)) c.in_ok-statement-2.ensures in
-    let p4 = places_behind b3 b4 (expression_kinds at.here e) (map whole (expression_code number at.here (length b3.kinds) (length b3.pieces) e))
+    let p2 = places_behind b1 b2
+    (statement_pieces number at (first_free at.here.slots) (length b1.pieces) (typed_statement c.args.repeated.now)) c.in_ok-statement.ensures in
+    let p3 = places_behind b2 b3
+    (statement_pieces number at (first_free at.here.slots) (length b2.pieces) (typed_statement c.args.step.now)) c.in_ok-statement-2.ensures in
+    let p4 = places_behind b3 b4 (map whole (expression_code number at.here c.first_row.result (length b3.pieces) e))
     c.in_ok-condition.ensures.built in
     let p5 = places_step b4 (built c.push-2.new.self) (Branch c.in_ok-condition.condition true c.next_place-start.result) c.in_ok-push-2.ensures in
     omega (arith, p1, p2, p3, p4, p5, c.next_place-jump.ensures)
@@ -129,11 +128,11 @@ turns-settle-requires t c =
     let b3 = built c.statement-2.new.body in
     let b4 = built c.expression.new.body in
     let e = typed_tree c.args.e.now in
-    let p2 = places_behind b1 b2 (statement_kinds at.here (typed_statement c.args.repeated.now))
-    (statement_pieces number at (length b1.kinds) (length b1.pieces) (typed_statement c.args.repeated.now)) c.in_ok-statement.ensures in
-    let p3 = places_behind b2 b3 (statement_kinds at.here (typed_statement c.args.step.now))
-    (statement_pieces number at (length b2.kinds) (length b2.pieces) (typed_statement c.args.step.now)) c.in_ok-statement-2.ensures in
-    let p4 = places_behind b3 b4 (expression_kinds at.here e) (map whole (expression_code number at.here (length b3.kinds) (length b3.pieces) e))
+    let p2 = places_behind b1 b2
+    (statement_pieces number at (first_free at.here.slots) (length b1.pieces) (typed_statement c.args.repeated.now)) c.in_ok-statement.ensures in
+    let p3 = places_behind b2 b3
+    (statement_pieces number at (first_free at.here.slots) (length b2.pieces) (typed_statement c.args.step.now)) c.in_ok-statement-2.ensures in
+    let p4 = places_behind b3 b4 (map whole (expression_code number at.here c.first_row.result (length b3.pieces) e))
     c.in_ok-condition.ensures.built in
     let p5 = places_step b4 (built c.push-2.new.self) (Branch c.in_ok-condition.condition true c.next_place-start.result) c.in_ok-push-2.ensures in
     let p6 = ap (λ (z : Built). length z.pieces) c.set.ensures
@@ -151,9 +150,9 @@ turns-settle-requires-2 t c =
     let b3 = built c.statement-2.new.body in
     let b4 = built c.expression.new.body in
     let e = typed_tree c.args.e.now in
-    let p3 = places_behind b2 b3 (statement_kinds at.here (typed_statement c.args.step.now))
-    (statement_pieces number at (length b2.kinds) (length b2.pieces) (typed_statement c.args.step.now)) c.in_ok-statement-2.ensures in
-    let p4 = places_behind b3 b4 (expression_kinds at.here e) (map whole (expression_code number at.here (length b3.kinds) (length b3.pieces) e))
+    let p3 = places_behind b2 b3
+    (statement_pieces number at (first_free at.here.slots) (length b2.pieces) (typed_statement c.args.step.now)) c.in_ok-statement-2.ensures in
+    let p4 = places_behind b3 b4 (map whole (expression_code number at.here c.first_row.result (length b3.pieces) e))
     c.in_ok-condition.ensures.built in
     let p5 = places_step b4 (built c.push-2.new.self) (Branch c.in_ok-condition.condition true c.next_place-start.result) c.in_ok-push-2.ensures in
     let p6 = ap (λ (z : Built). length z.pieces) c.set.ensures
@@ -168,6 +167,9 @@ turns-settle-requires-2 t c =
 
 pub turns-returns : goal.turns-returns
 turns-returns t c =
+    let number = numbers_at c.args.at.now in
+    let at = place_seen c.args.at.now in
+    let e = typed_tree c.args.e.now in
     loop_made (numbers_at c.args.at.now) (place_seen c.args.at.now) (typed_tree c.args.e.now) (typed_statement c.args.step.now)
     (typed_statement c.args.repeated.now)
     (built c.args.body.now) (built c.push.new.self) (built c.statement.new.body) (built c.statement-2.new.body) (built c.expression.new.body)
@@ -175,9 +177,11 @@ turns-returns t c =
     c.next_place-jump.result c.next_place-start.result c.next_place-onward.result c.next_place-test.result c.in_ok-condition.condition
     c.next_place-end.result
     (c.next_place-onward.result - c.next_place-start.result) (c.next_place-test.result - c.next_place-onward.result)
-    c.in_ok-push.ensures c.in_ok-statement.ensures c.in_ok-statement-2.ensures c.in_ok-condition.ensures.built c.in_ok-push-2.ensures c.set.ensures
+    c.in_ok-push.ensures c.in_ok-statement.ensures c.in_ok-statement-2.ensures
+    (c.in_ok-condition.ensures.built ∙ ap (λ (t : ℕ). with_expression number at.here (built c.statement-2.new.body) t e) c.first_row.ensures)
+    c.in_ok-push-2.ensures c.set.ensures
     c.settle.ensures c.settle-2.ensures c.next_place-jump.ensures c.next_place-start.ensures c.next_place-onward.ensures c.next_place-test.ensures
-    c.in_ok-condition.ensures.register c.next_place-end.ensures refl refl
+    (c.in_ok-condition.ensures.register ∙ ap (stands_at at.here e) c.first_row.ensures) c.next_place-end.ensures refl refl
 
 pub repeats-settle-requires : goal.repeats-settle-requires
 repeats-settle-requires t c =
@@ -187,9 +191,9 @@ repeats-settle-requires t c =
     let b1 = built c.statement.new.body in
     let b2 = built c.expression.new.body in
     let e = typed_tree c.args.e.now in
-    let p1 = places_behind b0 b1 (statement_kinds at.here (typed_statement c.args.repeated.now))
-    (statement_pieces number at (length b0.kinds) (length b0.pieces) (typed_statement c.args.repeated.now)) c.in_ok-statement.ensures in
-    let p2 = places_behind b1 b2 (expression_kinds at.here e) (map whole (expression_code number at.here (length b1.kinds) (length b1.pieces) e))
+    let p1 = places_behind b0 b1
+    (statement_pieces number at (first_free at.here.slots) (length b0.pieces) (typed_statement c.args.repeated.now)) c.in_ok-statement.ensures in
+    let p2 = places_behind b1 b2 (map whole (expression_code number at.here c.first_row.result (length b1.pieces) e))
     c.in_ok-condition.ensures.built in
     let p3 = places_step b2 (built c.push.new.self) (Branch c.in_ok-condition.condition true c.next_place-start.result) c.in_ok-push.ensures in
     record {
@@ -199,9 +203,14 @@ repeats-settle-requires t c =
 
 pub repeats-returns : goal.repeats-returns
 repeats-returns t c =
+    let number = numbers_at c.args.at.now in
+    let at = place_seen c.args.at.now in
+    let e = typed_tree c.args.e.now in
     do_made (numbers_at c.args.at.now) (place_seen c.args.at.now) (typed_tree c.args.e.now) (typed_statement c.args.repeated.now)
     (built c.args.body.now) (built c.statement.new.body) (built c.expression.new.body) (built c.push.new.self) (built c.settle.new.body)
     c.next_place-start.result c.next_place-test.result c.in_ok-condition.condition c.next_place-end.result
     (c.next_place-test.result - c.next_place-start.result)
-    c.in_ok-statement.ensures c.in_ok-condition.ensures.built c.in_ok-push.ensures c.settle.ensures c.next_place-start.ensures c.next_place-test.ensures
-    c.in_ok-condition.ensures.register c.next_place-end.ensures refl
+    c.in_ok-statement.ensures
+    (c.in_ok-condition.ensures.built ∙ ap (λ (t : ℕ). with_expression number at.here (built c.statement.new.body) t e) c.first_row.ensures)
+    c.in_ok-push.ensures c.settle.ensures c.next_place-start.ensures c.next_place-test.ensures
+    (c.in_ok-condition.ensures.register ∙ ap (stands_at at.here e) c.first_row.ensures) c.next_place-end.ensures refl

@@ -6,4 +6,4 @@ use Rattle.lowered_expressions.proofs.Building.{body_of}
 use Rattle.lowered_expressions.proofs.body.Body.set.Goals as goal
 
 pub returns : goal.returns
-returns c = ap (body_of c.args.self.now.registers.items) (map-set piece_seen c.args.self.now.pieces.items c.args.place (Whole c.args.step))
+returns c = ap body_of (map-set piece_seen c.args.self.now.pieces.items c.args.place (Whole c.args.step))

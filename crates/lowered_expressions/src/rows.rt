@@ -1,0 +1,106 @@
+// The registers of values on their way. They stand in rows of eight, one for each kind, which each statement uses again.
+ghost use Rattle.std.specs.Prelude.{◌≡◌, ◌+◌, IfOk, map, max};
+ghost use Rattle.typed_tree.specs.Tree.{typed_tree, typed_trees_of};
+ghost use Rattle.code_model.specs.Expressions.{next_row};
+ghost use Rattle.code_model.specs.Kinds.{depth, depths, element_number, in_row, kind_number};
+
+use bytecode::Kind;
+use secrec_ast::DataType;
+use std::alloc::AllocError;
+use typed_tree::TypedExpression;
+
+// A sum that memory has room for.
+fn sum(a: usize, b: usize) -> Result<usize, AllocError>
+    ensures { IfOk result (λ n. n ≡ a + b) }
+{
+    match a.checked_add(b) {
+        None => Err(AllocError),
+        Some(sum) => Ok(sum),
+    }
+}
+
+/// The greater of two numbers.
+pub fn greater(a: usize, b: usize) -> usize
+    ensures { result ≡ max a b }
+{
+    a.max(b)
+}
+
+// The place of a kind in a row.
+fn kind_number(kind: Kind) -> usize
+    ensures { result ≡ kind_number kind }
+{
+    let secrecy = if kind.secret { 4 } else { 0 };
+    let element = match kind.element {
+        DataType::Uint64 => 0,
+        DataType::Bool => 2,
+    };
+    let shape = if kind.array { element + 1 } else { element };
+    secrecy + shape
+}
+
+/// The register for a kind in the row that begins at a register. An error comes where no memory could hold so many.
+pub fn in_row(row: usize, kind: Kind) -> Result<usize, AllocError>
+    ensures { IfOk result (λ register. register ≡ in_row row kind) }
+{
+    sum(row, kind_number(kind))
+}
+
+/// Where the row behind one begins. An error comes where no memory could hold so many registers.
+pub fn next_row(row: usize) -> Result<usize, AllocError>
+    ensures { IfOk result (λ next. next ≡ next_row row) }
+{
+    sum(row, 8)
+}
+
+/// How many rows the code of an expression has. An error comes where no memory could hold so many. The time grows with the size of the
+/// expression.
+#[cycle(depths)]
+pub fn depth(e: &TypedExpression) -> Result<usize, AllocError>
+    ensures { IfOk result (λ rows. rows ≡ depth (typed_tree e.now)) }
+{
+    match e {
+        TypedExpression::Word(_) | TypedExpression::Truth(_) | TypedExpression::Variable(_) => Ok(
+            1,
+        ),
+        TypedExpression::Call(_, _, list) => {
+            let arguments = depths(list)?;
+            Ok(greater(arguments, 1))
+        }
+        TypedExpression::Size(x)
+        | TypedExpression::Sum(x)
+        | TypedExpression::BitExtract(_, x)
+        | TypedExpression::Not(x)
+        | TypedExpression::Cast(_, x)
+        | TypedExpression::Declassify(x) => depth(x),
+        TypedExpression::Cat(_, a, b)
+        | TypedExpression::Element(_, a, b)
+        | TypedExpression::Binary(_, _, _, a, b)
+        | TypedExpression::CutShort(_, a, b) => depth_of_two(a, b),
+    }
+}
+
+/// Likewise for two expressions, of which the second one has the rows from the next one on.
+#[cycle(depths)]
+pub fn depth_of_two(a: &TypedExpression, b: &TypedExpression) -> Result<usize, AllocError>
+    ensures { IfOk result (λ rows. rows ≡ max (depth (typed_tree a.now)) (1 + depth (typed_tree b.now))) }
+{
+    let first = depth(a)?;
+    let second = depth(b)?;
+    Ok(greater(first, sum(1, second)?))
+}
+
+// Likewise for arguments, each of which has the rows from its own one on.
+#[cycle(depths)]
+fn depths(list: &Vec<TypedExpression>) -> Result<usize, AllocError>
+    ensures { IfOk result (λ rows. rows ≡ depths (typed_trees_of (map typed_tree list.now.items))) }
+{
+    let mut rows = 0;
+    let mut before = 0;
+    for e in list {
+        let own = depth(e)?;
+        rows = greater(rows, sum(before, own)?);
+        before = sum(before, 1)?;
+    }
+    Ok(rows)
+}
