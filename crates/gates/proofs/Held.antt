@@ -1,15 +1,13 @@
 -- Values by what is held of them.
 use Rattle.std.proofs.Common.{◌≡◌, ℕ, zero, suc, ◌+◌, ◌≤◌, ◌<◌, ◌⊎◌, inl, inr, List, [], ◌∷◌}
-use Rattle.std.proofs.Common.{◌≢◌, ◌++◌, length, Bool, true, false, cond, Option, None, refl, sym, ◌∙◌, ap, arith}
+use Rattle.std.proofs.Common.{◌≢◌, ◌++◌, length, true, cond, refl, sym, ◌∙◌, ap, arith}
 use Rattle.std.specs.Prelude.{set}
 use Rattle.std.proofs.lemmas.Bool.{cases_lt, cases_eq}
 use Rattle.std.proofs.lemmas.List.{get_or_append_left, get_or-append-add, get_or-set_same, get_or-set_other, length-set, ext_get_or}
-use Rattle.std.specs.Option.{unwrap_or}
-use Rattle.std.specs.BTreeMap.{BTreeMap}
 use Rattle.std.specs.BTreeSet.{BTreeSet, contains}
 use Rattle.std.specs.Ordering.{nat_cmp}
 use Rattle.gates.specs.Clear.{Values, value}
-use Rattle.gates.specs.Held.{held_at, first_values, NothingFrom, if_kept, kept_from, kept_only}
+use Rattle.gates.specs.Held.{first_values, NothingFrom, if_kept, kept_from, kept_only}
 
 length_push : (xs : List (List ℕ)) (x : List ℕ) → length (xs ++ x ∷ []) ≡ suc (length xs)
 length_push [] x = refl
@@ -21,7 +19,7 @@ length_first at (suc n) = length_push (first_values at n) (at n) ∙ ap suc (len
 
 -- ---- one more
 
-first_same : (at other : ℕ → List ℕ) (n : ℕ) → ((k : ℕ) → k < n → at k ≡ other k) → first_values at n ≡ first_values other n
+pub first_same : (at other : ℕ → List ℕ) (n : ℕ) → ((k : ℕ) → k < n → at k ≡ other k) → first_values at n ≡ first_values other n
 first_same at other zero h = refl
 first_same at other (suc n) h =
     ap (λ xs. xs ++ at n ∷ []) (first_same at other n (λ k l. h k (omega (arith, l)))) ∙ ap (λ x. first_values other n ++ x ∷ []) (h n (omega arith))
@@ -56,20 +54,19 @@ beyond [] k l = refl
 beyond (x ∷ xs) zero l = absurd (omega (arith, l))
 beyond (x ∷ xs) (suc k) l = beyond xs k (omega (arith, l))
 
-pub value_held : (held : BTreeMap ℕ (List ℕ)) (n : ℕ) → NothingFrom n held → (k : ℕ) → value (first_values (held_at held) n) k ≡ held_at held k
-value_held held n none k = by_place (cases_lt k n)
+pub value_held : (at : ℕ → List ℕ) (n : ℕ) → NothingFrom n at → (k : ℕ) → value (first_values at n) k ≡ at k
+value_held at n none k = by_place (cases_lt k n)
   where
-    by_place : (k < n) ⊎ (n ≤ k) → value (first_values (held_at held) n) k ≡ held_at held k
-    by_place (inl below) = first_at (held_at held) n k below
+    by_place : (k < n) ⊎ (n ≤ k) → value (first_values at n) k ≡ at k
+    by_place (inl below) = first_at at n k below
     by_place (inr from) =
-        let past : length (first_values (held_at held) n) ≤ k = omega (arith, from, length_first (held_at held) n) in
-        beyond (first_values (held_at held) n) k past
-        ∙ sym (ap (λ found. unwrap_or found []) (none k from))
+        let past : length (first_values at n) ≤ k = omega (arith, from, length_first at n) in
+        beyond (first_values at n) k past ∙ sym (none k from)
 
 -- ---- one is let go
 
 pub first_without :
-    (at other : ℕ → List ℕ) (n k : ℕ) → at k ≡ [] → ((j : ℕ) → j ≢ k → at j ≡ other j) → first_values at n ≡ set (first_values other n) k []
+    (at other : ℕ → List ℕ) (n k : ℕ) → at k ≡ [] → ((j : ℕ) → j < n → j ≢ k → at j ≡ other j) → first_values at n ≡ set (first_values other n) k []
 first_without at other n k own others =
     let same : length (first_values at n) ≡ length (set (first_values other n) k []) =
     length_first at n ∙ sym (length-set (first_values other n) k [] ∙ length_first other n) in
@@ -80,7 +77,16 @@ first_without at other n k own others =
         let there : k < length (first_values other n) = omega (arith, l, is, length_first other n) in
         first_at at n j l ∙ ap at is ∙ own ∙ sym (ap (value (set (first_values other n) k [])) is ∙ get_or-set_same (first_values other n) k [] [] there)
     by_place j l (inr apart) =
-        first_at at n j l ∙ others j apart ∙ sym (get_or-set_other (first_values other n) k j [] [] apart ∙ first_at other n j l)
+        first_at at n j l ∙ others j l apart ∙ sym (get_or-set_other (first_values other n) k j [] [] apart ∙ first_at other n j l)
+
+pub first_moved :
+    (at other : ℕ → List ℕ) (n m k : ℕ) (words : List ℕ) → m ≡ n + 1 → at k ≡ [] → ((j : ℕ) → j < n → j ≢ k → at j ≡ other j) → at n ≡ words →
+    first_values at m ≡ set (first_values other n) k [] ++ words ∷ []
+first_moved at other n m k words is own others w =
+    let next : m ≡ suc n = omega (arith, is) in
+    ap (first_values at) next
+    ∙ ap (λ xs. xs ++ at n ∷ []) (first_without at other n k own others)
+    ∙ ap (λ x. set (first_values other n) k [] ++ x ∷ []) w
 
 -- ---- some are kept
 
@@ -101,10 +107,6 @@ first_kept numbers at other (suc n) h =
     ap (λ ys. ys ++ at n ∷ []) (first_kept numbers at other n h)
     ∙ ap (λ x. kept_from numbers 0 xs ++ x ∷ []) (h n)
     ∙ sym (kept_push numbers 0 xs (other n) ∙ ap (λ j. kept_from numbers 0 xs ++ if_kept numbers j (other n) ∷ []) place)
-
-pub unwrap_if : (b : Bool) (found : Option (List ℕ)) → unwrap_or (cond b found None) [] ≡ cond b (unwrap_or found []) []
-unwrap_if true found = refl
-unwrap_if false found = refl
 
 pub kept_length : (numbers : BTreeSet ℕ) (k : ℕ) (values : Values) → length (kept_from numbers k values) ≡ length values
 kept_length numbers k [] = refl

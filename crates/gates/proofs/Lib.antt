@@ -2,6 +2,7 @@ pub mod Carries
 pub mod Orders
 pub mod Columns
 pub mod Sizes
+pub mod Spans
 pub mod BlockSizes
 pub mod Growing
 pub mod WordSteps

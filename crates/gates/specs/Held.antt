@@ -1,14 +1,8 @@
 -- Values of which some were let go: what is held of them, each at its number.
-use Rattle.std.specs.Prelude.{◌≡◌, ℕ, zero, suc, ◌≤◌, if◌then◌else◌, List, [], ◌∷◌, ◌++◌, None}
-use Rattle.std.specs.Option.{unwrap_or}
+use Rattle.std.specs.Prelude.{◌≡◌, ℕ, zero, suc, ◌≤◌, if◌then◌else◌, List, [], ◌∷◌, ◌++◌}
 use Rattle.std.specs.Ordering.{nat_cmp}
-use Rattle.std.specs.BTreeMap.{BTreeMap, get}
 use Rattle.std.specs.BTreeSet.{BTreeSet, contains}
 use Rattle.gates.specs.Clear.{Values}
-
--- the words that are held at a number, none where nothing is
-abbrev pub held_at : BTreeMap ℕ (List ℕ) → ℕ → List ℕ
-held_at held k = unwrap_or (get nat_cmp held k) []
 
 -- the first so many values
 abbrev pub first_values : (ℕ → List ℕ) → ℕ → Values
@@ -16,8 +10,8 @@ first_values at zero = []
 first_values at (suc n) = first_values at n ++ at n ∷ []
 
 -- nothing is held from a number on
-abbrev pub NothingFrom : ℕ → BTreeMap ℕ (List ℕ) → Type 0
-NothingFrom n held = (k : ℕ) → n ≤ k → get nat_cmp held k ≡ None
+abbrev pub NothingFrom : ℕ → (ℕ → List ℕ) → Type 0
+NothingFrom n at = (k : ℕ) → n ≤ k → at k ≡ []
 
 -- the words of a value where its number is one of these, else none
 abbrev pub if_kept : BTreeSet ℕ → ℕ → List ℕ → List ℕ

@@ -4,5 +4,6 @@ pub mod Clear
 pub mod WordTests
 pub mod Evaluated
 pub mod Held
+pub mod inner
 pub mod Vectors
 pub use Rattle.share_ring.specs.Rings

@@ -13,8 +13,9 @@ use std::alloc::{AllocError, Global};
 pub(crate) fn sums<R: ShareRing>(alloc: Global, xs: &[u64], ys: &[u64]) -> Result<Words, AllocError>
     ensures { IfOk result (λ words. words ≡ each_two R.ring.add xs.now ys.now) }
 {
-    let mut words = Vec::new(alloc);
-    for at in 0..xs.len().min(ys.len()) {
+    let count = xs.len().min(ys.len());
+    let mut words = Vec::with_capacity(alloc, count)?;
+    for at in 0..count {
         words.push(R::add(xs[at], ys[at]))?;
     }
     Ok(Words::new(words))
@@ -29,8 +30,9 @@ pub(crate) fn differences<R: ShareRing>(
 ) -> Result<Words, AllocError>
     ensures { IfOk result (λ words. words ≡ each_two R.ring.sub xs.now ys.now) }
 {
-    let mut words = Vec::new(alloc);
-    for at in 0..xs.len().min(ys.len()) {
+    let count = xs.len().min(ys.len());
+    let mut words = Vec::with_capacity(alloc, count)?;
+    for at in 0..count {
         words.push(R::sub(xs[at], ys[at]))?;
     }
     Ok(Words::new(words))
@@ -45,8 +47,9 @@ pub(crate) fn products<R: ShareRing>(
 ) -> Result<Words, AllocError>
     ensures { IfOk result (λ words. words ≡ each_two R.ring.mul xs.now ys.now) }
 {
-    let mut words = Vec::new(alloc);
-    for at in 0..xs.len().min(ys.len()) {
+    let count = xs.len().min(ys.len());
+    let mut words = Vec::with_capacity(alloc, count)?;
+    for at in 0..count {
         words.push(R::mul(xs[at], ys[at]))?;
     }
     Ok(Words::new(words))
@@ -88,7 +91,7 @@ fn word_down(x: u64, count: u64) -> u64
 pub(crate) fn shifted_up(alloc: Global, xs: &[u64], count: u64) -> Result<Words, AllocError>
     ensures { IfOk result (λ words. words ≡ map (λ x. x * 2 ^ count % 2 ^ 64) xs.now) }
 {
-    let mut words = Vec::new(alloc);
+    let mut words = Vec::with_capacity(alloc, xs.len())?;
     for x in xs {
         words.push(word_up(*x, count))?;
     }
@@ -99,7 +102,7 @@ pub(crate) fn shifted_up(alloc: Global, xs: &[u64], count: u64) -> Result<Words,
 pub(crate) fn shifted_down(alloc: Global, xs: &[u64], count: u64) -> Result<Words, AllocError>
     ensures { IfOk result (λ words. words ≡ map (λ x. x / 2 ^ count) xs.now) }
 {
-    let mut words = Vec::new(alloc);
+    let mut words = Vec::with_capacity(alloc, xs.len())?;
     for x in xs {
         words.push(word_down(*x, count))?;
     }
@@ -127,7 +130,7 @@ pub(crate) fn part(
 pub(crate) fn joined(alloc: Global, xs: &[u64], ys: &[u64]) -> Result<Words, AllocError>
     ensures { IfOk result (λ words. words ≡ xs.now ++ ys.now) }
 {
-    let mut words = Vec::new(alloc);
+    let mut words = Vec::with_capacity(alloc, xs.len() + ys.len())?;
     words.extend_from_slice(xs)?;
     words.extend_from_slice(ys)?;
     Ok(Words::new(words))
@@ -174,7 +177,7 @@ fn push_bits(words: &mut Vec<u64>, x: u64) -> Result<(), AllocError>
 pub(crate) fn spread(alloc: Global, xs: &[u64]) -> Result<Words, AllocError>
     ensures { IfOk result (λ words. words ≡ flat_map bits_of xs.now) }
 {
-    let mut words = Vec::new(alloc);
+    let mut words = Vec::with_capacity(alloc, xs.len().saturating_mul(64))?;
     for x in xs {
         push_bits(&mut words, *x)?;
     }

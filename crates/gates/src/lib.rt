@@ -7,9 +7,11 @@
 mod clear;
 mod clear_words;
 mod cutting;
+mod flat_lists;
 mod gate;
 mod laws;
 mod ring_kind;
+mod span;
 mod values;
 mod words;
 

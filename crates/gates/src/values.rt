@@ -1,30 +1,34 @@
 // Clear values by number.
-ghost use Rattle.std.specs.Prelude.{◌≡◌, [], ◌∷◌, ◌++◌, length, set, OnOk, OnErr};
+ghost use Rattle.std.specs.Prelude.{◌≡◌, ◌<◌, [], ◌∷◌, ◌++◌, length, set, OnOk, OnErr};
 ghost use Rattle.gates.specs.Clear.{value};
 ghost use Rattle.gates.specs.Held.{kept_only};
 
+use crate::flat_lists::FlatLists;
 use crate::words::Words;
 use std::alloc::{AllocError, Global};
-use std::collections::{BTreeMap, BTreeSet};
+use std::collections::BTreeSet;
 use std::marker::Model;
 
 /// Values, each at its number from 0 on, of which some may have been let go: their words are held no more. Clauses see the list of all, in
 /// which a value that was let go has no words.
+///
+/// The words of all values stand in one vector.
 #[derive(Drop, Debug)]
 pub struct Values {
-    held: BTreeMap<u64, Words>,
+    held: FlatLists,
     count: usize,
 }
 
 impl Model for Values {
     ghost use Rattle.std.specs.Prelude.{ℕ, List};
-    ghost use Rattle.gates.specs.Held.{held_at, first_values, NothingFrom};
+    ghost use Rattle.gates.specs.Held.{first_values, NothingFrom};
+    ghost use Rattle.gates.specs.inner.Spans.{list_at};
 
     ghost Value = { List (List ℕ) };
 
-    ghost view = { λ v. first_values (held_at v.held) v.count };
+    ghost view = { λ v. first_values (list_at v.held) v.count };
 
-    ghost invariant = { λ v. NothingFrom v.count v.held };
+    ghost invariant = { λ v. NothingFrom v.count (list_at v.held) };
 }
 
 impl Values {
@@ -33,7 +37,7 @@ impl Values {
         ensures { result ≡ [] }
     {
         Values {
-            held: BTreeMap::new(alloc),
+            held: FlatLists::new(alloc),
             count: 0,
         }
     }
@@ -46,7 +50,7 @@ impl Values {
         let Some(count) = self.count.checked_add(1) else {
             return Err(AllocError);
         };
-        self.held.insert(self.count as u64, words)?;
+        self.held.put(self.count as u64, words.as_slice())?;
         self.count = count;
         Ok(())
     }
@@ -62,27 +66,28 @@ impl Values {
     pub fn value(&self, number: u64) -> &[u64]
         ensures { result.now ≡ value self.now number }
     {
-        match self.held.get(&number) {
-            Some(words) => words.as_slice(),
-            None => &[],
-        }
+        self.held.get(number)
     }
 
-    /// The words of the value of a number, which lets them go; none where no value has it. None is copied.
-    pub fn take(&mut self, alloc: Global, number: u64) -> Words
-        ensures words { result ≡ value self.old number }
-        ensures let_go { self.new ≡ set self.old number [] }
+    /// One value more, with the next number: that of an array, with one word given anew. The array is let go, and nothing of it is copied. With
+    /// no memory left, or no number, the values are as before.
+    pub fn put_in_place(&mut self, array: u64, index: usize, word: u64) -> Result<(), AllocError>
+        requires { index < length (value self.old array) }
+        ensures ok { OnOk result (self.new ≡ set self.old array [] ++ set (value self.old array) index word ∷ []) }
+        ensures err { OnErr result (self.new ≡ self.old) }
     {
-        match self.held.remove(&number) {
-            Some(words) => words,
-            None => Words::new(Vec::new(alloc)),
-        }
+        let Some(count) = self.count.checked_add(1) else {
+            return Err(AllocError);
+        };
+        self.held.move_with(array, self.count as u64, index, word)?;
+        self.count = count;
+        Ok(())
     }
 
     /// Lets go the words of all values but those of these numbers.
     pub fn keep_only(&mut self, numbers: &BTreeSet<u64>)
         ensures { self.new ≡ kept_only numbers.now self.old }
     {
-        self.held.retain(|number, _| numbers.contains(number));
+        self.held.keep_only(numbers);
     }
 }
