@@ -1,4 +1,4 @@
--- Each step of a product, an opening and a resharing is the next one of the miner's part. What is held of a resharing is taken out of a box.
+-- Each step of a product, an opening and a resharing is the next one of the miner's part.
 use Rattle.std.proofs.Common.{◌≡◌, ℕ, ◌*◌, List, [], ◌∷◌, ◌++◌, length, refl, sym, ◌∙◌, ap, Some}
 use Rattle.share_ring.specs.Ring.{Ring}
 use Rattle.proto_core.specs.declared.party.Number.{Number}
@@ -14,8 +14,7 @@ use Rattle.proto_core.proofs.Parts.{length-part}
 use Rattle.multiply.specs.MulStrand.{Held, masked, crossed, product, mul_strand, masks_shape, factors_shape, mul_masked, mul_passes, mul_crossed, mul_ends}
 use Rattle.multiply.proofs.Tails.{accepts-masks, accepts-factors}
 use Rattle.reshare.specs.Resharing.{one_field}
-use Rattle.reshare.specs.Steps.{Reshared, left_sent, after_sent}
-use Rattle.reshare.proofs.StepsLemmas as resharing
+use Rattle.reshare.specs.Steps.{left_sent, after_sent}
 use Rattle.open_result.specs.Steps.{Masks, Keeps, Sums, left_masked, after_masked, left_from_previous, after_from_previous, left_from_next, after_from_next}
 use Rattle.open_result.proofs.StepsLemmas as opening
 use Rattle.block_steps.specs.Inboxes.{FrontIs}
@@ -109,10 +108,10 @@ module _ (r : Ring) (i : Number) where
   -- ---- resharing
 
   pub reshared-end :
-      (held before : List ℕ × List ℕ) (m share made : List ℕ) (front front2 q n p : List (List ℕ)) (o : List ℕ) → before ≡ held → made ≡ share →
-      FrontIs (Some m) front → front2 ≡ rest_of front → Reshared r before m share →
+      (held after : List ℕ × List ℕ) (m made : List ℕ) (front front2 q n p : List (List ℕ)) (o : List ℕ) → FrontIs (Some m) front →
+      front2 ≡ rest_of front → length m ≡ length held.0 → after ≡ (reshared r (length held.0) held.0 held.1 m, held.1) → made ≡ after.0 →
       outcome i n p o (run (Ends (made ∷ [])) (mail_of i front2 q)) ≡ outcome i n p o (run (left_sent r i held) (mail_of i front q))
-  reshared-end held before m share made front front2 q n p o was same h e k =
-      took-previous i (from_previous i) (one_field (length before.0)) (after_sent r before) m (Ends (made ∷ [])) front front2 q n p o
-      refl h e (accepts-one_words (length before.0) m k.fits) (resharing.got_is r i before m share k ∙ ap (λ w. Ends (w ∷ [])) (sym same))
-      ∙ ap (λ w. outcome i n p o (run (left_sent r i w) (mail_of i front q))) was
+  reshared-end held after m made front front2 q n p o h e fits is same =
+      took-previous i (from_previous i) (one_field (length held.0)) (after_sent r held) m (Ends (made ∷ [])) front front2 q n p o
+      refl h e (accepts-one_words (length held.0) m fits)
+      (ap (λ (w : List ℕ × List ℕ). Ends (w.0 ∷ [])) (sym is) ∙ ap (λ w. Ends (w ∷ [])) (sym same))

@@ -1,14 +1,13 @@
 -- One message changes nothing of what a miner has done and will do.
-use Rattle.std.proofs.Common.{◌≡◌, ℕ, ◌*◌, true, List, [], ◌∷◌, ◌++◌, length, sym, ◌∙◌, ap, subst, arith, append_assoc, Some, None}
+use Rattle.std.proofs.Common.{◌≡◌, ◌≢◌, ℕ, ◌*◌, true, List, [], ◌∷◌, ◌++◌, length, refl, sym, ◌∙◌, ap, subst, arith, append_assoc, Some, None}
 use Rattle.proto_core.specs.declared.party.Number.{Number}
 use Rattle.proto_core.specs.declared.party.Number.TheVariants.{One, Two, Three}
 use Rattle.proto_core.specs.declared.link.Link.{Link}
 use Rattle.proto_core.specs.declared.refused.BadMessage.{BadMessage}
-use Rattle.proto_core.specs.declared.refused.Refused.{Refused}
+use Rattle.proto_core.specs.declared.refused.BadMessage.TheVariants.{BadLength}
 use Rattle.proto_core.specs.Parties.{to_next, to_previous, from_previous, from_next}
-use Rattle.proto_core.specs.Strand.{Field, Shape, shaped, accepts, Sent, Opened, Mail, Strand, Acts, Waits, Ran, acted, run, rest_of, on_link, opened_in}
+use Rattle.proto_core.specs.Strand.{Words, Shape, shaped, accepts, Sent, Opened, Mail, Strand, Acts, Waits, Ran, acted, run, rest_of, on_link, opened_in}
 use Rattle.proto_core.specs.Net.{mail_of}
-use Rattle.proto_core.specs.Refusals.{WrongLength}
 use Rattle.proto_core.specs.Standing.{fault_of}
 use Rattle.proto_core.proofs.Nodes.{mail-previous, mail-next, run-previous, run-next}
 use Rattle.proto_core.proofs.Refusing.{wrong_length_is_told}
@@ -136,23 +135,26 @@ module _ (i : Number) (link : Link) (shape : Shape) (front q : List (List ℕ)) 
       HasNoneOf shape (Some cause) (mail_of i q front link)
   refused-next m cause on h told = subst (HasNoneOf shape (Some cause)) (sym (at-next on)) (refused-there shape m cause front h told)
 
--- ---- a message of a wrong length is refused, with both lengths
+-- ---- a message of one field that has a wrong length is refused, with both lengths
 
-pub one-times : (n : ℕ) → n ≡ 1 * n
+one-times : (n : ℕ) → n ≡ 1 * n
 one-times n = omega arith
 
--- the state that is refused goes into a box anew
-module _ {S : Type 0} (size : S → ℕ) (fields : List Field) (before : S) (want : ℕ) (m : List ℕ) (refused : Refused S) (boxed : S) (i : Number)
-    (front q : List (List ℕ)) (is : want ≡ length fields * size before) (wrong : WrongLength before want (length m) refused) (kept : boxed ≡ refused.state)
-  where
-    abbrev wanted : Shape
-    wanted = shaped (size boxed) fields
+wrong_field :
+    (n want have : ℕ) (m : List ℕ) → want ≡ n → have ≡ length m → have ≢ want → fault_of (shaped n (Words ∷ [])) m ≡ Some (BadLength want have)
+wrong_field n want have m w h differs =
+    wrong_length_is_told n (shaped n (Words ∷ [])) want m (record { state = n; cause = BadLength want have }) (w ∙ one-times n)
+    (record { differs = λ e. differs (h ∙ e); state = refl; cause = ap (BadLength want) h })
 
-    told : fault_of wanted m ≡ Some refused.cause
-    told = wrong_length_is_told before wanted want m refused (is ∙ ap (λ s. length fields * size s) (sym (kept ∙ wrong.state))) wrong
+module _ (i : Number) (link : Link) (n want have : ℕ) (m : List ℕ) (front q : List (List ℕ)) where
+  pub wrong-previous :
+      link ≡ from_previous i → FrontIs (Some m) front → want ≡ n → have ≡ length m → have ≢ want →
+      HasNoneOf (shaped n (Words ∷ [])) (Some (BadLength want have)) (mail_of i front q link)
+  wrong-previous on h w l differs =
+      refused-previous i link (shaped n (Words ∷ [])) front q m (BadLength want have) on h (wrong_field n want have m w l differs)
 
-    pub wrong-previous : (link : Link) → link ≡ from_previous i → FrontIs (Some m) front → HasNoneOf wanted (Some refused.cause) (mail_of i front q link)
-    wrong-previous link on h = refused-previous i link wanted front q m refused.cause on h told
-
-    pub wrong-next : (link : Link) → link ≡ from_next i → FrontIs (Some m) front → HasNoneOf wanted (Some refused.cause) (mail_of i q front link)
-    wrong-next link on h = refused-next i link wanted front q m refused.cause on h told
+  pub wrong-next :
+      link ≡ from_next i → FrontIs (Some m) front → want ≡ n → have ≡ length m → have ≢ want →
+      HasNoneOf (shaped n (Words ∷ [])) (Some (BadLength want have)) (mail_of i q front link)
+  wrong-next on h w l differs =
+      refused-next i link (shaped n (Words ∷ [])) front q m (BadLength want have) on h (wrong_field n want have m w l differs)

@@ -19,16 +19,16 @@ converts_at (converting.ThreeFirst held) = number.Three
 converts_at (converting.ThreeSecond held) = number.Three
 
 abbrev pub converting_left : Converting → Strand (List (List ℕ))
-converting_left (converting.One held) = conv.awaits31 (length held.value.mask) held.value
-converting_left (converting.TwoFirst held) = conv.awaits12 (length held.value.mask) held.value
-converting_left (converting.TwoSecond held) = conv.awaits32 (length held.value.mask) held.value
-converting_left (converting.ThreeFirst held) = conv.awaits13 (length held.value.mask) held.value
-converting_left (converting.ThreeSecond held) = conv.awaits23 (length held.value.mask) held.value
+converting_left (converting.One held) = conv.awaits31 (length held.mask) held
+converting_left (converting.TwoFirst held) = conv.awaits12 (length held.mask) held
+converting_left (converting.TwoSecond held) = conv.awaits32 (length held.mask) held
+converting_left (converting.ThreeFirst held) = conv.awaits13 (length held.mask) held
+converting_left (converting.ThreeSecond held) = conv.awaits23 (length held.mask) held
 
 abbrev pub splits_at : Splitting → Number
 splits_at (splitting.Two held) = number.Two
 splits_at (splitting.Three held) = number.Three
 
 abbrev pub splitting_left : Splitting → Strand (List (List ℕ))
-splitting_left (splitting.Two held) = split.awaits12 (length held.value.share) held.value
-splitting_left (splitting.Three held) = split.awaits13 (length held.value.share) held.value
+splitting_left (splitting.Two held) = split.awaits12 (length held.share) held
+splitting_left (splitting.Three held) = split.awaits13 (length held.share) held

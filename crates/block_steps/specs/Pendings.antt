@@ -23,7 +23,7 @@ ring_left r i (MulCrossed held) = mul_crossed r (length held.mask) i held
 ring_left r i (OpenMasked state) = left_masked r i state
 ring_left r i (OpenFromPrevious state) = left_from_previous r i state
 ring_left r i (OpenFromNext state) = left_from_next r i state
-ring_left r i (Resharing state) = left_sent r i state.value
+ring_left r i (Resharing state of) = left_sent r i state
 
 abbrev pub pending_left : {P : Type 0} → Number → Pending P → Strand (List (List ℕ))
 pending_left i (pending.Numbers block) = ring_left add_ring i block

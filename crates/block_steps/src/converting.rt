@@ -1,4 +1,4 @@
-// Truth values turned into numbers, block by block. What has room for states and messages is `#[inline(never)]`: it is made anew each time.
+// Truth values turned into numbers, block by block. What has room for states is `#[inline(never)]`: it is made anew each time.
 ghost use Rattle.std.specs.Prelude.{◌≡◌, ◌≤◌, ◌*◌, length, OnOk, IfOk};
 ghost use Rattle.proto_core.specs.declared.party.Number.TheVariants as number;
 ghost use Rattle.share_convert.specs.Converting.{conv_draws};
@@ -9,24 +9,24 @@ ghost use Rattle.block_steps.specs.Pendings.{progress_left, StandsThen, Shorter}
 
 use crate::links::Links;
 use crate::progress::Progress;
-use proto_core::{Block, Link, Number, P1, P2, P3, Party};
-use share_convert::{Conv, First, Second, Sent};
+use proto_core::{BadMessage, Link, Number, Party};
+use share_convert::{ConvWords, First, Second, Sent, check_words};
 use std::alloc::AllocError;
 use std::marker::{Model, PhantomData};
 
-/// A miner's part in a block that is converted, by miner and by the message that is awaited. Each is boxed, as a `RingBlock` is.
+/// A miner's part in a block that is converted, by miner and by the message that is awaited.
 #[derive(Drop)]
 pub enum Converting {
     /// The first miner has dealt, and awaits the third one's mask.
-    One(Box<Conv<P1, Sent>>),
+    One(ConvWords<Sent>),
     /// The second miner awaits what the first one deals.
-    TwoFirst(Box<Conv<P2, First>>),
+    TwoFirst(ConvWords<First>),
     /// The second miner awaits the third one's bits.
-    TwoSecond(Box<Conv<P2, Second>>),
+    TwoSecond(ConvWords<Second>),
     /// The third miner awaits what the first one deals.
-    ThreeFirst(Box<Conv<P3, First>>),
+    ThreeFirst(ConvWords<First>),
     /// The third miner awaits the second one's bits and mask.
-    ThreeSecond(Box<Conv<P3, Second>>),
+    ThreeSecond(ConvWords<Second>),
 }
 
 /// The part of the miner `P` in a block that is converted.
@@ -96,10 +96,7 @@ pub fn begin<P: Party>(
     match P::number() {
         Number::One => deal(u, words, links),
         Number::Two => Ok(Conversion {
-            state: Converting::TwoFirst(links.boxed(Conv::<P2, First>::start(
-                &Block::from_words(u),
-                words,
-            ))?),
+            state: Converting::TwoFirst(ConvWords::<First>::begin(links.alloc(), u, words)?),
             of: PhantomData,
         }),
         Number::Three => send_mask(u, words, links),
@@ -116,11 +113,16 @@ fn deal<P: Party>(u: &[u64], words: &[u64], links: &mut Links) -> Result<Convers
         ≡ outcome_of P.me links.old (conv_strand (length u.now) number.One u.now words.now)) }
     ensures unread { OnOk result (IsBeside links.old links.new) }
 {
-    let (state, to_two, to_three) = Conv::<P1, Sent>::start(&Block::from_words(u), words);
-    links.to_next.push(&to_two)?;
-    links.to_previous.push(&to_three)?;
+    let alloc = links.alloc();
+    let state = ConvWords::<Sent>::deal(
+        alloc,
+        u,
+        words,
+        &mut links.to_next,
+        &mut links.to_previous,
+    )?;
     Ok(Conversion {
-        state: Converting::One(links.boxed(state)?),
+        state: Converting::One(state),
         of: PhantomData,
     })
 }
@@ -139,10 +141,10 @@ fn send_mask<P: Party>(
         ≡ outcome_of P.me links.old (conv_strand (length u.now) number.Three u.now words.now)) }
     ensures unread { OnOk result (IsBeside links.old links.new) }
 {
-    let (state, to_one) = Conv::<P3, First>::start(&Block::from_words(u), words);
-    links.to_next.push(&to_one)?;
+    let state = ConvWords::<First>::begin(links.alloc(), u, words)?;
+    links.to_next.push_words(words)?;
     Ok(Conversion {
-        state: Converting::ThreeFirst(links.boxed(state)?),
+        state: Converting::ThreeFirst(state),
         of: PhantomData,
     })
 }
@@ -150,17 +152,17 @@ fn send_mask<P: Party>(
 /// The first miner takes the third one's mask.
 #[inline(never)]
 fn got31<P: Party>(
-    state: Box<Conv<P1, Sent>>,
+    state: ConvWords<Sent>,
     links: &mut Links,
 ) -> Result<Progress<Conversion<P>>, AllocError>
     requires first { P.me ≡ number.One }
     ensures same { IfOk result (λ to. outcome_of P.me links.new (progress_left converting_left to)
-        ≡ outcome_of P.me links.old (awaits31 (length state.value.mask) state.value)) }
+        ≡ outcome_of P.me links.old (awaits31 (length state.mask) state)) }
     ensures stands { IfOk result (λ to. StandsThen converting_left P.me links.new to) }
     ensures falls { IfOk result (λ to. Shorter links.old links.new to) }
     ensures kept { OnOk result (Holds links.old links.new) }
 {
-    let Some(msg) = links.from_previous.front() else {
+    let Some(words) = links.from_previous.lent() else {
         return Ok(Progress::Stands(
             Conversion {
                 state: Converting::One(state),
@@ -169,38 +171,43 @@ fn got31<P: Party>(
             None,
         ));
     };
-    match Box::into_inner(state).got31(&msg) {
-        Ok(share) => {
-            links.from_previous.take();
-            Ok(Progress::Made {
-                first: Vec::from_slice(links.alloc(), share.words())?,
-                second: None,
-            })
-        }
-        Err(refused) => Ok(Progress::Stands(
+    let (want, have) = (state.size(), words.len());
+    if have != want {
+        let cause = BadMessage::BadLength {
+            want: want as u64,
+            have: have as u64,
+        };
+        return Ok(Progress::Stands(
             Conversion {
-                state: Converting::One(links.boxed(refused.state)?),
+                state: Converting::One(state),
                 of: PhantomData,
             },
-            Some(refused.cause),
-        )),
+            Some(cause),
+        ));
     }
+    let share = state.got31(words);
+    links.from_previous.take();
+    Ok(Progress::Made {
+        first: share,
+        second: None,
+    })
 }
 
 /// The second miner takes what the first one dealt, and sends its bits and mask.
 #[inline(never)]
 fn got12<P: Party>(
-    state: Box<Conv<P2, First>>,
+    state: ConvWords<First>,
     links: &mut Links,
 ) -> Result<Progress<Conversion<P>>, AllocError>
     requires second { P.me ≡ number.Two }
     ensures same { IfOk result (λ to. outcome_of P.me links.new (progress_left converting_left to)
-        ≡ outcome_of P.me links.old (awaits12 (length state.value.mask) state.value)) }
+        ≡ outcome_of P.me links.old (awaits12 (length state.mask) state)) }
     ensures stands { IfOk result (λ to. StandsThen converting_left P.me links.new to) }
     ensures falls { IfOk result (λ to. Shorter links.old links.new to) }
     ensures kept { OnOk result (Holds links.old links.new) }
 {
-    let Some(msg) = links.from_previous.front() else {
+    let alloc = links.alloc();
+    let Some(words) = links.from_previous.lent() else {
         return Ok(Progress::Stands(
             Conversion {
                 state: Converting::TwoFirst(state),
@@ -209,39 +216,38 @@ fn got12<P: Party>(
             None,
         ));
     };
-    match Box::into_inner(state).got12(&msg) {
-        Ok((state, reply)) => {
-            links.from_previous.take();
-            links.to_next.push(&reply)?;
-            Ok(Progress::Goes(Conversion {
-                state: Converting::TwoSecond(links.boxed(state)?),
-                of: PhantomData,
-            }))
-        }
-        Err(refused) => Ok(Progress::Stands(
+    let n = state.size();
+    if let Err(cause) = check_words(words, 3 * n, n, n) {
+        return Ok(Progress::Stands(
             Conversion {
-                state: Converting::TwoFirst(links.boxed(refused.state)?),
+                state: Converting::TwoFirst(state),
                 of: PhantomData,
             },
-            Some(refused.cause),
-        )),
+            Some(cause),
+        ));
     }
+    let state = state.got12(alloc, words, &mut links.to_next)?;
+    links.from_previous.take();
+    Ok(Progress::Goes(Conversion {
+        state: Converting::TwoSecond(state),
+        of: PhantomData,
+    }))
 }
 
 /// The second miner takes the third one's bits.
 #[inline(never)]
 fn got32<P: Party>(
-    state: Box<Conv<P2, Second>>,
+    state: ConvWords<Second>,
     links: &mut Links,
 ) -> Result<Progress<Conversion<P>>, AllocError>
     requires second { P.me ≡ number.Two }
     ensures same { IfOk result (λ to. outcome_of P.me links.new (progress_left converting_left to)
-        ≡ outcome_of P.me links.old (awaits32 (length state.value.mask) state.value)) }
+        ≡ outcome_of P.me links.old (awaits32 (length state.mask) state)) }
     ensures stands { IfOk result (λ to. StandsThen converting_left P.me links.new to) }
     ensures falls { IfOk result (λ to. Shorter links.old links.new to) }
     ensures kept { OnOk result (Holds links.old links.new) }
 {
-    let Some(msg) = links.from_next.front() else {
+    let Some(words) = links.from_next.lent() else {
         return Ok(Progress::Stands(
             Conversion {
                 state: Converting::TwoSecond(state),
@@ -250,38 +256,39 @@ fn got32<P: Party>(
             None,
         ));
     };
-    match Box::into_inner(state).got32(&msg) {
-        Ok(share) => {
-            links.from_next.take();
-            Ok(Progress::Made {
-                first: Vec::from_slice(links.alloc(), share.words())?,
-                second: None,
-            })
-        }
-        Err(refused) => Ok(Progress::Stands(
+    let n = state.size();
+    if let Err(cause) = check_words(words, n, 0, n) {
+        return Ok(Progress::Stands(
             Conversion {
-                state: Converting::TwoSecond(links.boxed(refused.state)?),
+                state: Converting::TwoSecond(state),
                 of: PhantomData,
             },
-            Some(refused.cause),
-        )),
+            Some(cause),
+        ));
     }
+    let share = state.got32(words);
+    links.from_next.take();
+    Ok(Progress::Made {
+        first: share,
+        second: None,
+    })
 }
 
 /// The third miner takes what the first one dealt, and sends its bits.
 #[inline(never)]
 fn got13<P: Party>(
-    state: Box<Conv<P3, First>>,
+    state: ConvWords<First>,
     links: &mut Links,
 ) -> Result<Progress<Conversion<P>>, AllocError>
     requires third { P.me ≡ number.Three }
     ensures same { IfOk result (λ to. outcome_of P.me links.new (progress_left converting_left to)
-        ≡ outcome_of P.me links.old (awaits13 (length state.value.mask) state.value)) }
+        ≡ outcome_of P.me links.old (awaits13 (length state.mask) state)) }
     ensures stands { IfOk result (λ to. StandsThen converting_left P.me links.new to) }
     ensures falls { IfOk result (λ to. Shorter links.old links.new to) }
     ensures kept { OnOk result (Holds links.old links.new) }
 {
-    let Some(msg) = links.from_next.front() else {
+    let alloc = links.alloc();
+    let Some(words) = links.from_next.lent() else {
         return Ok(Progress::Stands(
             Conversion {
                 state: Converting::ThreeFirst(state),
@@ -290,39 +297,38 @@ fn got13<P: Party>(
             None,
         ));
     };
-    match Box::into_inner(state).got13(&msg) {
-        Ok((state, reply)) => {
-            links.from_next.take();
-            links.to_previous.push(&reply)?;
-            Ok(Progress::Goes(Conversion {
-                state: Converting::ThreeSecond(links.boxed(state)?),
-                of: PhantomData,
-            }))
-        }
-        Err(refused) => Ok(Progress::Stands(
+    let n = state.size();
+    if let Err(cause) = check_words(words, 2 * n, n, n) {
+        return Ok(Progress::Stands(
             Conversion {
-                state: Converting::ThreeFirst(links.boxed(refused.state)?),
+                state: Converting::ThreeFirst(state),
                 of: PhantomData,
             },
-            Some(refused.cause),
-        )),
+            Some(cause),
+        ));
     }
+    let state = state.got13(alloc, words, &mut links.to_previous)?;
+    links.from_next.take();
+    Ok(Progress::Goes(Conversion {
+        state: Converting::ThreeSecond(state),
+        of: PhantomData,
+    }))
 }
 
 /// The third miner takes the second one's bits and mask.
 #[inline(never)]
 fn got23<P: Party>(
-    state: Box<Conv<P3, Second>>,
+    state: ConvWords<Second>,
     links: &mut Links,
 ) -> Result<Progress<Conversion<P>>, AllocError>
     requires third { P.me ≡ number.Three }
     ensures same { IfOk result (λ to. outcome_of P.me links.new (progress_left converting_left to)
-        ≡ outcome_of P.me links.old (awaits23 (length state.value.mask) state.value)) }
+        ≡ outcome_of P.me links.old (awaits23 (length state.mask) state)) }
     ensures stands { IfOk result (λ to. StandsThen converting_left P.me links.new to) }
     ensures falls { IfOk result (λ to. Shorter links.old links.new to) }
     ensures kept { OnOk result (Holds links.old links.new) }
 {
-    let Some(msg) = links.from_previous.front() else {
+    let Some(words) = links.from_previous.lent() else {
         return Ok(Progress::Stands(
             Conversion {
                 state: Converting::ThreeSecond(state),
@@ -331,20 +337,20 @@ fn got23<P: Party>(
             None,
         ));
     };
-    match Box::into_inner(state).got23(&msg) {
-        Ok(share) => {
-            links.from_previous.take();
-            Ok(Progress::Made {
-                first: Vec::from_slice(links.alloc(), share.words())?,
-                second: None,
-            })
-        }
-        Err(refused) => Ok(Progress::Stands(
+    let n = state.size();
+    if let Err(cause) = check_words(words, 2 * n, 0, n) {
+        return Ok(Progress::Stands(
             Conversion {
-                state: Converting::ThreeSecond(links.boxed(refused.state)?),
+                state: Converting::ThreeSecond(state),
                 of: PhantomData,
             },
-            Some(refused.cause),
-        )),
+            Some(cause),
+        ));
     }
+    let share = state.got23(words);
+    links.from_previous.take();
+    Ok(Progress::Made {
+        first: share,
+        second: None,
+    })
 }

@@ -55,14 +55,6 @@ impl Inbox {
         self.messages.push_words(words)
     }
 
-    /// A copy of the oldest message that was not taken; `None` where all were.
-    #[tactic(auto, using(crate::proofs::Inboxes::inbox_steps))]
-    pub fn front(&self) -> Option<Msg>
-        ensures { FrontIs result self.now.1 }
-    {
-        self.messages.get(self.taken)
-    }
-
     /// The words of the oldest message that was not taken, where they lie; `None` where all were.
     #[tactic(auto, using(crate::proofs::Inboxes::inbox_steps))]
     pub fn lent(&self) -> Option<&[u64]>

@@ -1,4 +1,4 @@
-ghost use Rattle.std.specs.Prelude.{◌≡◌, ◌≤◌, List, [], ◌∷◌, ◌++◌, length, OnOk, OnErr, IfOk};
+ghost use Rattle.std.specs.Prelude.{◌≡◌, ◌≤◌, List, [], ◌∷◌, ◌++◌, length, OnOk, OnErr};
 ghost use Rattle.block_steps.specs.Outcomes.{came_from_previous, came_from_next};
 
 use crate::inbox::Inbox;
@@ -36,15 +36,6 @@ impl Links {
     /// Where more memory comes from.
     pub(crate) fn alloc(&self) -> Global {
         *self.opened.allocator()
-    }
-
-    /// What a block holds while it waits, in a box.
-    // Not inlined: where memory is wanting, `Box::new` hands the state back, so its result has room for it.
-    #[inline(never)]
-    pub(crate) fn boxed<T: Drop>(&self, state: T) -> Result<Box<T>, AllocError>
-        ensures { IfOk result (λ b. b.value ≡ state) }
-    {
-        Ok(Box::new(self.alloc(), state)?)
     }
 
     /// A message comes from the previous miner; with no memory left all is as before.

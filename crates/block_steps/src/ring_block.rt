@@ -7,14 +7,14 @@ use crate::progress::Progress;
 use crate::{multiplying, opening, resharing};
 use multiply::MulWords;
 use proto_core::{Link, Party};
-use reshare::{Reshare, Sent, ShareWords};
+use reshare::ShareWords;
 use share_ring::ShareRing;
 use std::alloc::AllocError;
+use std::marker::PhantomData;
 
 /// A miner's part in a block of a protocol that is for any ring, by the message that is awaited.
 ///
-/// The words of a product and of an opening are in vectors. Any other state has room for the longest block, so it is boxed: what hands it on
-/// moves a pointer.
+/// All words are in vectors: what hands a state on moves a few pointers.
 #[derive(Drop)]
 pub enum RingBlock<R, P> {
     /// Of a product: the previous miner's masks.
@@ -27,8 +27,8 @@ pub enum RingBlock<R, P> {
     OpenFromPrevious(ShareWords),
     /// Of an opening: the next miner's new share.
     OpenFromNext(ShareWords),
-    /// The previous miner's mask, of a value that is shared anew.
-    Resharing(Box<Reshare<R, P, Sent>>),
+    /// Of a value that is shared anew: the previous miner's mask.
+    Resharing(ShareWords, PhantomData<(R, P)>),
 }
 
 impl<R: ShareRing, P: Party> RingBlock<R, P> {
@@ -46,7 +46,7 @@ impl<R: ShareRing, P: Party> RingBlock<R, P> {
             RingBlock::OpenMasked(state) => opening::masked(state, links),
             RingBlock::OpenFromPrevious(state) => opening::from_previous(state, links),
             RingBlock::OpenFromNext(state) => opening::from_next(state, links),
-            RingBlock::Resharing(state) => resharing::sent(state, links),
+            RingBlock::Resharing(state, _) => resharing::sent(state, links),
         }
     }
 

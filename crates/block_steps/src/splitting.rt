@@ -1,4 +1,4 @@
-// Numbers split into two words each, block by block. What has room for states and messages is `#[inline(never)]`: it is made anew each time.
+// Numbers split into two words each, block by block. What has room for states is `#[inline(never)]`: it is made anew each time.
 ghost use Rattle.std.specs.Prelude.{◌≡◌, ◌≤◌, false, length, OnOk, IfOk};
 ghost use Rattle.proto_core.specs.declared.party.Number.TheVariants as number;
 ghost use Rattle.split_share.specs.Splitting.{split_draws};
@@ -9,18 +9,18 @@ ghost use Rattle.block_steps.specs.Pendings.{progress_left, StandsThen, Shorter,
 
 use crate::links::Links;
 use crate::progress::Progress;
-use proto_core::{Block, Link, Number, P1, P2, P3, Party};
-use split_share::{Sent, Split, Waiting};
+use proto_core::{BadMessage, Link, Number, Party};
+use split_share::SplitWords;
 use std::alloc::AllocError;
 use std::marker::{Model, PhantomData};
 
-/// A miner's part in a block that is split, by miner. The first one deals, and awaits no message. Each is boxed, as a `RingBlock` is.
+/// A miner's part in a block that is split, by miner. The first one deals, and awaits no message.
 #[derive(Drop)]
 pub enum Splitting {
     /// The second miner awaits what the first one deals.
-    Two(Box<Split<P2, Waiting>>),
+    Two(SplitWords),
     /// The third miner awaits what the first one deals.
-    Three(Box<Split<P3, Waiting>>),
+    Three(SplitWords),
 }
 
 /// The part of the miner `P` in a block that is split.
@@ -86,17 +86,11 @@ pub fn begin<P: Party>(
     match P::number() {
         Number::One => deal(u, words, links),
         Number::Two => Ok(Progress::Goes(Splits {
-            state: Splitting::Two(links.boxed(Split::<P2, Waiting>::start(
-                &Block::from_words(u),
-                negated,
-            ))?),
+            state: Splitting::Two(SplitWords::begin(links.alloc(), u, negated)?),
             of: PhantomData,
         })),
         Number::Three => Ok(Progress::Goes(Splits {
-            state: Splitting::Three(links.boxed(Split::<P3, Waiting>::start(
-                &Block::from_words(u),
-                negated,
-            ))?),
+            state: Splitting::Three(SplitWords::begin(links.alloc(), u, negated)?),
             of: PhantomData,
         })),
     }
@@ -117,29 +111,26 @@ fn deal<P: Party>(
     ensures begins { IfOk result HasBegun }
     ensures unread { OnOk result (IsBeside links.old links.new) }
 {
-    let (to_two, to_three, x, y) = Split::<P1, Sent>::start(&Block::from_words(u), words);
-    links.to_next.push(&to_two)?;
-    links.to_previous.push(&to_three)?;
+    let alloc = links.alloc();
+    let (x, y) = SplitWords::deal(alloc, u, words, &mut links.to_next, &mut links.to_previous)?;
     Ok(Progress::Made {
-        first: Vec::from_slice(links.alloc(), x.words())?,
-        second: Some(Vec::from_slice(links.alloc(), y.words())?),
+        first: x,
+        second: Some(y),
     })
 }
 
 /// The second miner takes its words.
 #[inline(never)]
-fn got12<P: Party>(
-    state: Box<Split<P2, Waiting>>,
-    links: &mut Links,
-) -> Result<Progress<Splits<P>>, AllocError>
+fn got12<P: Party>(state: SplitWords, links: &mut Links) -> Result<Progress<Splits<P>>, AllocError>
     requires second { P.me ≡ number.Two }
     ensures same { IfOk result (λ to. outcome_of P.me links.new (progress_left splitting_left to)
-        ≡ outcome_of P.me links.old (awaits12 (length state.value.share) state.value)) }
+        ≡ outcome_of P.me links.old (awaits12 (length state.share) state)) }
     ensures stands { IfOk result (λ to. StandsThen splitting_left P.me links.new to) }
     ensures falls { IfOk result (λ to. Shorter links.old links.new to) }
     ensures kept { OnOk result (Holds links.old links.new) }
 {
-    let Some(msg) = links.from_previous.front() else {
+    let alloc = links.alloc();
+    let Some(words) = links.from_previous.lent() else {
         return Ok(Progress::Stands(
             Splits {
                 state: Splitting::Two(state),
@@ -148,38 +139,40 @@ fn got12<P: Party>(
             None,
         ));
     };
-    match Box::into_inner(state).got12(&msg) {
-        Ok((x, y)) => {
-            links.from_previous.take();
-            Ok(Progress::Made {
-                first: Vec::from_slice(links.alloc(), x.words())?,
-                second: Some(Vec::from_slice(links.alloc(), y.words())?),
-            })
-        }
-        Err(refused) => Ok(Progress::Stands(
+    let (want, have) = (state.size(), words.len());
+    if have != want {
+        let cause = BadMessage::BadLength {
+            want: want as u64,
+            have: have as u64,
+        };
+        return Ok(Progress::Stands(
             Splits {
-                state: Splitting::Two(links.boxed(refused.state)?),
+                state: Splitting::Two(state),
                 of: PhantomData,
             },
-            Some(refused.cause),
-        )),
+            Some(cause),
+        ));
     }
+    let (x, y) = state.got12(alloc, words)?;
+    links.from_previous.take();
+    Ok(Progress::Made {
+        first: x,
+        second: Some(y),
+    })
 }
 
 /// The third miner takes its words.
 #[inline(never)]
-fn got13<P: Party>(
-    state: Box<Split<P3, Waiting>>,
-    links: &mut Links,
-) -> Result<Progress<Splits<P>>, AllocError>
+fn got13<P: Party>(state: SplitWords, links: &mut Links) -> Result<Progress<Splits<P>>, AllocError>
     requires third { P.me ≡ number.Three }
     ensures same { IfOk result (λ to. outcome_of P.me links.new (progress_left splitting_left to)
-        ≡ outcome_of P.me links.old (awaits13 (length state.value.share) state.value)) }
+        ≡ outcome_of P.me links.old (awaits13 (length state.share) state)) }
     ensures stands { IfOk result (λ to. StandsThen splitting_left P.me links.new to) }
     ensures falls { IfOk result (λ to. Shorter links.old links.new to) }
     ensures kept { OnOk result (Holds links.old links.new) }
 {
-    let Some(msg) = links.from_next.front() else {
+    let alloc = links.alloc();
+    let Some(words) = links.from_next.lent() else {
         return Ok(Progress::Stands(
             Splits {
                 state: Splitting::Three(state),
@@ -188,20 +181,24 @@ fn got13<P: Party>(
             None,
         ));
     };
-    match Box::into_inner(state).got13(&msg) {
-        Ok((x, y)) => {
-            links.from_next.take();
-            Ok(Progress::Made {
-                first: Vec::from_slice(links.alloc(), x.words())?,
-                second: Some(Vec::from_slice(links.alloc(), y.words())?),
-            })
-        }
-        Err(refused) => Ok(Progress::Stands(
+    let (want, have) = (state.size(), words.len());
+    if have != want {
+        let cause = BadMessage::BadLength {
+            want: want as u64,
+            have: have as u64,
+        };
+        return Ok(Progress::Stands(
             Splits {
-                state: Splitting::Three(links.boxed(refused.state)?),
+                state: Splitting::Three(state),
                 of: PhantomData,
             },
-            Some(refused.cause),
-        )),
+            Some(cause),
+        ));
     }
+    let (x, y) = state.got13(alloc, words)?;
+    links.from_next.take();
+    Ok(Progress::Made {
+        first: x,
+        second: Some(y),
+    })
 }

@@ -11,7 +11,7 @@ use crate::running::Running;
 use crate::stand::Stand;
 use crate::tape::Tape;
 use block_steps::{Links, Pending, Progress, begin};
-use gates::{BLOCK_LEN, Gate, Values, Words};
+use gates::{BLOCK_LEN, Gate, Values};
 use joint_run::{local_share, second_value, suits};
 use proto_core::{BadMessage, Link, Party};
 use std::alloc::{AllocError, Global};
@@ -146,9 +146,7 @@ impl<P: Party> Engine<P> {
         let Some(store) = self.last_store(array) else {
             return Ok(false);
         };
-        let mut words = self.values.take(self.alloc, array).into_vec();
-        words[store.index] = store.word;
-        self.values.push(Words::new(words))?;
+        self.values.put_in_place(array, store.index, store.word)?;
         self.begun += 1;
         Ok(true)
     }

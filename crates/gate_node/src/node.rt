@@ -144,6 +144,13 @@ impl<P: Party> GateNode<P> {
         self.engine.advance()
     }
 
+    /// The words of its tape that were supplied.
+    pub fn supplied(&self) -> &[u64]
+        ensures { result.now ≡ self.now.tape.0 }
+    {
+        self.engine.tape.supplied()
+    }
+
     /// Its shares of what was dealt.
     pub fn dealt(&self) -> &Values
         ensures { result.now ≡ self.now.dealt }

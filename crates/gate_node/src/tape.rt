@@ -39,6 +39,13 @@ impl Tape {
         self.words.extend_from_slice(words)
     }
 
+    /// All words that were supplied.
+    pub fn supplied(&self) -> &[u64]
+        ensures { result.now ≡ self.now.0 }
+    {
+        &self.words
+    }
+
     /// The words that were not drawn.
     pub fn left(&self) -> &[u64]
         ensures { result.now ≡ self.now.1 }

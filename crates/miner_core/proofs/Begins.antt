@@ -15,8 +15,9 @@ use Rattle.value_steps.specs.declared.stage.Stage as reached
 use Rattle.code_machine.specs.Marks.{HasGained, again_at}
 use Rattle.code_machine.specs.Views.{machine_seen}
 use Rattle.code_machine.specs.declared.machine.Machine as running
+use Rattle.driven_nodes.specs.Driven.{telling}
 use Rattle.driven_nodes.specs.Steps.{Went, place_of, gained, last_of}
-use Rattle.code_turns.specs.Places.{Place, place, step_told, next_step, told_by}
+use Rattle.code_turns.specs.Places.{Place, place, step_told, next_step, told_by, where_made}
 use Rattle.block_steps.specs.Outcomes.{mail_left}
 use Rattle.gate_node.specs.OwnGates.{then_gates}
 use Rattle.gate_node.specs.Nodes as node
@@ -31,9 +32,9 @@ use Rattle.miner_core.specs.declared.engine.At.TheVariants as at
 use Rattle.miner_core.specs.declared.engine.Engine.{Engine}
 use Rattle.own_code.specs.OwnCode.{tell_and_go_on, gates_between, led_by, own_code}
 use Rattle.miner_core.specs.Views.{task_world, task_code}
-use Rattle.miner_core.specs.Engines.{place_at, code_from, engine_left, IsThrough, IsQuiet, GoesOn}
+use Rattle.miner_core.specs.Engines.{place_at, code_from, goes_on_at, engine_left, IsThrough, IsQuiet, IsDone, GoesOn}
 use Rattle.miner_core.proofs.Quiet.{QuietAt, quiet_own}
-use Rattle.miner_core.proofs.Turns.{first, acts_is, begins, does_again}
+use Rattle.miner_core.proofs.Turns.{first, IsLed, acts_is, begins, does_again}
 
 led_acts : (w : World) (c : List Function) (values : Values) (p : Place) (t : Turned) (m : Machine) (s : Stage) → GoesOn t →
     led_by w c values p (went_as t m s) ≡ went_as t m s
@@ -62,6 +63,42 @@ module _ (w : World) (c : List Function) (m n : Machine) (s later : Stage) (step
   place_again rewound back =
       let kept : n ≡ m = wants_keep w c (place None m s) [] (place None n later) step in
       ap (λ z. place None z rewound) kept ∙ ap (λ z. place None m z) (back gained_only)
+
+-- ---- a step is done with at once
+
+module _ {P : Type 0} (i : Number) (e : Engine P) (m : running.Machine) (s : reached.Stage) (f : ℕ) (t : Turned) (from : ℕ) (before : told.Told)
+    (ready : e.at ≡ at.Ready) (through : IsThrough i e.node) (fuel : e.fuel ≡ suc f) (step : first i e e ≡ went_to e.task.code t m s)
+    (gates_then : from ≡ length e.stage.gates.items) (events_then : before.events ≡ length e.stage.events.items) (done : IsDone t s from before) where
+  abbrev done_here : Engine P
+  done_here = record e { machine = m; stage = s; fuel = f }
+
+  went_on : first i e e ≡ went_as turned.On (machine_seen e.task.code m) (stage_seen s)
+  went_on = step ∙ ap (λ t. went_to e.task.code t m s) done.on
+
+  no_gates : [] ≡ gates_between (place_at i e) (place_of (first i e e))
+  no_gates =
+      sym done.made
+      ∙ ap (λ n. drop n s.gates.items) gates_then
+      ∙ sym (ap (λ (z : Went Place). gained e.stage.gates.items (place_of z).stage.gates) went_on)
+
+  no_events : drop (length e.stage.events.items) s.events.items ≡ []
+  no_events = ap (λ n. drop n s.events.items) (sym events_then) ∙ done.told
+
+  goes_on_there : IsLed i e done_here
+  goes_on_there values tape =
+      let w = task_world e.task in
+      let c = task_code e.task in
+      let p = place_at i e in
+      let q : Place = place None (machine_seen e.task.code m) (stage_seen s) in
+      let on = own_code w c i e.node.dealt f in
+      ap (λ a. goes_on_at i done_here a values tape) ready
+      ∙ sym (ap (λ events. telling (where_made events
+      (told_by (next_step p.machine) p.machine (gained p.stage.opened q.stage.opened) (last_of values))) (on q values tape)) no_events)
+      ∙ sym (ap (λ z. tell_and_go_on on p (led_by w c values p z) values tape) went_on)
+
+  pub done_left : engine_left i done_here ≡ engine_left i e
+  done_left =
+      begins i e done_here [] ready through (through ∙ sym (ap (λ v. then_do v (then_gates i e.node.dealt [])) through)) fuel no_gates goes_on_there
 
 -- ---- a step begins
 

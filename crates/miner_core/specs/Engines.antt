@@ -1,5 +1,5 @@
 -- What a miner has that runs code, and what is left for it to do.
-use Rattle.std.specs.Prelude.{◌≡◌, ℕ, ◌+◌, ◌*◌, List, [], ◌++◌, map, Option, Some, None}
+use Rattle.std.specs.Prelude.{◌≡◌, ℕ, ◌+◌, ◌*◌, List, [], ◌++◌, map, drop, Option, Some, None}
 use Rattle.sc_text.specs.declared.end.Ending.{Ending}
 use Rattle.proto_core.specs.declared.party.Number.{Number}
 use Rattle.proto_core.specs.Strand.{Notice, Mail, Strand, Ends, run, then_do, told_in}
@@ -8,6 +8,7 @@ use Rattle.gates.specs.Clear.{Values}
 use Rattle.code_machine.specs.Standing.{Stands}
 use Rattle.code_machine.specs.Views.{machine_seen}
 use Rattle.value_steps.specs.Views.{stage_seen}
+use Rattle.value_steps.specs.declared.stage.Stage as reached
 use Rattle.driven_nodes.specs.Driven.{telling}
 use Rattle.driven_nodes.specs.Steps.{Stopped, Short, stand_of, last_of}
 use Rattle.code_turns.specs.Places.{Place, place, step_told}
@@ -190,6 +191,12 @@ abbrev pub GoesOn : Turned → Type 0
 GoesOn turned.On = Unit {0}
 GoesOn (turned.Over ending) = Unit {0}
 GoesOn turned.Short = ⊥
+
+-- a step has led on, and has made no gate and no event since so many were there
+pub record IsDone (t : Turned) (s : reached.Stage) (gates : ℕ) (before : Told) : Type 0 where
+  pub on : t ≡ turned.On
+  pub made : drop gates s.gates.items ≡ []
+  pub told : drop before.events s.events.items ≡ []
 
 -- what it is at where a step has led so far, with its gates through
 abbrev pub led_to : Turned → At

@@ -8,7 +8,7 @@ ghost use Rattle.miner_core.specs.Engines.{acting, led_to, measure, GoesOn};
 
 use crate::letting_go::Letting;
 use crate::notice::{Notice, tell};
-use crate::stepping::{gates_from, step_told};
+use crate::stepping::{gates_from, is_done, step_alone, step_told};
 use crate::task::Task;
 use code_machine::{Machine, marked, rewind};
 use code_turns::{Speech, Told, Turned, last_words, next_speech, told_yet};
@@ -92,9 +92,46 @@ impl<P: Party> Drop for Engine<P> {
 }
 
 impl<P: Party> Engine<P> {
-    /// The next step, whose gates begin.
+    /// The next step, whose gates begin. Where it makes none and tells nothing, and the run goes on, it is done with: then `true` is answered, and
+    /// another step can be taken.
     #[inline(never)]
-    fn begin(&mut self) -> Result<(), AllocError>
+    fn begin(&mut self) -> Result<bool, AllocError>
+        requires ready { self.old.at ≡ Ready }
+        requires fuel { 0 < self.old.fuel }
+        requires through { IsThroughAlways P.me self.old.node }
+        requires sound { IsSoundAlways P.me self.old }
+        ensures left { OnOk result (left_with P.me self.new ≡ left_with P.me self.old) }
+        ensures kept { OnOk result (KeepsLinks self.old self.new) }
+        ensures sound { OnOk result (IsSoundAlways P.me self.new) }
+        ensures falls { OnOk result (measure self.new < measure self.old) }
+        ensures done { IfOk result (λ done. done ≡ true → (self.new.at ≡ Ready) × IsThroughAlways P.me self.new.node) }
+    {
+        let from = self.stage.gates.len();
+        let before = told_yet(&self.stage);
+        let mark = marked(&self.stage);
+        let speech = next_speech(self.alloc, &self.task.code, &self.machine)?;
+        let turned = step_alone(self.alloc, &self.task, &mut self.machine, &mut self.stage)?;
+        self.fuel -= 1;
+        if is_done(turned, &self.stage, from, before) {
+            return Ok(true);
+        }
+        let gates = gates_from(self.alloc, &self.stage.gates, from)?;
+        self.node.add(gates)?;
+        if wants_words(turned) {
+            rewind(&mut self.stage, &mark);
+            self.at = At::Again;
+            return Ok(false);
+        }
+        self.at = At::Acts {
+            turned,
+            speech,
+            before,
+        };
+        Ok(false)
+    }
+
+    /// The next step, and further ones as long as each is done with at once and fuel is left.
+    fn row(&mut self) -> Result<(), AllocError>
         requires ready { self.old.at ≡ Ready }
         requires fuel { 0 < self.old.fuel }
         requires through { IsThroughAlways P.me self.old.node }
@@ -104,31 +141,12 @@ impl<P: Party> Engine<P> {
         ensures sound { OnOk result (IsSoundAlways P.me self.new) }
         ensures falls { OnOk result (measure self.new < measure self.old) }
     {
-        let from = self.stage.gates.len();
-        let before = told_yet(&self.stage);
-        let mark = marked(&self.stage);
-        let speech = next_speech(self.alloc, &self.task.code, &self.machine)?;
-        let turned = step_told(
-            self.alloc,
-            &self.task,
-            &mut self.machine,
-            &mut self.stage,
-            &[],
-        )?;
-        let gates = gates_from(self.alloc, &self.stage.gates, from)?;
-        self.node.add(gates)?;
-        self.fuel -= 1;
-        if wants_words(turned) {
-            rewind(&mut self.stage, &mark);
-            self.at = At::Again;
-            return Ok(());
+        loop {
+            let done = self.begin()?;
+            if !done || self.fuel == 0 {
+                return Ok(());
+            }
         }
-        self.at = At::Acts {
-            turned,
-            speech,
-            before,
-        };
-        Ok(())
     }
 
     /// The same step once more, told the value that was made last.
@@ -184,7 +202,8 @@ impl<P: Party> Engine<P> {
         Ok(())
     }
 
-    /// The next step, if fuel is left. Before it, what isn't needed any more is let go; an array into which it stores is, where it can be.
+    /// The next steps, if fuel is left, up to one that isn't done with at once. Before them, what isn't needed any more is let go; after them the
+    /// array into which the last one stores, where it can be.
     fn ready(&mut self) -> Result<bool, AllocError>
         requires ready { self.old.at ≡ Ready }
         requires through { IsThroughAlways P.me self.old.node }
@@ -200,7 +219,7 @@ impl<P: Party> Engine<P> {
             return Ok(false);
         }
         self.let_go()?;
-        self.begin()?;
+        self.row()?;
         self.store_in_place()?;
         Ok(true)
     }

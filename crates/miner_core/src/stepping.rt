@@ -1,16 +1,36 @@
 // One step of the code, and the gates that it makes.
-ghost use Rattle.std.specs.Prelude.{◌≡◌, ◌≤◌, [], IfOk, drop, length};
+ghost use Rattle.std.specs.Prelude.{◌≡◌, ◌≤◌, [], true, IfOk, drop, length};
 ghost use Rattle.code_machine.specs.Standing.{Stands};
 ghost use Rattle.code_turns.specs.Places.{step_told};
 ghost use Rattle.code_turns.specs.Views.{place_in, went_to};
+ghost use Rattle.miner_core.specs.Engines.{IsDone};
 ghost use Rattle.miner_core.specs.Views.{task_world, task_code};
 
 use crate::task::Task;
 use code_machine::{Machine, step};
-use code_turns::{Turned, given_back, lent, turned};
+use code_turns::{Told, Turned, given_back, lent, turned};
 use gates::Gate;
 use std::alloc::{AllocError, Global};
 use value_steps::Stage;
+
+/// The next step, told no words. A step that doesn't go on leaves the machine as it was; with no memory left the stage may be
+/// anything.
+pub(crate) fn step_alone(
+    alloc: Global,
+    task: &Task,
+    machine: &mut Machine,
+    stage: &mut Stage<'_>,
+) -> Result<Turned, AllocError>
+    requires { Stands task.now.code machine.old }
+    ensures step { IfOk result (λ turned. step_told (task_world task.now) (task_code task.now) (place_in task.now.code machine.old stage.old) []
+        ≡ went_to task.now.code turned machine.new stage.new) }
+    ensures stands { Stands task.now.code machine.new }
+{
+    let world = task.world();
+    stage.answers = &[];
+    let stepped = step(alloc, &world, &task.code, machine, stage);
+    turned(stepped)
+}
 
 /// The next step, told these words. Words that it doesn't take are let go. A step that doesn't go on leaves the machine as it was; with no
 /// memory left the stage may be anything.
@@ -31,6 +51,16 @@ pub(crate) fn step_told(
     let stepped = step(alloc, &world, &task.code, machine, &mut own);
     *stage = given_back(own);
     turned(stepped)
+}
+
+/// Whether a step has led on and is done with: no gate was made since so many were there, and no event.
+pub(crate) fn is_done(turned: Turned, stage: &Stage<'_>, gates: usize, before: Told) -> bool
+    ensures { result ≡ true → IsDone turned stage.now gates before }
+{
+    match turned {
+        Turned::On => stage.gates.len() <= gates && stage.events.len() <= before.events,
+        Turned::Over(_) | Turned::Short => false,
+    }
 }
 
 /// The gates from this place of a list on, in memory of their own.

@@ -189,6 +189,13 @@ impl<P: Party> StreamMiner<P> {
         drawn_of(self.engine.stage.drawn, P::number())
     }
 
+    /// The words of its tape that it has drawn, in order.
+    pub fn words(&self) -> &[u64]
+        ensures { result.now ≡ self.now.story.tape }
+    {
+        self.engine.node.supplied()
+    }
+
     /// The messages that went to the next miner, oldest first.
     pub fn sent_to_next(&self) -> &Messages
         ensures { ForEachTape self.now (λ s. result.now ≡ sent_to_next P.me s) }

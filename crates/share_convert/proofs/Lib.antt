@@ -1,2 +1,3 @@
 pub mod BitFields
+pub mod Fields
 pub mod Tails

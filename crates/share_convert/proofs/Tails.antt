@@ -18,7 +18,7 @@ use Rattle.share_convert.specs.Steps.{OneStarts, Got31, Got12, Got32, Got13, Got
 abbrev holds : List ℕ → List ℕ → List ℕ → Held
 holds x y z = record { bits = x; word = y; mask = z }
 
-same_held : (a b : Held) → a.bits ≡ b.bits → a.word ≡ b.word → a.mask ≡ b.mask → a ≡ b
+pub same_held : (a b : Held) → a.bits ≡ b.bits → a.word ≡ b.word → a.mask ≡ b.mask → a ≡ b
 same_held a b bits word mask = ap (λ x. holds x a.word a.mask) bits ∙ ap (λ y. holds b.bits y a.mask) word ∙ ap (λ z. holds b.bits b.word z) mask
 
 module _ (n : ℕ) where

@@ -58,8 +58,11 @@ abbrev pub one_held : ℕ → (w : List ℕ) → Held
 one_held n w = record { bits = []; word = []; mask = a_of n w }
 
 -- 0 + a - a_3
+abbrev pub one_share : ℕ → Held → (got : List ℕ) → List ℕ
+one_share n held got = reshared add_ring n (zeros add_ring n) held.mask got
+
 abbrev pub one_ends : ℕ → Held → List ℕ → Strand (List (List ℕ))
-one_ends n held got = Ends (reshared add_ring n (zeros add_ring n) held.mask got ∷ [])
+one_ends n held got = Ends (one_share n held got ∷ [])
 
 abbrev pub awaits31 : ℕ → Held → Strand (List (List ℕ))
 awaits31 n held = Waits Link31 (shape31 n) (one_ends n held)
@@ -79,8 +82,11 @@ two_held n held got =
     }
 
 -- with the bits of b xor e xor u_3 it knows those of b xor u xor u_3
+abbrev pub two_share : ℕ → Held → (got : List ℕ) → List ℕ
+two_share n held got = plus add_ring n (one_less_where n (xor_bits n held.bits got) held.word) held.mask
+
 abbrev pub two_ends : ℕ → Held → List ℕ → Strand (List (List ℕ))
-two_ends n held got = Ends (plus add_ring n (one_less_where n (xor_bits n held.bits got) held.word) held.mask ∷ [])
+two_ends n held got = Ends (two_share n held got ∷ [])
 
 abbrev pub awaits32 : ℕ → Held → Strand (List (List ℕ))
 awaits32 n held = Waits Link32 (shape32 n) (two_ends n held)
@@ -99,9 +105,12 @@ abbrev pub three_held : ℕ → Held → (got : List ℕ) → Held
 three_held n held got = record { bits = xor_bits n (part n 1 got) held.bits; word = part n 0 got; mask = held.mask }
 
 -- with the bits of e xor u_2 it knows those of b xor u_2 xor u
+abbrev pub three_share : ℕ → Held → (got : List ℕ) → List ℕ
+three_share n held got =
+    reshared add_ring n (negative_where n (xor_bits n (part n 0 got) held.bits) held.word) held.mask (part n 1 got)
+
 abbrev pub three_ends : ℕ → Held → List ℕ → Strand (List (List ℕ))
-three_ends n held got =
-    Ends (reshared add_ring n (negative_where n (xor_bits n (part n 0 got) held.bits) held.word) held.mask (part n 1 got) ∷ [])
+three_ends n held got = Ends (three_share n held got ∷ [])
 
 abbrev pub awaits23 : ℕ → Held → Strand (List (List ℕ))
 awaits23 n held = Waits Link23 (shape23 n) (three_ends n held)

@@ -1,9 +1,10 @@
-ghost use Rattle.std.specs.Prelude.{◌≡◌, ◌+◌, ◌≤◌, ◌↔◌, length, IsOk, IfErr};
+ghost use Rattle.std.specs.Prelude.{◌≡◌, ◌+◌, ◌≤◌, ◌↔◌, length, IsOk, IfErr, OnOk};
+ghost use Rattle.proto_core.specs.Refusals.{AreBits, WrongBit};
 ghost use Rattle.share_convert.specs.Bits.{chosen, bits, xor_bits, bits_less, one_less_where, negative_where};
 ghost use Rattle.share_convert.specs.Steps.{HasBits, LacksBits};
 ghost use Rattle.share_ring.specs.Rings.{add_ring};
 
-use proto_core::{BadMessage, Block, Msg, check_bits};
+use proto_core::{BadMessage, Block, Msg};
 use share_ring::{AddRing, ShareRing, XorRing};
 
 /// Whether a message has `want` words of which the n from number `from` on are bits; else why not, the length first.
@@ -12,14 +13,41 @@ pub fn check_message(msg: &Msg, want: usize, from: usize, n: usize) -> Result<()
     ensures taken { IsOk result ↔ HasBits msg.now want from n }
     ensures err { IfErr result (λ cause. LacksBits msg.now want from n cause) }
 {
-    let have = msg.len();
+    check_words(msg.words(), want, from, n)
+}
+
+/// Whether there are `want` words of which the n from number `from` on are bits; else why not, the length first.
+pub fn check_words(words: &[u64], want: usize, from: usize, n: usize) -> Result<(), BadMessage>
+    requires { from + n ≤ want }
+    ensures taken { IsOk result ↔ HasBits words.now want from n }
+    ensures err { IfErr result (λ cause. LacksBits words.now want from n cause) }
+{
+    let have = words.len();
     if have != want {
         return Err(BadMessage::BadLength {
             want: want as u64,
             have: have as u64,
         });
     }
-    check_bits(msg, from, n)
+    check_bits(words, from, n)
+}
+
+/// Whether the n words from number `from` on are bits; else the first that is none.
+fn check_bits(words: &[u64], from: usize, n: usize) -> Result<(), BadMessage>
+    requires { from + n ≤ length words.now }
+    ensures ok { OnOk result (AreBits words.now from n) }
+    ensures err { IfErr result (WrongBit words.now from n) }
+{
+    for at in 0..n {
+        let word = words[from + at];
+        if word > 1 {
+            return Err(BadMessage::NotABit {
+                place: (from + at) as u64,
+                word,
+            });
+        }
+    }
+    Ok(())
 }
 
 /// The lowest bit of each word.
@@ -70,7 +98,7 @@ pub fn masked_bits<P>(
 }
 
 /// One word, or the other where the bit is set.
-fn choose(bit: u64, clear: u64, set: u64) -> u64
+pub(crate) fn choose(bit: u64, clear: u64, set: u64) -> u64
     ensures { result ≡ chosen bit clear set }
 {
     if bit == 0 { clear } else { set }
@@ -107,7 +135,7 @@ pub fn negated<P>(bits: &Block<XorRing, P>, words: &Block<AddRing, P>) -> Block<
 }
 
 /// What has to be added to give 0.
-fn negative(word: u64) -> u64
+pub(crate) fn negative(word: u64) -> u64
     ensures { result ≡ add_ring.neg word }
 {
     AddRing::sub(0, word)

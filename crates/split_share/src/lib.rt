@@ -2,9 +2,12 @@
 #![tactic(auto)]
 
 mod gate;
+mod kernels;
 mod split;
 mod together;
+mod words;
 
 pub use gate::{NegatedSplitGate, SplitGate, split_is_lawful};
 pub use split::{Sent, Split, Waiting};
 pub use together::{Splitting, split_together};
+pub use words::SplitWords;

@@ -139,7 +139,7 @@ fn sum_with<P>(u: &Block<AddRing, P>, got: &[u64], negated: bool) -> Block<XorRi
 }
 
 /// The word, or its negative modulo 2^64.
-fn with_sign(negated: bool, word: u64) -> u64
+pub(crate) fn with_sign(negated: bool, word: u64) -> u64
     ensures { result ≡ signed negated word }
 {
     if negated { AddRing::sub(0, word) } else { word }

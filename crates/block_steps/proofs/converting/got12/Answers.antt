@@ -1,15 +1,21 @@
+use Rattle.std.proofs.Common.{rules, ◌*◌, length, subst}
+use Rattle.share_convert.specs.Steps.{HasBits, LacksBits}
 use Rattle.block_steps.proofs.Deals.{turn12, refused12}
 use Rattle.block_steps.proofs.converting.got12.Goals as goal
 
-pub returns-in_ok-boxed-in-Ok-clause-same : goal.returns-in_ok-boxed-in-Ok-clause-same
-returns-in_ok-boxed-in-Ok-clause-same g c =
+pub returns-clause-same : goal.returns-clause-same
+returns-clause-same g c =
     let l = c.args.links.now in
-    turn12 g.P.Party.me c.args.state.value c.into_inner.result c.in-Ok.state c.in_ok-boxed-in-Ok.field-0.value c.in-Some.msg c.in-Ok.reply
-    l.from_previous.1 c.take.new.self.1 l.from_next.1 l.to_next c.push.new.self l.to_previous l.opened.items
-    c.requires.second c.into_inner.ensures c.in_ok-boxed-in-Ok.ensures c.in-Some.ensures c.take.ensures.left c.in-Ok.ensures.ok c.in_ok-push-in-Ok.ensures.ok
+    let m = c.in-Some.words.now in
+    let fits : HasBits m (3 * c.size-n.result) c.size-n.result c.size-n.result = search rules in
+    turn12 g.P.Party.me c.args.state c.in_ok-state.state m l.from_previous.1 c.take.new.self.1 l.from_next.1
+    l.to_next c.got12.new.third l.to_previous l.opened.items
+    c.requires.second c.in-Some.ensures c.take.ensures.left (subst (λ k. HasBits m (3 * k) k k) c.size-n.ensures.size fits)
+    c.in_ok-state.ensures.state c.in_ok-state.ensures.sent
 
-pub returns-in_ok-boxed-in-Err-clause-stands : goal.returns-in_ok-boxed-in-Err-clause-stands
-returns-in_ok-boxed-in-Err-clause-stands g c =
+pub returns-in-Err-clause-stands : goal.returns-in-Err-clause-stands
+returns-in-Err-clause-stands g c =
     let l = c.args.links.now in
-    refused12 g.P.Party.me c.into_inner.result c.in-Err.refused c.in_ok-boxed-in-Err.field-0.value c.in-Some.msg l.from_previous.1 l.from_next.1
-    c.requires.second c.in_ok-boxed-in-Err.ensures c.in-Some.ensures c.in-Err.ensures.err
+    let m = c.in-Some.words.now in
+    refused12 g.P.Party.me (length c.args.state.mask) m c.in-Err.cause l.from_previous.1 l.from_next.1 c.requires.second c.in-Some.ensures
+    (subst (λ k. LacksBits m (3 * k) k k c.in-Err.cause) c.size-n.ensures.size c.in-Err.ensures.err)

@@ -1,24 +1,12 @@
-use Rattle.std.proofs.Common.{[], ◌∷◌, length, sym, ap, ◌∙◌}
-use Rattle.proto_core.specs.declared.link.Link.TheVariants.{Link13}
-use Rattle.proto_core.specs.Parties.{from_next}
-use Rattle.proto_core.specs.Strand.{Words}
-use Rattle.split_share.specs.SplitStrand.{Held}
+use Rattle.std.proofs.Common.{◌≡◌, length, arith}
 use Rattle.block_steps.proofs.Deals.{split13}
-use Rattle.block_steps.proofs.Turns.{one-times, wrong-next}
 use Rattle.block_steps.proofs.splitting.got13.Goals as goal
 
-pub returns-in_ok-from_slice-in-Ok-2-clause-same : goal.returns-in_ok-from_slice-in-Ok-2-clause-same
-returns-in_ok-from_slice-in-Ok-2-clause-same g c =
+pub returns-clause-same : goal.returns-clause-same
+returns-clause-same g c =
     let l = c.args.links.now in
-    split13 g.P.Party.me c.args.state.value c.into_inner.result c.in-Some.msg c.in-Ok.x c.in-Ok.y c.in_ok-from_slice-in-Ok.field-0.items
-    c.in_ok-from_slice-in-Ok-2.field-0.items
-    l.from_next.1 c.take.new.self.1 l.from_previous.1 l.to_next l.to_previous l.opened.items
-    c.requires.third c.into_inner.ensures (c.in_ok-from_slice-in-Ok.ensures.items ∙ c.words.ensures.words)
-    (c.in_ok-from_slice-in-Ok-2.ensures.items ∙ c.words-in-Ok.ensures.words) c.in-Some.ensures c.take.ensures.left c.in-Ok.ensures.ok
-
-pub returns-in_ok-boxed-in-Err-clause-stands : goal.returns-in_ok-boxed-in-Err-clause-stands
-returns-in_ok-boxed-in-Err-clause-stands g c =
-    let l = c.args.links.now in
-    wrong-next (λ (s : Held). length s.share) (Words ∷ []) c.into_inner.result (length c.into_inner.result.share) c.in-Some.msg c.in-Err.refused
-    c.in_ok-boxed-in-Err.field-0.value g.P.Party.me l.from_next.1 l.from_previous.1 (one-times _) c.in-Err.ensures.err c.in_ok-boxed-in-Err.ensures Link13
-    (ap from_next (sym c.requires.third)) c.in-Some.ensures
+    let m = c.in-Some.words.now in
+    let fits : length m ≡ length c.args.state.share = omega (arith, c.size-want.ensures.size) in
+    split13 g.P.Party.me c.args.state m c.in_ok-x.x.items c.in_ok-x.y.items l.from_next.1 c.take.new.self.1 l.from_previous.1
+    l.to_next l.to_previous l.opened.items
+    c.requires.third c.in-Some.ensures c.take.ensures.left fits c.in_ok-x.ensures.first c.in_ok-x.ensures.second

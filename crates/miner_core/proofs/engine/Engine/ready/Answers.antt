@@ -9,18 +9,18 @@ pub returns-clause-same : goal.returns-clause-same
 returns-clause-same g c =
     let i = g.P.Party.me in
     let e = c.let_go.new.self in
-    let f = c.begin.new.self in
+    let f = c.row.new.self in
     shown_same_with i f c.store_in_place.new.self c.in_ok-store_in_place.ensures.left c.in_ok-store_in_place.ensures.kept
-    ∙ ap all_shown (beside_same_with i e e.at refl f c.in_ok-begin.ensures.left c.in_ok-begin.ensures.kept)
+    ∙ ap all_shown (beside_same_with i e e.at refl f c.in_ok-row.ensures.left c.in_ok-row.ensures.kept)
     ∙ shown_same_with i c.args.self.now e c.in_ok-let_go.ensures.left c.in_ok-let_go.ensures.kept
 
 pub returns-clause-told : goal.returns-clause-told
 returns-clause-told g c =
     let i = g.P.Party.me in
     let e = c.let_go.new.self in
-    let f = c.begin.new.self in
+    let f = c.row.new.self in
     shown_told_with i f c.store_in_place.new.self c.in_ok-store_in_place.ensures.left c.in_ok-store_in_place.ensures.kept
-    ∙ beside_told_with i e e.at refl f c.in_ok-begin.ensures.left c.in_ok-begin.ensures.kept
+    ∙ beside_told_with i e e.at refl f c.in_ok-row.ensures.left c.in_ok-row.ensures.kept
     ∙ shown_told_with i c.args.self.now e c.in_ok-let_go.ensures.left c.in_ok-let_go.ensures.kept
 
 pub returns-clause-kept : goal.returns-clause-kept
@@ -28,4 +28,4 @@ returns-clause-kept g c =
     let last = c.store_in_place.new.self in
     holds_links c.args.self.now last
     (links_kept c.args.self.now c.let_go.new.self last c.in_ok-let_go.ensures.kept
-    (links_kept c.let_go.new.self c.begin.new.self last c.in_ok-begin.ensures.kept c.in_ok-store_in_place.ensures.kept))
+    (links_kept c.let_go.new.self c.row.new.self last c.in_ok-row.ensures.kept c.in_ok-store_in_place.ensures.kept))

@@ -1,0 +1,9 @@
+use Rattle.std.proofs.Common.{◌≡◌, ◌≤◌, length}
+use Rattle.share_ring.specs.Rings.{add_ring}
+use Rattle.proto_core.specs.Lists.{at}
+use Rattle.proto_core.proofs.Edits.{edited}
+use Rattle.split_share.specs.SplitStrand.{signed}
+use Rattle.split_share.proofs.kernels.add_signed.Given as goal
+
+abbrev pub invariant-loop-at : goal.invariant-loop-at
+invariant-loop-at l = (l.at ≤ length l.fn.x) × (l.x ≡ edited l.at (λ k. signed l.negated (add_ring.add (at l.fn.x k) (at l.got k))) l.fn.x)
