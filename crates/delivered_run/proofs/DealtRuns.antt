@@ -1,6 +1,5 @@
 -- Three miners in a net that run code on shares of a file's inputs, as the code's run in the clear reports.
-use Rattle.std.proofs.Common.{◌≡◌, ℕ, false, List, map, Result, Ok, Err, refl, sym, ◌∙◌, ap, subst}
-use Rattle.std.specs.Result.{IsErrAnd}
+use Rattle.std.proofs.Common.{◌≡◌, ℕ, List, map, Result, Ok, Err, refl, ◌∙◌, ap, subst}
 use Rattle.proto_core.specs.declared.party.Number.{Number}
 use Rattle.proto_core.specs.declared.party.Number.TheVariants.{One, Two, Three}
 use Rattle.protocol_model.specs.Network.{Delivery}
@@ -26,12 +25,13 @@ use Rattle.link_schedule.specs.Net.{NetState, Own}
 use Rattle.program_run.specs.Reports.{lengths_of}
 use Rattle.program_run.specs.Codes.{CanRunOn, code_report}
 use Rattle.program_run.proofs.Told.{known_so}
-use Rattle.counted_net.specs.declared.delivery.DeliveryErr.{DeliveryErr}
+use Rattle.link_schedule.specs.Streams.{StreamNet, with_tapes}
+use Rattle.delivered_run.specs.declared.errors.CourseErr.{CourseErr}
 use Rattle.delivered_run.specs.declared.running.NetRun.{NetRun}
 use Rattle.delivered_run.specs.Courses.{HasNetRun, IsNetRun}
-use Rattle.delivered_run.specs.Deliveries.{IsRefused}
-use Rattle.delivered_run.specs.Nets.{Delivers, HasStopped, HasTold, net_with}
-use Rattle.delivered_run.proofs.Runs.{all_stopped, at_first, going_on, has_net_run, is_refused}
+use Rattle.delivered_run.specs.Drawing.{GoesOn}
+use Rattle.delivered_run.specs.Nets.{Delivers, net_with}
+use Rattle.delivered_run.proofs.Runs.{at_first, has_net_run, is_refused}
 
 abbrev pub own_with : Values → (tape : List ℕ) → Own
 own_with shares tape = record { dealt = shares; tape = tape }
@@ -73,26 +73,13 @@ module _ (code : RawCode) (entries : List Entry) (t : FourTapes) (budget : ℕ) 
       ∙ ap (λ f. files_net (public_world offer) (file One) f third) two
       ∙ ap (files_net (public_world offer) (file One) (file Two)) three
 
-  -- from that net
-  module _ (net : NetState) (is : net ≡ start) (given : Delivery) (then : NetState) where
-    from_start : (result : Result (Unit {0}) DeliveryErr) → Delivers given net then result → Delivers given start then result
-    from_start result h = subst (λ (n : NetState). Delivers given n then result) is h
-
-    pub goes : Delivers given net then (Ok tt) → then.lost ≡ false
-    goes h = going_on offer dealing (settled code) budget (miners_of t) report own given then (from_start (Ok tt) h)
-
-    pub stops : Delivers given net then (Ok tt) → HasStopped then
-    stops h = all_stopped offer dealing (settled code) budget (miners_of t) report own given then (from_start (Ok tt) h)
-
-    pub runs : (ran : NetRun) → Delivers given net then (Ok tt) → ran.net ≡ then → HasTold then ran.run.report
-        → ran.run.delivered.items ≡ then.delivered → HasNetRun offer dealing budget (miners_of t) report given ran
-    runs ran h = has_net_run offer dealing (settled code) budget (miners_of t) report own given then ran (from_start (Ok tt) h)
-
-    pub refuses : (e : DeliveryErr) → Delivers given net then (Err e) → IsRefused dealing report given e
-    refuses e h = is_refused offer dealing (settled code) budget (miners_of t) report own given then e (from_start (Err e) h)
-
-    pub refuses_on :
-        (e : DeliveryErr) → Delivers given net then (Err e) → (r : Result NetRun DeliveryErr) → IsErrAnd r (λ x. x ≡ e)
-        → IsNetRun offer dealing budget (miners_of t) report given r
-    refuses_on e h (Ok ran) is = absurd is
-    refuses_on e h (Err x) is = subst (IsRefused dealing report given) (sym is) (refuses e h)
+  -- what comes of it from that net
+  pub goes_on :
+      (net : StreamNet) → with_tapes net (miners_of t) ≡ start → (given : Delivery) (result : Result NetRun CourseErr)
+      → GoesOn given net result (miners_of t) → IsNetRun offer dealing budget (miners_of t) report given result
+  goes_on net is given (Ok ran) h =
+      has_net_run offer dealing (settled code) budget (miners_of t) report own given (with_tapes ran.net (miners_of t)) ran
+      (subst (λ (n : NetState). Delivers given n (with_tapes ran.net (miners_of t)) (Ok tt)) is h.delivers) refl h.may h.told h.delivered
+  goes_on net is given (Err e) h =
+      is_refused offer dealing (settled code) budget (miners_of t) report own (HasNetRun offer dealing budget (miners_of t) report given) given h.0 e
+      (subst (λ (n : NetState). Delivers given n h.0 (Err e)) is h.1)

@@ -4,6 +4,9 @@ pub mod Made
 pub mod Runs
 pub mod DealtRuns
 pub mod Undealt
+pub mod Dealing
 pub mod Going
+pub mod Netting
+pub mod Sources
 pub use Rattle.miner_runs.proofs.Programs
 pub use Rattle.program_run.proofs.Told

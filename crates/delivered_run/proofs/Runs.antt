@@ -23,12 +23,14 @@ use Rattle.link_schedule.specs.Net.{NetState, Own, after, net_mail, net_node, no
 use Rattle.link_schedule.specs.Orders.{IsMade, Makes}
 use Rattle.program_run.specs.Reports.{TellsAs}
 use Rattle.program_run.specs.declared.running.RunReport.{RunReport}
-use Rattle.counted_net.specs.declared.delivery.DeliveryErr.{DeliveryErr}
+use Rattle.link_schedule.specs.Streams.{MayHave, with_tapes}
 use Rattle.counted_net.specs.declared.delivery.DeliveryErr.TheVariants as err
+use Rattle.delivered_run.specs.declared.errors.CourseErr.{CourseErr}
+use Rattle.delivered_run.specs.declared.errors.CourseErr.TheVariants as course
 use Rattle.delivered_run.specs.declared.running.NetRun.{NetRun}
 use Rattle.delivered_run.specs.Courses.{HasNetRun, IsAtItsEnd}
-use Rattle.delivered_run.specs.Deliveries.{IsRefused, delivered_for, net_for}
-use Rattle.delivered_run.specs.Nets.{Delivers, HasStopped, HasTold, StopsAt, net_with}
+use Rattle.delivered_run.specs.Deliveries.{IsOr, delivered_for, net_for}
+use Rattle.delivered_run.specs.Nets.{Delivers, HasTold, StopsAt, net_with}
 use Rattle.delivered_run.proofs.Made.{order_made}
 
 module _ (o : Offered) (d : Dealt) (c : List Function) (budget : ℕ) (tapes : Tapes) (r : Report) (run : OwnRunAsReported o d c budget tapes r) where
@@ -110,9 +112,6 @@ module _ (o : Offered) (d : Dealt) (c : List Function) (budget : ℕ) (tapes : T
       ended = run.turns.stops.ended;
     }
 
-    pub stopped : HasStopped then
-    stopped = (run.turns.last, stops_there)
-
     -- with all messages they do what they do with the run's
     mail_so : behind links ≡ messages d r tapes
     mail_so e l = complete.came l e
@@ -137,12 +136,6 @@ module _ (o : Offered) (d : Dealt) (c : List Function) (budget : ℕ) (tapes : T
 
   -- ---- ANSWERS
 
-  pub going_on : (given : Delivery) (then : NetState) → Delivers given at_first then (Ok tt) → then.lost ≡ false
-  going_on given then h = going (delivered_for d r given) then (came given then h)
-
-  pub all_stopped : (given : Delivery) (then : NetState) → Delivers given at_first then (Ok tt) → HasStopped then
-  all_stopped given then h = stopped (delivered_for d r given) then (came given then h)
-
   at_its_end : (given : Delivery) (then : NetState) → Delivers given at_first then (Ok tt) → IsAtItsEnd o d budget tapes r given then
   at_its_end given then h =
       let links = delivered_for d r given in
@@ -156,25 +149,28 @@ module _ (o : Offered) (d : Dealt) (c : List Function) (budget : ℕ) (tapes : T
         node = node_at_end links then all;
       }
 
-  pub has_net_run : (given : Delivery) (then : NetState) (ran : NetRun) → Delivers given at_first then (Ok tt) → ran.net ≡ then
-      → HasTold then ran.run.report → ran.run.delivered.items ≡ then.delivered → HasNetRun o d budget tapes r given ran
-  has_net_run given then ran h stands told delivered = record {
+  pub has_net_run : (given : Delivery) (then : NetState) (ran : NetRun) → Delivers given at_first then (Ok tt) → with_tapes ran.net tapes ≡ then
+      → MayHave ran.net tapes → HasTold then ran.run.report → ran.run.delivered.items ≡ then.delivered → HasNetRun o d budget tapes r given ran
+  has_net_run given then ran h stands may told delivered = record {
     run = record {
       accepted = accepted given then h;
       told = tells (delivered_for d r given) then (came given then h) ran.run.report told;
       delivered = delivered ∙ delivered_so (delivered_for d r given) then (came given then h);
     };
+    may = may;
     net = subst (IsAtItsEnd o d budget tapes r given) (sym stands) (at_its_end given then h);
   }
 
   refused_listed : (links : List Link) (answer : Answer) → net_walked at_first links ≡ answer → net_for d r (Listed links) ≡ answer
   refused_listed links answer is = sym (run.counted (Listed links)) ∙ walked_so links answer is
 
-  pub is_refused : (given : Delivery) (then : NetState) (e : DeliveryErr) → Delivers given at_first then (Err e) → IsRefused d r given e
-  is_refused given then err.Memory h = tt
-  is_refused (Listed links) then (err.EmptyLink entry link sent) h = refused_listed links (EmptyLink entry link sent) h
-  is_refused (Listed links) then (err.Stalled miner link) h = refused_listed links (Stalled miner link) h
-  is_refused Default then (err.EmptyLink entry link sent) h = absurd h
-  is_refused Default then (err.Stalled miner link) h = absurd h
-  is_refused (Shuffled words) then (err.EmptyLink entry link sent) h = absurd h
-  is_refused (Shuffled words) then (err.Stalled miner link) h = absurd h
+  pub is_refused : {A : Type 0} (Q : A → Type 0) (given : Delivery) (then : NetState) (e : CourseErr) → Delivers given at_first then (Err e)
+      → IsOr d r given Q (Err e)
+  is_refused Q given then course.TapeFault h = tt
+  is_refused Q given then (course.Delivery err.Memory) h = tt
+  is_refused Q (Listed links) then (course.Delivery (err.EmptyLink entry link sent)) h = refused_listed links (EmptyLink entry link sent) h
+  is_refused Q (Listed links) then (course.Delivery (err.Stalled miner link)) h = refused_listed links (Stalled miner link) h
+  is_refused Q Default then (course.Delivery (err.EmptyLink entry link sent)) h = absurd h
+  is_refused Q Default then (course.Delivery (err.Stalled miner link)) h = absurd h
+  is_refused Q (Shuffled words) then (course.Delivery (err.EmptyLink entry link sent)) h = absurd h
+  is_refused Q (Shuffled words) then (course.Delivery (err.Stalled miner link)) h = absurd h

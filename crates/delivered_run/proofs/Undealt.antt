@@ -17,14 +17,19 @@ use Rattle.counted_net.specs.declared.delivery.DeliveryErr.{DeliveryErr}
 use Rattle.counted_net.specs.declared.delivery.DeliveryErr.TheVariants as err
 use Rattle.delivered_run.specs.declared.running.DeliveredRun.{DeliveredRun}
 use Rattle.delivered_run.specs.Courses.{IsUndealtRun}
-use Rattle.delivered_run.specs.Deliveries.{IsRefusedOf, IsRunOf}
+use Rattle.delivered_run.specs.Deliveries.{HasRunOf, IsRefusedOf}
 use Rattle.delivered_run.specs.Undealt.{IsUndealt, IsUndealtBy}
 use Rattle.delivered_run.proofs.Taken.{without_scripts}
 
+-- it has run, or is refused
+abbrev HasEnded : TypedProgramTree → List Entry → FourTapes → (budget : ℕ) → Delivery → Result DeliveredRun DeliveryErr → Type 0
+HasEnded p entries t budget given (Ok ran) = HasRunOf p entries t budget given ran
+HasEnded p entries t budget given (Err e) = IsRefusedOf p entries t budget given e
+
 module _ (p : TypedProgramTree) (entries : List Entry) (t : FourTapes) (budget : ℕ) (few : length t.dealer < need_of entries) (given : Delivery) where
-  pub undealt_run :
+  undealt_run :
       (need have : ℕ) → need ≡ need_of entries → have ≡ length t.dealer → (result : Result DeliveredRun DeliveryErr) → IsUndealt need have given result
-      → IsRunOf p entries t budget given result
+      → HasEnded p entries t budget given result
   undealt_run need have as_need as_have (Ok ran) h =
       let same = without_scripts p entries t budget few in
       record {

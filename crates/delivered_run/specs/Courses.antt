@@ -1,5 +1,5 @@
 -- How a program's run by three miners apart goes: what was dealt, and the miners as they stand behind it.
-use Rattle.std.specs.Prelude.{◌≡◌, ◌<◌, ℕ, List, length, false, Result, Ok, Err}
+use Rattle.std.specs.Prelude.{◌≡◌, ◌<◌, ℕ, List, length, false, Result}
 use Rattle.proto_core.specs.declared.party.Number.{Number}
 use Rattle.proto_core.specs.Net.{run_of}
 use Rattle.protocol_model.specs.Network.{Delivery}
@@ -21,12 +21,13 @@ use Rattle.program_run.specs.Dealt.{CanBeDealt}
 use Rattle.program_run.specs.Reports.{eval_with, lengths_of}
 use Rattle.miner_runs.specs.OwnRuns.{OwnRunAsReported, own_nodes}
 use Rattle.link_schedule.specs.Net.{NetState, by_number, net_node}
+use Rattle.link_schedule.specs.Streams.{MayHave, with_tapes}
 use Rattle.delivered_run.specs.declared.course.Course.{Course}
 use Rattle.delivered_run.specs.declared.course.Course.TheVariants as course
-use Rattle.counted_net.specs.declared.delivery.DeliveryErr.{DeliveryErr}
+use Rattle.delivered_run.specs.declared.errors.CourseErr.{CourseErr}
 use Rattle.delivered_run.specs.declared.running.DeliveredRun.{DeliveredRun}
 use Rattle.delivered_run.specs.declared.running.NetRun.{NetRun}
-use Rattle.delivered_run.specs.Deliveries.{HasRun, HasRunOf, IsRefused, IsRefusedOf, delivered_for}
+use Rattle.delivered_run.specs.Deliveries.{HasRun, HasRunOf, IsOr, IsOrRefused, delivered_for}
 
 -- ---- three miners with code, by what was offered and dealt, and the report of the run in the clear
 
@@ -40,14 +41,15 @@ module _ (o : Offered) (d : Dealt) (budget : ℕ) (tapes : Tapes) (r : Report) w
     pub delivered : net.delivered ≡ delivered_for d r given
     pub node : (i : Number) → net_node net i ≡ run_of (own_nodes o d code budget tapes) (messages d r tapes) i
 
+  -- these are tapes that the net may have, with which it is so
   pub record HasNetRun (given : Delivery) (ran : NetRun) : Type 0 where
     pub run : HasRun d r given ran.run
-    pub net : IsAtItsEnd given ran.net
+    pub may : MayHave ran.net tapes
+    pub net : IsAtItsEnd given (with_tapes ran.net tapes)
 
   -- so it is, or the schedule is refused
-  abbrev pub IsNetRun : Delivery → Result NetRun DeliveryErr → Type 0
-  IsNetRun given (Ok ran) = HasNetRun given ran
-  IsNetRun given (Err e) = IsRefused d r given e
+  abbrev pub IsNetRun : Delivery → Result NetRun CourseErr → Type 0
+  IsNetRun given result = IsOr d r given (HasNetRun given) result
 
 -- ---- of a program
 
@@ -75,6 +77,5 @@ module _ (p : TypedProgramTree) (entries : List Entry) (t : FourTapes) (budget :
   HasCourse (course.Dealt files end) = IsDealtRun files end
   HasCourse (course.Undealt run) = IsUndealtRun run
 
-  abbrev pub IsCourseOf : Result Course DeliveryErr → Type 0
-  IsCourseOf (Ok went) = HasCourse went
-  IsCourseOf (Err e) = IsRefusedOf p entries t budget given e
+  abbrev pub IsCourseOf : Result Course CourseErr → Type 0
+  IsCourseOf result = IsOrRefused p entries t budget given HasCourse result

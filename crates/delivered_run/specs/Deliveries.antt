@@ -14,6 +14,8 @@ use Rattle.program_run.specs.Reports.{TellsAs, eval_with}
 pub use Rattle.counted_net.specs.Answers.{delivery_seen}
 use Rattle.counted_net.specs.declared.delivery.DeliveryErr.{DeliveryErr}
 use Rattle.counted_net.specs.declared.delivery.DeliveryErr.TheVariants as err
+use Rattle.delivered_run.specs.declared.errors.CourseErr.{CourseErr}
+use Rattle.delivered_run.specs.declared.errors.CourseErr.TheVariants as course
 use Rattle.delivered_run.specs.declared.running.DeliveredRun.{DeliveredRun}
 
 -- ---- by what was dealt, and the report of the run in the clear
@@ -38,10 +40,11 @@ module _ (d : Dealt) (r : Report) where
   IsRefused given (err.Stalled miner link) = net_for given ≡ network.Stalled miner link
   IsRefused given err.Memory = Unit {0}
 
-  -- it has run so, or the schedule is refused
-  abbrev pub IsRun : network.Delivery → Result DeliveredRun DeliveryErr → Type 0
-  IsRun given (Ok ran) = HasRun given ran
-  IsRun given (Err e) = IsRefused given e
+  -- so it is, or the schedule is refused, or no more is said since a tape couldn't be read
+  abbrev pub IsOr : {A : Type 0} → network.Delivery → (A → Type 0) → Result A CourseErr → Type 0
+  IsOr given Q (Ok x) = Q x
+  IsOr given Q (Err (course.Delivery e)) = IsRefused given e
+  IsOr given Q (Err course.TapeFault) = Unit {0}
 
 -- ---- of a program, with tapes of these lengths
 
@@ -58,5 +61,9 @@ module _ (p : TypedProgramTree) (entries : List Entry) (t : FourTapes) (budget :
   abbrev pub IsRefusedOf : network.Delivery → DeliveryErr → Type 0
   IsRefusedOf given e = IsRefused (dealt_of entries t.dealer) (eval_with p entries t budget) given e
 
-  abbrev pub IsRunOf : network.Delivery → Result DeliveredRun DeliveryErr → Type 0
-  IsRunOf given result = IsRun (dealt_of entries t.dealer) (eval_with p entries t budget) given result
+  abbrev pub IsOrRefused : {A : Type 0} → network.Delivery → (A → Type 0) → Result A CourseErr → Type 0
+  IsOrRefused given Q result = IsOr (dealt_of entries t.dealer) (eval_with p entries t budget) given Q result
+
+  -- it has run so, or the schedule is refused
+  abbrev pub IsRunOf : network.Delivery → Result DeliveredRun CourseErr → Type 0
+  IsRunOf given result = IsOrRefused given (HasRunOf given) result

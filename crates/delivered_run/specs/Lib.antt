@@ -2,6 +2,8 @@ pub mod Client
 pub mod Deliveries
 pub mod Courses
 pub mod Nets
+pub mod Sources
+pub mod Drawing
 pub mod Undealt
 pub mod Premises
 pub mod Laws

@@ -19,8 +19,9 @@ use Rattle.link_schedule.specs.Net.{NetState, Own, after, net_node}
 use Rattle.link_schedule.specs.Orders.{Makes}
 use Rattle.program_run.specs.declared.running.RunReport.{RunReport}
 use Rattle.delivered_run.specs.declared.net.Setting.{Setting}
-use Rattle.counted_net.specs.declared.delivery.DeliveryErr.{DeliveryErr}
 use Rattle.counted_net.specs.declared.delivery.DeliveryErr.TheVariants as err
+use Rattle.delivered_run.specs.declared.errors.CourseErr.{CourseErr}
+use Rattle.delivered_run.specs.declared.errors.CourseErr.TheVariants as course
 
 -- a miner to which nothing was delivered
 abbrev pub story_for : World → List Function → (budget : ℕ) → Own → Story
@@ -43,17 +44,19 @@ net_with world code budget one two three =
 
 -- ---- what a delivery does
 
-abbrev pub Delivers : Delivery → (before then : NetState) → Result (Unit {0}) DeliveryErr → Type 0
+-- no more is said where memory was wanting, or a tape couldn't be read
+abbrev pub Delivers : Delivery → (before then : NetState) → Result (Unit {0}) CourseErr → Type 0
 Delivers Default before then (Ok done) = Makes (λ k. 0) before then
 Delivers (Shuffled words) before then (Ok done) = Makes words before then
 Delivers (Listed links) before then (Ok done) = (net_walked before links ≡ Accepted) × (then ≡ after before links)
-Delivers (Listed links) before then (Err (err.EmptyLink entry link sent)) = net_walked before links ≡ EmptyLink entry link sent
-Delivers (Listed links) before then (Err (err.Stalled miner link)) = net_walked before links ≡ Stalled miner link
-Delivers Default before then (Err (err.EmptyLink entry link sent)) = ⊥
-Delivers Default before then (Err (err.Stalled miner link)) = ⊥
-Delivers (Shuffled words) before then (Err (err.EmptyLink entry link sent)) = ⊥
-Delivers (Shuffled words) before then (Err (err.Stalled miner link)) = ⊥
-Delivers given before then (Err err.Memory) = Unit {0}
+Delivers (Listed links) before then (Err (course.Delivery (err.EmptyLink entry link sent))) = net_walked before links ≡ EmptyLink entry link sent
+Delivers (Listed links) before then (Err (course.Delivery (err.Stalled miner link))) = net_walked before links ≡ Stalled miner link
+Delivers Default before then (Err (course.Delivery (err.EmptyLink entry link sent))) = ⊥
+Delivers Default before then (Err (course.Delivery (err.Stalled miner link))) = ⊥
+Delivers (Shuffled words) before then (Err (course.Delivery (err.EmptyLink entry link sent))) = ⊥
+Delivers (Shuffled words) before then (Err (course.Delivery (err.Stalled miner link))) = ⊥
+Delivers given before then (Err (course.Delivery err.Memory)) = Unit {0}
+Delivers given before then (Err course.TapeFault) = Unit {0}
 
 -- ---- what is told
 
@@ -63,9 +66,6 @@ pub record StopsAt (net : NetState) (p : Place) : Type 0 where
   pub left : (net_node net One).left ≡ Ends (Reached (Stopped p) values)
   pub ending : Ending
   pub ended : p.ended ≡ Some ending
-
-abbrev pub HasStopped : NetState → Type 0
-HasStopped net = (p : Place) × StopsAt net p
 
 -- the client is told what the three miners tell together, and how and at which cost the first has ended
 pub record HasTold (net : NetState) (told : RunReport) : Type 0 where

@@ -1,20 +1,24 @@
 // How a program's run goes.
-ghost use Rattle.std.specs.Prelude.{◌≡◌};
+ghost use Rattle.std.specs.Prelude.{◌≡◌, ◌<◌, ◌≤◌};
+ghost use Rattle.outside.specs.Tapes.{TapesState};
 ghost use Rattle.typed_tree.specs.Programs.{typed_program_tree};
 ghost use Rattle.value_file.specs.Input.{AreInputs};
 ghost use Rattle.program_run.specs.Accepted.{IsAccepted};
 ghost use Rattle.delivered_run.specs.Courses.{IsCourseOf, run_told};
 ghost use Rattle.delivered_run.specs.Deliveries.{IsRunOf, delivery_seen};
+ghost use Rattle.delivered_run.specs.Drawing.{lengths_in, DealerDraws, CourseDraws};
+ghost use Rattle.delivered_run.specs.Sources.{RunsFrom};
 
+use crate::errors::CourseErr;
 use crate::running::{DeliveredRun, Job, NetRun, run_dealt, run_refused};
-use counted_net::{Delivery, DeliveryErr};
-use input_share::{Dealt, deal, see_entries};
+use counted_net::Delivery;
+use input_share::{Dealt, deal, need, see_entries};
+use miner_core::Lost;
+use outside::TapeSource;
 use program_run::compile_program;
 use std::alloc::Global;
-use tape_file::Tapes;
 use typed_tree::TypedProgram;
 use value_file::Inputs;
-use view_model::see_tapes;
 
 /// How a program's run went.
 pub enum Course {
@@ -46,34 +50,54 @@ impl Course {
     }
 }
 
-/// Runs a program: its code is verified, its inputs are dealt with the dealer's tape, and three miners, each with its shares and its tape
-/// alone, run the code, with their messages delivered in this order. What was dealt and the three miners, as they then stand, are kept.
-///
-/// A schedule is refused for its first entry without a message, else for the lowest miner that it leaves waiting.
-pub fn run_in_net(
-    alloc: Global,
-    program: &TypedProgram,
-    inputs: &Inputs,
-    tapes: &Tapes,
-    budget: u64,
-    delivery: &Delivery,
-) -> Result<Course, DeliveryErr>
-    requires accepted { IsAccepted (typed_program_tree program.now) }
-    requires inputs { AreInputs inputs.now }
-    ensures { IsCourseOf (typed_program_tree program.now) inputs.now tapes.now budget (delivery_seen delivery.now) result }
+/// How many words the four tapes have: those of the dealer and of miners 1, 2 and 3.
+fn lengths<T: TapeSource>(tapes: &T) -> [u64; 4]
+    ensures { result ≡ lengths_in (T.state tapes.now) }
 {
-    see_entries(inputs.entries());
-    see_tapes(tapes);
-    let code = compile_program(alloc, program)?;
-    let job = Job {
-        code: &code,
-        inputs,
-        tapes,
-        budget,
-    };
-    match deal(alloc, inputs, tapes.dealer(), tapes.lengths()) {
+    [tapes.left(0), tapes.left(1), tapes.left(2), tapes.left(3)]
+}
+
+/// How many words are drawn where so many are needed and so many are left.
+fn drawn_count(need: u128, left: u64) -> u64
+    ensures needed { result ≤ need }
+    ensures left { result ≤ left }
+    ensures all { result < need → result ≡ left }
+{
+    if u128::from(left) < need {
+        left
+    } else {
+        need as u64
+    }
+}
+
+/// The words of the dealer's tape that it needs for the inputs, or all where these are fewer.
+fn dealer_words<T: TapeSource>(
+    alloc: Global,
+    inputs: &Inputs,
+    tapes: &mut T,
+) -> Result<Vec<u64>, Lost>
+    ensures { DealerDraws (T.state tapes.old) (T.state tapes.new) inputs.now (λ words. words.items) result }
+{
+    let count = drawn_count(need(inputs.entries()), tapes.left(0));
+    let mut words = vec![in alloc; 0u64; count as usize]?;
+    tapes.take(0, words.as_mut_slice())?;
+    Ok(words)
+}
+
+/// The inputs are dealt with these words of the dealer's, and three miners run the code; or they can't be dealt.
+fn run_with<T: TapeSource>(
+    alloc: Global,
+    job: &Job<'_>,
+    words: &[u64],
+    delivery: &Delivery,
+    tapes: &mut T,
+) -> Result<Course, CourseErr>
+    requires { AreInputs job.now.inputs.now }
+    ensures { CourseDraws job.now words.now (delivery_seen delivery.now) (T.state tapes.old) (T.state tapes.new) result }
+{
+    match deal(alloc, job.inputs, words, job.lengths) {
         Ok(files) => {
-            let end = run_dealt(alloc, &job, &files, delivery)?;
+            let end = run_dealt(alloc, job, &files, delivery, tapes)?;
             Ok(Course::Dealt { files, end })
         }
         Err(refusal) => {
@@ -83,18 +107,52 @@ pub fn run_in_net(
     }
 }
 
-/// Runs a program as `run_in_net` does, and keeps what the miners told and on which links messages were delivered.
-pub fn run_delivered(
+/// Runs a program: its code is verified, its inputs are dealt with the next words of the dealer's tape, as many as they need, and three miners, each with
+/// its shares and its tape alone, run the code, with their messages delivered in this order. The words of the tapes are drawn from the source when they are
+/// needed. What was dealt and the three miners, as they then stand, are kept.
+///
+/// A schedule is refused for its first entry without a message, else for the lowest miner that it leaves waiting. `TapeFault` comes only where
+/// the source counted a fault in this call, and never where it is steady. What is said holds with all four tapes of words that begin with the words
+/// drawn and have as many behind them as are left; where the source tells its words, with those that it had.
+pub fn run_in_net<T: TapeSource>(
     alloc: Global,
     program: &TypedProgram,
     inputs: &Inputs,
-    tapes: &Tapes,
+    tapes: &mut T,
     budget: u64,
     delivery: &Delivery,
-) -> Result<DeliveredRun, DeliveryErr>
+) -> Result<Course, CourseErr>
     requires accepted { IsAccepted (typed_program_tree program.now) }
     requires inputs { AreInputs inputs.now }
-    ensures { IsRunOf (typed_program_tree program.now) inputs.now tapes.now budget (delivery_seen delivery.now) result }
+    ensures { RunsFrom (T.state tapes.old) (T.state tapes.new) inputs.now result
+        (λ t. IsCourseOf (typed_program_tree program.now) inputs.now t budget (delivery_seen delivery.now) result) }
+{
+    see_entries(inputs.entries());
+    let code = compile_program(alloc, program)?;
+    let lengths = lengths(tapes);
+    let words = dealer_words(alloc, inputs, tapes)?;
+    let job = Job {
+        code: &code,
+        inputs,
+        lengths,
+        budget,
+    };
+    run_with(alloc, &job, &words, delivery, tapes)
+}
+
+/// Runs a program as `run_in_net` does, and keeps what the miners told and on which links messages were delivered.
+pub fn run_delivered<T: TapeSource>(
+    alloc: Global,
+    program: &TypedProgram,
+    inputs: &Inputs,
+    tapes: &mut T,
+    budget: u64,
+    delivery: &Delivery,
+) -> Result<DeliveredRun, CourseErr>
+    requires accepted { IsAccepted (typed_program_tree program.now) }
+    requires inputs { AreInputs inputs.now }
+    ensures { RunsFrom (T.state tapes.old) (T.state tapes.new) inputs.now result
+        (λ t. IsRunOf (typed_program_tree program.now) inputs.now t budget (delivery_seen delivery.now) result) }
 {
     let course = run_in_net(alloc, program, inputs, tapes, budget, delivery)?;
     Ok(course.into_run())

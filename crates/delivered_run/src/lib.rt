@@ -4,11 +4,13 @@
 
 mod client;
 mod course;
+mod errors;
 mod laws;
 mod net;
 mod running;
 
 pub use counted_net::{Delivery, DeliveryErr};
 pub use course::{Course, run_delivered, run_in_net};
+pub use errors::CourseErr;
 pub use laws::made_deliveries_are_taken;
 pub use running::{DeliveredRun, NetRun};

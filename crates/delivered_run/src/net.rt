@@ -1,20 +1,25 @@
 // Three miners in a net.
-ghost use Rattle.std.specs.Prelude.{◌≡◌, false, IfOk};
+ghost use Rattle.std.specs.Prelude.{◌≡◌, None, IfOk};
+ghost use Rattle.outside.specs.Tapes.{TapesState};
 ghost use Rattle.verified_code.specs.Settled.{settled};
 ghost use Rattle.value_file.specs.PublicFile.{IsWritable};
 ghost use Rattle.view_model.specs.Dealing.{private_shares};
+ghost use Rattle.miner_core.specs.Drawing.{Draws};
 ghost use Rattle.miner_core.specs.Views.{task_world, task_code};
+ghost use Rattle.link_schedule.specs.Streams.{HasLeft};
 ghost use Rattle.delivered_run.specs.Deliveries.{delivery_seen};
-ghost use Rattle.delivered_run.specs.Nets.{setting_world, story_for, net_with, Delivers};
+ghost use Rattle.delivered_run.specs.Drawing.{made, scheduled, DeliversAll, IsNew, Makes};
+ghost use Rattle.delivered_run.specs.Nets.{setting_world};
 
+use crate::errors::CourseErr;
 use clear_eval::parts_given;
 use counted_net::{Delivery, DeliveryErr};
 use input_share::{Dealt, ShareFile};
 use link_schedule::{Net3, RunErr};
-use miner_core::{Miner, Task};
+use miner_core::{Lost, StreamMiner, Task};
+use outside::TapeSource;
 use proto_core::Party;
 use std::alloc::{AllocError, Global};
-use tape_file::Tapes;
 use value_file::PublicPart;
 use value_steps::Lengths;
 use verified_code::Verified;
@@ -51,57 +56,79 @@ fn task(alloc: Global, setting: &Setting<'_>) -> Result<Task, AllocError>
     })
 }
 
-/// A miner with its shares of the inputs and its tape.
-fn miner<P: Party>(
+/// A miner with its shares of the inputs. It draws its tape up to its first wait.
+fn miner<P: Party, T: TapeSource>(
     alloc: Global,
     setting: &Setting<'_>,
     file: &ShareFile,
-    tape: &[u64],
-) -> Result<Miner<P>, AllocError>
+    tapes: &mut T,
+) -> Result<StreamMiner<P>, Lost>
     requires { IsWritable setting.now.part.now }
-    ensures { IfOk result (λ m. m ≡ story_for (setting_world setting.now) (settled setting.now.code.now) setting.now.budget
-        (record { dealt = private_shares file.now.entries; tape = tape.now })) }
+    ensures made { IfOk result (IsNew (T.state tapes.old) (T.state tapes.new) P.me setting.now (private_shares file.now.entries)) }
+    ensures draws { Draws P.me (T.state tapes.old) (T.state tapes.new) result }
 {
     let dealt = own_shares(alloc, file.entries())?;
-    let tape = Vec::from_slice(alloc, tape)?;
     let task = task(alloc, setting)?;
-    Miner::new(alloc, task, dealt, tape, setting.budget)
+    StreamMiner::new(alloc, task, dealt, setting.budget, tapes)
 }
 
 /// The three miners, to which nothing was delivered.
-pub(crate) fn net(
+pub(crate) fn net<T: TapeSource>(
     alloc: Global,
     setting: &Setting<'_>,
     files: &Dealt,
-    tapes: &Tapes,
-) -> Result<Net3, AllocError>
+    tapes: &mut T,
+) -> Result<Net3, Lost>
     requires { IsWritable setting.now.part.now }
-    ensures { IfOk result (λ net. net ≡ net_with (setting_world setting.now) (settled setting.now.code.now) setting.now.budget
-        (record { dealt = private_shares files.now.first.entries; tape = tapes.now.one })
-        (record { dealt = private_shares files.now.second.entries; tape = tapes.now.two })
-        (record { dealt = private_shares files.now.third.entries; tape = tapes.now.three })) }
+    ensures { Makes (T.state tapes.old) (T.state tapes.new) setting.now files.now result }
 {
-    let one = miner(alloc, setting, &files.first, tapes.miner1())?;
-    let two = miner(alloc, setting, &files.second, tapes.miner2())?;
-    let three = miner(alloc, setting, &files.third, tapes.miner3())?;
-    Net3::new(one, two, three, alloc)
+    let one = miner(alloc, setting, &files.first, tapes)?;
+    let two = miner(alloc, setting, &files.second, tapes)?;
+    let three = miner(alloc, setting, &files.third, tapes)?;
+    Ok(Net3::new(one, two, three, alloc))
+}
+
+/// What comes of a schedule.
+fn scheduled(ran: Result<(), RunErr>) -> Result<(), CourseErr>
+    ensures { result ≡ scheduled ran }
+{
+    match ran {
+        Ok(()) => Ok(()),
+        Err(RunErr::EmptyLink { entry, link, sent }) => {
+            let refusal = DeliveryErr::EmptyLink { entry, link, sent };
+            Err(CourseErr::Delivery(refusal))
+        }
+        Err(RunErr::Stalled { miner, link }) => {
+            let refusal = DeliveryErr::Stalled { miner, link };
+            Err(CourseErr::Delivery(refusal))
+        }
+        Err(RunErr::Lost(lost)) => Err(CourseErr::from(lost)),
+    }
+}
+
+/// What comes of an order that the net makes itself.
+fn made(ran: Result<(), Lost>) -> Result<(), CourseErr>
+    ensures { result ≡ made ran }
+{
+    match ran {
+        Ok(()) => Ok(()),
+        Err(lost) => Err(CourseErr::from(lost)),
+    }
 }
 
 /// Delivers the messages in this order, to the end.
-pub(crate) fn deliver_all(net: &mut Net3, delivery: &Delivery) -> Result<(), DeliveryErr>
-    requires { net.old.lost ≡ false }
-    ensures { Delivers (delivery_seen delivery.now) net.old net.new result }
+pub(crate) fn deliver_all<T: TapeSource>(
+    net: &mut Net3,
+    delivery: &Delivery,
+    tapes: &mut T,
+) -> Result<(), CourseErr>
+    requires going { net.old.lost ≡ None }
+    requires left { HasLeft net.old (T.state tapes.old) }
+    ensures { DeliversAll (T.state tapes.old) (T.state tapes.new) (delivery_seen delivery.now) net.old net.new result }
 {
     match delivery {
-        Delivery::InTurn => Ok(net.drain()?),
-        Delivery::Scheduled(links) => match net.run(links) {
-            Ok(()) => Ok(()),
-            Err(RunErr::EmptyLink { entry, link, sent }) => {
-                Err(DeliveryErr::EmptyLink { entry, link, sent })
-            }
-            Err(RunErr::Stalled { miner, link }) => Err(DeliveryErr::Stalled { miner, link }),
-            Err(RunErr::Memory) => Err(DeliveryErr::Memory),
-        },
-        Delivery::Shuffled(seed) => Ok(net.shuffled(*seed)?),
+        Delivery::InTurn => made(net.drain(tapes)),
+        Delivery::Scheduled(links) => scheduled(net.run(links, tapes)),
+        Delivery::Shuffled(seed) => made(net.shuffled(*seed, tapes)),
     }
 }

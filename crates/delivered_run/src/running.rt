@@ -1,28 +1,24 @@
 // The run of a program by three miners apart.
-ghost use Rattle.std.specs.Prelude.{◌≡◌, false, Some, None, IfOk};
-ghost use Rattle.proto_core.specs.declared.party.Number.TheVariants.{One, Two, Three};
-ghost use Rattle.input_share.specs.Dealing.{dealt};
+ghost use Rattle.std.specs.Prelude.{◌≡◌, None, IfOk};
+ghost use Rattle.outside.specs.Tapes.{TapesState};
 ghost use Rattle.value_file.specs.Input.{AreInputs};
-ghost use Rattle.view_model.specs.TapeMaps.{miners_of};
-ghost use Rattle.clear_eval.specs.Offers.{offered};
-ghost use Rattle.program_run.specs.Inputs.{dealt_of};
-ghost use Rattle.program_run.specs.Reports.{lengths_of};
-ghost use Rattle.program_run.specs.Codes.{CanRunOn, code_report};
-ghost use Rattle.delivered_run.specs.Courses.{IsNetRun};
+ghost use Rattle.link_schedule.specs.Streams.{ForEachTapes, HasLeft};
 ghost use Rattle.delivered_run.specs.Deliveries.{delivery_seen};
-ghost use Rattle.delivered_run.specs.Nets.{HasStopped, HasTold};
+ghost use Rattle.delivered_run.specs.Drawing.{NetGoes, NetRuns, RunsDealt};
+ghost use Rattle.delivered_run.specs.Nets.{HasTold};
 ghost use Rattle.delivered_run.specs.Undealt.{IsFirstEntry, IsUndealt, IsUndealtBy};
 
 use crate::client::told_to_client;
+use crate::errors::CourseErr;
 use crate::net::{Setting, deliver_all, net};
 use counted_net::{Delivery, DeliveryErr};
 use input_share::{DealErr, Dealt};
 use link_schedule::Net3;
+use outside::TapeSource;
 use program_run::{RunReport, undealt};
 use proto_core::Link;
 use sc_text::End;
 use std::alloc::{AllocError, Global};
-use tape_file::Tapes;
 use value_file::{Inputs, public_part};
 use verified_code::Verified;
 
@@ -58,9 +54,8 @@ impl NetRun {
 
 // What the miners of a net have told that has come to its end.
 fn reported(alloc: Global, net: &Net3) -> Result<RunReport, AllocError>
-    requires going { net.now.lost ≡ false }
-    requires stopped { HasStopped net.now }
-    ensures { IfOk result (HasTold net.now) }
+    requires { net.now.lost ≡ None }
+    ensures { IfOk result (λ told. ForEachTapes net.now (λ n. HasTold n told)) }
 {
     let first = net.miner1();
     let events = told_to_client(
@@ -75,48 +70,59 @@ fn reported(alloc: Global, net: &Net3) -> Result<RunReport, AllocError>
             events,
             end: End { how, cost },
         }),
-        None => unreachable!(),
+        // No run of verified code ends otherwise.
+        None => Err(AllocError),
     }
 }
 
-/// What a run needs: the code, the inputs, the four tapes, and the budget.
+/// What a run needs: the code, the inputs, how many words the four tapes have, those of the dealer and of miners 1, 2 and 3, and the budget.
 #[derive(Drop)]
 pub(crate) struct Job<'a> {
     pub code: &'a Verified,
     pub inputs: &'a Inputs,
-    pub tapes: &'a Tapes,
+    pub lengths: [u64; 4],
     pub budget: u64,
 }
 
-/// Three miners run the code on their shares.
-pub(crate) fn run_dealt(
+/// The messages of a net are delivered in this order, and what comes of it is kept.
+fn run_net<T: TapeSource>(
+    alloc: Global,
+    net: Net3,
+    delivery: &Delivery,
+    tapes: &mut T,
+) -> Result<NetRun, CourseErr>
+    requires going { net.lost ≡ None }
+    requires left { HasLeft net (T.state tapes.old) }
+    ensures { NetGoes (T.state tapes.old) (T.state tapes.new) (delivery_seen delivery.now) net result }
+{
+    let mut net = net;
+    deliver_all(&mut net, delivery, tapes)?;
+    let report = reported(alloc, &net)?;
+    let delivered = Vec::from_slice(alloc, net.recorded())?;
+    let run = DeliveredRun { report, delivered };
+    Ok(NetRun { run, net })
+}
+
+/// Three miners run the code on their shares, and draw their tapes.
+pub(crate) fn run_dealt<T: TapeSource>(
     alloc: Global,
     job: &Job<'_>,
     files: &Dealt,
     delivery: &Delivery,
-) -> Result<NetRun, DeliveryErr>
-    requires inputs { AreInputs job.now.inputs.now }
-    requires first { files.now.first ≡ dealt One job.now.inputs.now job.now.tapes.now.dealer (lengths_of job.now.tapes.now) }
-    requires second { files.now.second ≡ dealt Two job.now.inputs.now job.now.tapes.now.dealer (lengths_of job.now.tapes.now) }
-    requires third { files.now.third ≡ dealt Three job.now.inputs.now job.now.tapes.now.dealer (lengths_of job.now.tapes.now) }
-    requires runs { CanRunOn job.now.code.now job.now.inputs.now job.now.tapes.now }
-    ensures { IsNetRun (offered job.now.inputs.now (lengths_of job.now.tapes.now)) (dealt_of job.now.inputs.now job.now.tapes.now.dealer)
-        job.now.budget (miners_of job.now.tapes.now) (code_report job.now.code.now job.now.inputs.now job.now.tapes.now job.now.budget)
-        (delivery_seen delivery.now) result }
+    tapes: &mut T,
+) -> Result<NetRun, CourseErr>
+    requires { AreInputs job.now.inputs.now }
+    ensures { NetRuns (T.state tapes.old) (T.state tapes.new) result (RunsDealt job.now files.now (delivery_seen delivery.now) result) }
 {
     let part = public_part(alloc, job.inputs)?;
     let setting = Setting {
         code: job.code,
         part: &part,
-        lengths: job.tapes.lengths(),
+        lengths: job.lengths,
         budget: job.budget,
     };
-    let mut net = net(alloc, &setting, files, job.tapes)?;
-    deliver_all(&mut net, delivery)?;
-    let report = reported(alloc, &net)?;
-    let delivered = Vec::from_slice(alloc, net.recorded())?;
-    let run = DeliveredRun { report, delivered };
-    Ok(NetRun { run, net })
+    let net = net(alloc, &setting, files, tapes)?;
+    run_net(alloc, net, delivery, tapes)
 }
 
 // The first link of a schedule.

@@ -95,4 +95,4 @@ module _ (old now : NetState) (schedule : List Link) (k : ℕ) (h : AtEntry old 
       by_answer (Ok done) g = (walks_is ∙ g, h.here ∙ ap (after old) all_taken)
       by_answer (Err (running.Stalled miner link)) g = (walks_is ∙ g, h.here ∙ ap (after old) all_taken)
       by_answer (Err (running.EmptyLink entry link sent)) g = absurd g
-      by_answer (Err running.Memory) g = absurd g
+      by_answer (Err (running.Lost why)) g = absurd g

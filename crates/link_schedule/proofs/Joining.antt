@@ -21,10 +21,8 @@ use Rattle.miner_core.specs.OwnCode.{own_code}
 use Rattle.miner_core.specs.Story.{Story, received, mail_in, strand_in, node, stands_at}
 use Rattle.counted_net.specs.declared.tally.Tally.{Tally}
 use Rattle.counted_net.specs.Cursors.{tally_on}
-use Rattle.link_schedule.specs.declared.miners.Miners.{Miners}
-use Rattle.link_schedule.specs.declared.net.Net3.TheInside.{Inside}
 use Rattle.link_schedule.specs.Net.{Own, NetState, nodes_in, net_mail, net_node, net_posted, is_under_way, after}
-use Rattle.link_schedule.specs.Parts.{story_in, own_of, state_of, AreAlike, IsFresh, Takes, TakesIf, Comes, sent_in, IsAt, IsPart, IsNet}
+use Rattle.link_schedule.specs.Parts.{Stories, story_in, own_of, state_of, AreAlike, IsFresh, Takes, TakesIf, Comes, sent_in, IsAt, IsPart, IsNet}
 use Rattle.link_schedule.proofs.Deliveries.{just, delivered-all, no_more, comes_to, passes_by, added_none, SameNode, late_same, is_number}
 use Rattle.link_schedule.proofs.Deliveries.{next_found, found_is_more, none_is_all, came_sent}
 
@@ -61,7 +59,7 @@ module _ (net : NetState) (i : Number) (s : Story) (p : IsPart net i s) where
       let same = subst (λ r. SameNode (node i s) r) node_is (late_same (strand_in i s) (mail_in i s) p.late p.none_late) in
       record { going = p.going; budget = p.budget; acts = same.acts; left = same.left; stands = same.stands }
 
-pub sent_is : (net : NetState) (m : Miners) → ((i : Number) → IsPart net i (story_in m i)) → (l : Link) → sent_in m l ≡ net_posted net l
+pub sent_is : (net : NetState) (m : Stories) → ((i : Number) → IsPart net i (story_in m i)) → (l : Link) → sent_in m l ≡ net_posted net l
 sent_is net m parts l = ap (on_link l) (part_at net (sender_of l) (story_in m (sender_of l)) (parts (sender_of l))).acts
 
 -- ---- what a miner was made with stays
@@ -89,10 +87,10 @@ takes_made true i s t l m (inl h) = subst (λ v. SameMade s v) (sym h.1) (receiv
 takes_made true i s t l m (inr h) = subst (λ v. SameMade s v) (sym h.1) (made_self s)
 takes_made false i s t l m h = subst (λ v. SameMade s v) (sym h) (made_self s)
 
-comes_made : (a b : Miners) (l : Link) (m : List ℕ) → Comes a b l m → (i : Number) → SameMade (story_in a i) (story_in b i)
+comes_made : (a b : Stories) (l : Link) (m : List ℕ) → Comes a b l m → (i : Number) → SameMade (story_in a i) (story_in b i)
 comes_made a b l m h i = takes_made (is_same (receiver_of l) i) i (story_in a i) (story_in b i) l m (h i)
 
-state_same : (a b : Miners) → ((i : Number) → SameMade (story_in a i) (story_in b i)) → (links : List Link) (lost : Bool) →
+state_same : (a b : Stories) → ((i : Number) → SameMade (story_in a i) (story_in b i)) → (links : List Link) (lost : Bool) →
     state_of b links lost ≡ state_of a links lost
 state_same a b h links lost =
     let world = (h One).world in
@@ -167,11 +165,11 @@ module _ (net : NetState) (l : Link) (m : List ℕ) (is : under_way (nodes_in ne
 
 -- ---- all three
 
-pub record IsDelivered (m m2 : Miners) (g2 : Tally) (links : List Link) (was : Bool) (l : Link) : Type 0 where
+pub record IsDelivered (m m2 : Stories) (g2 : Tally) (links : List Link) (was : Bool) (l : Link) : Type 0 where
   pub net : IsNet (state_of m2 (links ++ l ∷ []) false) m2 g2
   pub state : state_of m2 (links ++ l ∷ []) false ≡ after (state_of m links was) (l ∷ [])
 
-module _ (m m2 : Miners) (g g2 : Tally) (links : List Link) (was : Bool) (l : Link) (msg : List ℕ) (going : was ≡ false) where
+module _ (m m2 : Stories) (g g2 : Tally) (links : List Link) (was : Bool) (l : Link) (msg : List ℕ) (going : was ≡ false) where
   abbrev before : NetState
   before = state_of m links was
 
@@ -195,11 +193,11 @@ module _ (m m2 : Miners) (g g2 : Tally) (links : List Link) (was : Bool) (l : Li
       }
 
 -- a message that was under way has come to three miners of this net, with this schedule behind it
-pub record GivenTo (net : NetState) (m : Miners) (g : Tally) (links : List Link) (l : Link) : Type 0 where
+pub record GivenTo (net : NetState) (m : Stories) (g : Tally) (links : List Link) (l : Link) : Type 0 where
   pub net_is : IsNet (state_of m links false) m g
   pub state : state_of m links false ≡ after net (l ∷ [])
 
-pub given_to : (net : NetState) (m m2 : Miners) (g g2 : Tally) (links more : List Link) (was : Bool) (l : Link) (msg : List ℕ) →
+pub given_to : (net : NetState) (m m2 : Stories) (g g2 : Tally) (links more : List Link) (was : Bool) (l : Link) (msg : List ℕ) →
     state_of m links was ≡ net → IsNet net m g → net.lost ≡ false → is_under_way net l ≡ true → under_way (nodes_in net) (net_mail net) l ≡ msg ∷ [] →
     more ≡ links ++ l ∷ [] → Comes m m2 l msg → ((k : Link) → tally_on g2 k ≡ one_more l (tally_on g) k) → GivenTo net m2 g2 more l
 given_to net m m2 g g2 links more was l msg view net_is going full is more_is comes given =
@@ -211,18 +209,13 @@ given_to net m m2 g g2 links more was l msg view net_is going full is more_is co
       state = ap (λ ls. state_of m2 ls false) more_is ∙ d.state ∙ ap (λ n. after n (l ∷ [])) view;
     }
 
--- three miners whose fields make up this net
-pub net_of : (net : NetState) (n : Inside) → state_of n.miners n.recorded.items n.lost ≡ net →
-    (n.lost ≡ false → IsNet (state_of n.miners n.recorded.items n.lost) n.miners n.given) → net.lost ≡ false → IsNet net n.miners n.given
-net_of net n view is h = subst (λ v. IsNet v n.miners n.given) view (is (ap (λ (v : NetState). v.lost) view ∙ h))
-
 -- for which link a miner of the net waits
-pub waits_is : (net : NetState) (m : Miners) (g : Tally) → IsNet net m g → (i : Number) (o : Option Link) → o ≡ waits_for (node i (story_in m i)).left →
+pub waits_is : (net : NetState) (m : Stories) (g : Tally) → IsNet net m g → (i : Number) (o : Option Link) → o ≡ waits_for (node i (story_in m i)).left →
     waits_for (net_node net i).left ≡ o
 waits_is net m g n i o e = sym (e ∙ ap waits_for (part_at net i (story_in m i) (n.parts i)).left)
 
 -- the message that is under way, if one is
-module _ (net : NetState) (m : Miners) (g : Tally) (n : IsNet net m g) (l : Link) where
+module _ (net : NetState) (m : Stories) (g : Tally) (n : IsNet net m g) (l : Link) where
   asked : slice_get (sent_in m l) (tally_on g l) ≡ slice_get (net_posted net l) (length (net_mail net l))
   asked = ap (λ xs. slice_get xs (tally_on g l)) (sent_is net m n.parts l) ∙ ap (slice_get (net_posted net l)) (n.counted l)
 
@@ -250,7 +243,7 @@ fresh_came i s f =
     into_nothing i
     ∙ sym (added_none (mail_in i s) ∙ ap (λ p. mail_of i p s.from_next) f.from_previous ∙ ap (mail_of i []) f.from_next ∙ mail-none i)
 
-module _ (m : Miners) (two : AreAlike m.one m.two) (three : AreAlike m.one m.three)
+module _ (m : Stories) (two : AreAlike m.one m.two) (three : AreAlike m.one m.three)
     (one_fresh : IsFresh m.one) (two_fresh : IsFresh m.two) (three_fresh : IsFresh m.three) where
   first_part : (i : Number) → IsPart (state_of m [] false) i (story_in m i)
   unfolding net_mail

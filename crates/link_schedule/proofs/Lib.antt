@@ -5,3 +5,8 @@ pub mod Made
 pub mod Making
 pub mod Waiting
 pub mod Walks
+pub mod Drawing
+pub mod Along
+pub mod Coming
+pub mod Giving
+pub mod Ordering

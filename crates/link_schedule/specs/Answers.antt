@@ -13,7 +13,7 @@ abbrev pub DeliverAnswers : (before then : NetState) → Link → Result (Unit {
 DeliverAnswers before then l (Ok done) = (is_under_way before l ≡ true) × (then ≡ after before (l ∷ []))
 DeliverAnswers before then l (Err (delivering.EmptyLink entry link sent)) =
     (is_under_way before l ≡ false) × (entry ≡ length before.delivered) × (link ≡ l) × (sent ≡ length (net_posted before l)) × (then ≡ before)
-DeliverAnswers before then l (Err delivering.Memory) = then.lost ≡ true
+DeliverAnswers before then l (Err (delivering.Lost why)) = Unit {0}
 
 -- what the net makes of a schedule, behind what was delivered before
 abbrev pub net_walked : NetState → List Link → Answer
@@ -25,11 +25,11 @@ RunAnswers before then schedule (Ok done) = (net_walked before schedule ≡ Acce
 RunAnswers before then schedule (Err (running.Stalled miner link)) = (net_walked before schedule ≡ Stalled miner link) × (then ≡ after before schedule)
 RunAnswers before then schedule (Err (running.EmptyLink entry link sent)) =
     (net_walked before schedule ≡ EmptyLink entry link sent) × (then ≡ after before (take (entry - length before.delivered) schedule))
-RunAnswers before then schedule (Err running.Memory) = then.lost ≡ true
+RunAnswers before then schedule (Err (running.Lost why)) = Unit {0}
 
 -- behind the last entry
 abbrev pub EndAnswers : NetState → Result (Unit {0}) RunErr → Type 0
 EndAnswers net (Ok done) = net_walked net [] ≡ Accepted
 EndAnswers net (Err (running.Stalled miner link)) = net_walked net [] ≡ Stalled miner link
 EndAnswers net (Err (running.EmptyLink entry link sent)) = ⊥
-EndAnswers net (Err running.Memory) = ⊥
+EndAnswers net (Err (running.Lost why)) = ⊥

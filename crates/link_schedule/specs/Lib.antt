@@ -1,4 +1,6 @@
 pub mod Answers
+pub mod Coming
 pub mod Net
 pub mod Orders
 pub mod Parts
+pub mod Streams

@@ -1,4 +1,4 @@
--- Three miners, each at work on its part of a net.
+-- Three stories, each that of a miner at work on its part of a net.
 use Rattle.std.specs.Prelude.{◌≡◌, ◌≢◌, ◌⊎◌, ℕ, Bool, true, false, List, [], length}
 use Rattle.proto_core.specs.declared.party.Number.{Number}
 use Rattle.proto_core.specs.declared.link.Link.{Link}
@@ -9,17 +9,21 @@ use Rattle.proto_core.specs.Standing.{AtItsEnd, standing_of}
 use Rattle.counted_net.specs.declared.tally.Tally.{Tally}
 use Rattle.counted_net.specs.Cursors.{tally_on}
 use Rattle.miner_core.specs.Story.{Story, received, mail_in, node, stands_at}
-use Rattle.link_schedule.specs.declared.miners.Miners.{Miners}
 use Rattle.link_schedule.specs.Net.{Own, NetState, by_number, own_in, net_mail, net_node}
 
-abbrev pub story_in : Miners → Number → Story
+pub record Stories : Type 0 where
+  pub one : Story
+  pub two : Story
+  pub three : Story
+
+abbrev pub story_in : Stories → Number → Story
 story_in m i = by_number m.one m.two m.three i
 
 abbrev pub own_of : Story → Own
 own_of s = record { dealt = s.dealt; tape = s.tape }
 
--- what three miners are together, behind these deliveries
-abbrev pub state_of : Miners → List Link → Bool → NetState
+-- what three of them are together, behind these deliveries
+abbrev pub state_of : Stories → List Link → Bool → NetState
 state_of m links lost =
     record {
       world = m.one.world;
@@ -56,12 +60,12 @@ TakesIf true i before then l m = Takes i before then l m
 TakesIf false i before then l m = then ≡ before
 
 -- the others are as before
-abbrev pub Comes : Miners → Miners → Link → List ℕ → Type 0
+abbrev pub Comes : Stories → Stories → Link → List ℕ → Type 0
 Comes before then l m = (i : Number) → TakesIf (is_same (receiver_of l) i) i (story_in before i) (story_in then i) l m
 
 -- ---- a miner and the net
 
-abbrev pub sent_in : Miners → Mail
+abbrev pub sent_in : Stories → Mail
 sent_in m l = on_link l (node (sender_of l) (story_in m (sender_of l))).acts
 
 -- what it has done and where it stands is what the messages of the net lead to
@@ -85,7 +89,7 @@ pub record IsPart (net : NetState) (i : Number) (s : Story) : Type 0 where
 
 -- ---- counts
 
--- three miners of which this is the net, and the counts of what was delivered
-pub record IsNet (net : NetState) (m : Miners) (given : Tally) : Type 0 where
+-- three of which this is the net, and the counts of what was delivered
+pub record IsNet (net : NetState) (m : Stories) (given : Tally) : Type 0 where
   pub parts : (i : Number) → IsPart net i (story_in m i)
   pub counted : (l : Link) → tally_on given l ≡ length (net_mail net l)

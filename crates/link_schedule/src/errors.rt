@@ -1,24 +1,24 @@
 // Why a delivery or a schedule leads nowhere.
 ghost use Rattle.std.specs.Prelude.{◌≡◌};
-ghost use Rattle.link_schedule.specs.declared.errors.DeliverErr.TheVariants.{Memory};
+ghost use Rattle.link_schedule.specs.declared.errors.DeliverErr.TheVariants as delivering;
 
+use miner_core::Lost;
 use proto_core::{Link, Number};
-use std::alloc::AllocError;
 
 /// Why nothing was delivered.
 #[derive(Clone, Copy, Drop)]
 pub enum DeliverErr {
     /// All messages of the link that were sent, this many, are delivered. The entry is how many deliveries there were before.
     EmptyLink { entry: u64, link: Link, sent: u64 },
-    /// There is no memory left.
-    Memory,
+    /// The net is of no further use, for this cause.
+    Lost(Lost),
 }
 
-impl From<AllocError> for DeliverErr {
-    ghost from_gives = { λ _ e. e ≡ Memory };
+impl From<Lost> for DeliverErr {
+    ghost from_gives = { λ l e. e ≡ delivering.Lost l };
 
-    fn from(_: AllocError) -> Self {
-        DeliverErr::Memory
+    fn from(lost: Lost) -> Self {
+        DeliverErr::Lost(lost)
     }
 }
 
@@ -29,6 +29,6 @@ pub enum RunErr {
     EmptyLink { entry: u64, link: Link, sent: u64 },
     /// Behind the last entry this miner, the lowest of those that wait, waits for the next message of this link.
     Stalled { miner: Number, link: Link },
-    /// There is no memory left.
-    Memory,
+    /// The net is of no further use, for this cause.
+    Lost(Lost),
 }

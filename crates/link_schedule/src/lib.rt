@@ -1,5 +1,5 @@
-//! Three miners joined by links. Messages are delivered one by one, each the oldest of its link that wasn't: in the order of a schedule, in
-//! the default order, or in one that a seed chooses.
+//! Three miners joined by links, whose tapes are drawn from a source. Messages are delivered one by one, each the oldest of its link that
+//! wasn't: in the order of a schedule, in the default order, or in one that a seed chooses.
 #![tactic(auto)]
 
 mod errors;

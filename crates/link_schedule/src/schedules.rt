@@ -1,18 +1,20 @@
 // A net under a schedule.
-ghost use Rattle.std.specs.Prelude.{◌≡◌, true, false, Err};
-ghost use Rattle.link_schedule.specs.declared.errors.RunErr.TheVariants.{Memory};
+ghost use Rattle.std.specs.Prelude.{◌≡◌, Err, None, IfSome};
+ghost use Rattle.outside.specs.Tapes.{TapesState};
+ghost use Rattle.link_schedule.specs.declared.errors.RunErr.TheVariants as running;
 ghost use Rattle.link_schedule.specs.Answers.{EndAnswers, RunAnswers};
+ghost use Rattle.link_schedule.specs.Streams.{run_lost, Along, ForEachTapes, HasLeft};
 
 use crate::errors::{DeliverErr, RunErr};
 use crate::miners::awaited;
 use crate::net::Net3;
+use outside::TapeSource;
 use proto_core::{Link, Number};
 
 impl Net3 {
     /// The lowest miner that waits is named, if one does.
     fn stalled(&self) -> Result<(), RunErr>
-        requires { self.now.lost ≡ false }
-        ensures { EndAnswers self.now result }
+        ensures { ForEachTapes self.now (λ net. EndAnswers net result) }
     {
         if let Some(link) = awaited(&self.miners.one) {
             let miner = Number::One;
@@ -32,21 +34,23 @@ impl Net3 {
     /// Delivers the entries of a schedule, and says whether all three miners have then ended.
     ///
     /// `EmptyLink` names the first entry whose link has no message under way; those before it are delivered. `Stalled` comes where all are
-    /// delivered and a miner still waits.
-    pub fn run(&mut self, schedule: &[Link]) -> Result<(), RunErr>
-        ensures answers { self.old.lost ≡ false → RunAnswers self.old self.new schedule.now result }
-        ensures lost { self.old.lost ≡ true → (result ≡ Err Memory) × (self.new ≡ self.old) }
+    /// delivered and a miner still waits. `TapeFault` comes as from `deliver`.
+    pub fn run<T: TapeSource>(&mut self, schedule: &[Link], tapes: &mut T) -> Result<(), RunErr>
+        requires { HasLeft self.old (T.state tapes.old) }
+        ensures answers { self.old.lost ≡ None → Along self.old self.new (T.state tapes.old) (T.state tapes.new) (run_lost result)
+            (λ net then. RunAnswers net then schedule.now result) }
+        ensures lost { IfSome self.old.lost (λ why. (result ≡ Err (running.Lost why)) × (self.new ≡ self.old) × (tapes.new ≡ tapes.old)) }
     {
-        if self.lost {
-            return Err(RunErr::Memory);
+        if let Some(lost) = self.lost {
+            return Err(RunErr::Lost(lost));
         }
         for link in schedule {
-            match self.deliver(*link) {
+            match self.deliver(*link, tapes) {
                 Ok(()) => {}
                 Err(DeliverErr::EmptyLink { entry, link, sent }) => {
                     return Err(RunErr::EmptyLink { entry, link, sent });
                 }
-                Err(DeliverErr::Memory) => return Err(RunErr::Memory),
+                Err(DeliverErr::Lost(lost)) => return Err(RunErr::Lost(lost)),
             }
         }
         self.stalled()

@@ -70,6 +70,14 @@ impl<'a, F: Files> FileTapes<'a, F> {
             left,
         }
     }
+
+    /// The store, once no more words are drawn.
+    pub fn into_files(self) -> &'a mut F
+        ensures same { result.ghost_name ≡ self.entry.files.ghost_name }
+        ensures now { result.now ≡ self.entry.files.now }
+    {
+        self.files
+    }
 }
 
 impl<'a, F: Files> TapeSource for FileTapes<'a, F> {

@@ -29,6 +29,15 @@ impl<'a, F: Files> OwnTape<'a, F> {
             tapes: FileTapes::of_one(files, path, party, words, size),
         }
     }
+
+    /// The store, once no more words are drawn.
+    pub fn into_files(self) -> &'a mut F
+        ensures same { result.ghost_name ≡ self.entry.tapes.files.ghost_name }
+        ensures now { result.now ≡ self.entry.tapes.files.now }
+    {
+        let OwnTape { tapes } = self;
+        tapes.into_files()
+    }
 }
 
 impl<'a, F: Files> TapeSource for OwnTape<'a, F> {

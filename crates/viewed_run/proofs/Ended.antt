@@ -39,9 +39,10 @@ use Rattle.code_views.specs.Accepted.{IsAccepted}
 use Rattle.miner_core.specs.OwnCode.{Ended as Stopping}
 use Rattle.code_views.specs.OwnRuns.{OwnRunAsReported}
 use Rattle.link_schedule.specs.Net.{NetState, net_node, net_posted}
+use Rattle.link_schedule.specs.Streams.{with_tapes}
 use Rattle.delivered_run.specs.declared.running.NetRun.{NetRun}
 use Rattle.delivered_run.specs.Courses.{IsAtItsEnd, IsDealtRun, file_of}
-use Rattle.viewed_run.specs.Seats.{HasStopped, SeesIn, StopsAt}
+use Rattle.viewed_run.specs.Seats.{SeesIn, StopsAt}
 use Rattle.viewed_run.proofs.Agreeing.{gates_same}
 
 -- ---- a view of these parts
@@ -74,7 +75,7 @@ module _ (p : TypedProgramTree) (entries : List Entry) (t : FourTapes) (budget :
   d = dealt_of entries t.dealer
 
   abbrev net : NetState
-  net = ended.net
+  net = with_tapes ended.net (miners_of t)
 
   abbrev end : IsAtItsEnd (offered entries (lengths_of t)) d budget (miners_of t) r given net
   end = h.ran.net
@@ -90,9 +91,6 @@ module _ (p : TypedProgramTree) (entries : List Entry) (t : FourTapes) (budget :
         ending = (run).turns.stops.ending;
         ended = (run).turns.stops.ended;
       }
-
-  pub all_stopped : (i : Number) → HasStopped (net_node net i).left
-  all_stopped i = ((run).turns.last, left_so i)
 
   -- the messages that were sent are those of the gates on what is dealt
 

@@ -1,5 +1,5 @@
--- What a miner saw, by where it has stopped, what it was dealt, its tape, and the messages that were sent to it.
-use Rattle.std.specs.Prelude.{◌≡◌, ℕ, ◌-◌, List, [], map, take, Some}
+-- What a miner saw, by where it has stopped, what it was dealt, the words that it has drawn, and the messages that were sent to it.
+use Rattle.std.specs.Prelude.{◌≡◌, ℕ, ◌-◌, List, [], map, take, Some, None}
 use Rattle.sc_text.specs.declared.end.End.{End}
 use Rattle.sc_text.specs.declared.end.Ending.{Ending}
 use Rattle.proto_core.specs.declared.party.Number.{Number}
@@ -14,12 +14,13 @@ use Rattle.gate_laws.specs.Dealt.{drawn_by}
 use Rattle.driven_nodes.specs.Steps.{Stopped}
 use Rattle.miner_core.specs.Places.{Place}
 use Rattle.miner_core.specs.OwnCode.{Ended, Reached}
-use Rattle.miner_core.specs.Story.{has_told, node}
+use Rattle.miner_core.specs.Story.{Story, has_told, node}
+use Rattle.miner_core.specs.Streams.{StreamState, ForEachTape}
 use Rattle.view_text.specs.View.{View}
 use Rattle.program_views.specs.Views.{input_shares, received}
 use Rattle.code_views.specs.CodeViews.{shown_in}
 use Rattle.link_schedule.specs.Net.{NetState, net_node, net_posted}
-use Rattle.link_schedule.specs.Parts.{IsAt}
+use Rattle.link_schedule.specs.Streams.{StreamNet, ForEachTapes, IsMinerOf}
 use Rattle.viewed_run.specs.declared.seat.Seat.{Seat}
 
 -- ---- where it has stopped
@@ -30,11 +31,14 @@ pub record StopsAt (left : Strand Ended) (p : Place) : Type 0 where
   pub ending : Ending
   pub ended : p.ended ≡ Some ending
 
-abbrev pub HasStopped : Strand Ended → Type 0
-HasStopped left = (p : Place) × StopsAt left p
+-- how it has ended and at which cost, and the words of its tape that it has drawn
+module _ (i : Number) (s : Story) where
+  pub record EndsSo (end : End) : Type 0 where
+    pub how : (p : Place) → StopsAt (node i s).left p → p.ended ≡ Some end.how
+    pub cost : (p : Place) → StopsAt (node i s).left p → end.cost ≡ s.budget - p.stage.left
 
-abbrev pub AllHaveStopped : NetState → Type 0
-AllHaveStopped net = (i : Number) → HasStopped (net_node net i).left
+  abbrev pub Drew : List ℕ → Type 0
+  Drew words = (p : Place) → StopsAt (node i s).left p → words ≡ take (drawn_by p.stage.drawn (miner_of i)) s.tape
 
 -- ---- what it saw
 
@@ -56,19 +60,19 @@ nothing_but i end = record { miner = i; inputs = []; drew = []; got = []; opened
 -- ---- of a miner with what its view is made of
 
 module _ {P : Type 0} (i : Number) where
-  -- whatever the links carry that lead to others
+  -- with each tape that it may have, and whatever the links carry that lead to others
   abbrev pub SeesFrom : Seat P → View → Type 0
   SeesFrom seat v =
-      (mail : Mail) → mail (from_previous i) ≡ seat.previous.now → mail (from_next i) ≡ seat.next.now
-      → Sees i seat.miner.now.budget seat.file.now seat.tape.now (has_told i seat.miner.now) (node i seat.miner.now).left mail seat.order.now v
+      ForEachTape seat.miner.now
+      (λ s. (mail : Mail) → mail (from_previous i) ≡ seat.previous.now → mail (from_next i) ≡ seat.next.now
+      → Sees i s.budget seat.file.now s.tape (has_told i s) (node i s).left mail seat.order.now v)
 
-  -- that of a net, with this file and this tape
-  pub record Sits (net : NetState) (file : MinerFile) (tape : List ℕ) (seat : Seat P) : Type 0 where
-    pub at : IsAt net i seat.miner.now
+  -- that of a net, with this file
+  pub record Sits (net : StreamNet) (file : MinerFile) (seat : Seat P) : Type 0 where
+    pub miner : net.lost ≡ None → IsMinerOf net i seat.miner.now
     pub dealt : seat.file.now ≡ file
-    pub words : seat.tape.now ≡ tape
-    pub previous : seat.previous.now ≡ net_posted net (from_previous i)
-    pub next : seat.next.now ≡ net_posted net (from_next i)
+    pub previous : ForEachTapes net (λ n. seat.previous.now ≡ net_posted n (from_previous i))
+    pub next : ForEachTapes net (λ n. seat.next.now ≡ net_posted n (from_next i))
     pub order : seat.order.now ≡ net.delivered
 
 -- ---- of a miner in a net

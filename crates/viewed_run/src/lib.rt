@@ -7,6 +7,6 @@ mod parts;
 mod seat;
 mod seen;
 
-pub use delivered_run::{DeliveredRun, Delivery, DeliveryErr, run_delivered};
+pub use delivered_run::{CourseErr, DeliveredRun, Delivery, DeliveryErr, run_delivered};
 pub use laws::nets_agree;
 pub use seen::{SeenRun, Views, run_seen};

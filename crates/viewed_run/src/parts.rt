@@ -1,5 +1,5 @@
 // The parts of a view.
-ghost use Rattle.std.specs.Prelude.{◌≡◌, ◌++◌, ◌∷◌, [], map, take, IfOk, OnOk};
+ghost use Rattle.std.specs.Prelude.{◌≡◌, ◌≤◌, ◌++◌, ◌∷◌, [], length, map, take, IfOk, OnOk};
 ghost use Rattle.proto_core.specs.Parties.{from_previous, from_next};
 ghost use Rattle.proto_core.specs.Strand.{Mail};
 ghost use Rattle.protocol_model.specs.Arrivals.{arrivals};
@@ -15,13 +15,15 @@ use std::alloc::{AllocError, Global};
 use vector_ops::elements;
 use view_text::Received;
 
-/// As many words from the front of a tape, or all.
-#[tactic(auto, using(std::proofs::lemmas::List::take_min))]
-pub(crate) fn front(alloc: Global, tape: &[u64], count: u64) -> Result<Vec<u64>, AllocError>
-    ensures { IfOk result (λ words. words.items ≡ take count tape.now) }
+/// So many of these words, from the front. Where there are fewer, they are not given.
+pub(crate) fn front(alloc: Global, words: &[u64], count: u64) -> Result<Vec<u64>, AllocError>
+    ensures enough { IfOk result (λ _. count ≤ length words.now) }
+    ensures front { IfOk result (λ front. front.items ≡ take count words.now) }
 {
-    let count = count.min(tape.len() as u64) as usize;
-    Vec::from_slice(alloc, &tape[..count])
+    if count > words.len() as u64 {
+        return Err(AllocError);
+    }
+    Vec::from_slice(alloc, &words[..count as usize])
 }
 
 /// The messages that come to a miner by an order of deliveries, of those that its previous miner and its next one have sent to it.

@@ -1,20 +1,22 @@
 // A run, and what each miner saw of it.
-ghost use Rattle.std.specs.Prelude.{◌≡◌, false, IfOk};
+ghost use Rattle.std.specs.Prelude.{◌≡◌, IfOk};
+ghost use Rattle.outside.specs.Tapes.{TapesState};
 ghost use Rattle.value_file.specs.Input.{AreInputs};
 ghost use Rattle.typed_tree.specs.Programs.{typed_program_tree};
 ghost use Rattle.code_views.specs.Accepted.{IsAccepted};
 ghost use Rattle.delivered_run.specs.Deliveries.{delivery_seen};
-ghost use Rattle.viewed_run.specs.Seats.{AllHaveStopped, nothing_but};
-ghost use Rattle.viewed_run.specs.Seen.{HaveEnded, IsSeenRunOf, SeeIn, SeeOf};
+ghost use Rattle.delivered_run.specs.Sources.{RunsFrom};
+ghost use Rattle.viewed_run.specs.Seats.{nothing_but};
+ghost use Rattle.viewed_run.specs.Seen.{IsSeenRunOf, SeeIn, SeeOf};
 
 use crate::seat::{first, second, third, view};
-use delivered_run::{Course, DeliveredRun, Delivery, DeliveryErr, run_in_net};
+use delivered_run::{Course, CourseErr, DeliveredRun, Delivery, run_in_net};
 use input_share::Dealt;
 use link_schedule::Net3;
+use outside::TapeSource;
 use proto_core::Number;
 use sc_text::End;
 use std::alloc::{AllocError, Global};
-use tape_file::Tapes;
 use typed_tree::TypedProgram;
 use value_file::Inputs;
 use view_text::View;
@@ -37,6 +39,16 @@ impl Drop for Views {
     }
 }
 
+impl Views {
+    /// What miners 1, 2 and 3 saw.
+    pub fn into_each(self) -> (View, View, View)
+        ensures { (result.0 ≡ self.one) × (result.1 ≡ self.two) × (result.2 ≡ self.three) }
+    {
+        let Views { one, two, three } = self;
+        (one, two, three)
+    }
+}
+
 /// A run of which all messages came, and what each miner saw of it.
 pub struct SeenRun {
     pub run: DeliveredRun,
@@ -50,15 +62,23 @@ impl Drop for SeenRun {
     }
 }
 
+impl SeenRun {
+    /// The run, and what each miner saw of it.
+    pub fn into_parts(self) -> (DeliveredRun, Views)
+        ensures { (result.0 ≡ self.run) × (result.1 ≡ self.views) }
+    {
+        let SeenRun { run, views } = self;
+        (run, views)
+    }
+}
+
 // What the miners of a net saw, that have ended.
-fn views_in(alloc: Global, net: &Net3, files: &Dealt, tapes: &Tapes) -> Result<Views, AllocError>
-    requires going { net.now.lost ≡ false }
-    requires stopped { AllHaveStopped net.now }
-    ensures { IfOk result (SeeIn net.now files.now tapes.now) }
+fn views_in(alloc: Global, net: &Net3, files: &Dealt) -> Result<Views, AllocError>
+    ensures { IfOk result (SeeIn net.now files.now) }
 {
-    let one = view(alloc, &first(net, files, tapes))?;
-    let two = view(alloc, &second(net, files, tapes))?;
-    let three = view(alloc, &third(net, files, tapes))?;
+    let one = view(alloc, &first(net, files))?;
+    let two = view(alloc, &second(net, files))?;
+    let three = view(alloc, &third(net, files))?;
     Ok(Views { one, two, three })
 }
 
@@ -77,12 +97,11 @@ fn nothing_but(alloc: Global, miner: Number, end: End) -> View
 }
 
 // What the miners saw of a run.
-fn all_views(alloc: Global, course: &Course, tapes: &Tapes) -> Result<Views, AllocError>
-    requires { HaveEnded course.now }
-    ensures { IfOk result (SeeOf course.now tapes.now) }
+fn all_views(alloc: Global, course: &Course) -> Result<Views, AllocError>
+    ensures { IfOk result (SeeOf course.now) }
 {
     match course {
-        Course::Dealt { files, end } => views_in(alloc, &end.net, files, tapes),
+        Course::Dealt { files, end } => views_in(alloc, &end.net, files),
         Course::Undealt(run) => Ok(Views {
             one: nothing_but(alloc, Number::One, run.report.end),
             two: nothing_but(alloc, Number::Two, run.report.end),
@@ -93,21 +112,22 @@ fn all_views(alloc: Global, course: &Course, tapes: &Tapes) -> Result<Views, All
 
 /// Runs a program as `run_delivered` does, and tells what each miner saw: its shares of the private inputs, the words that it drew, the
 /// messages that came, in order of arrival, what was opened, and how it ended. Where the dealer's tape is too short for the inputs, each
-/// saw the end alone.
-pub fn run_seen(
+/// saw the end alone. It draws from the source what `run_delivered` does, and is refused as it is.
+pub fn run_seen<T: TapeSource>(
     alloc: Global,
     program: &TypedProgram,
     inputs: &Inputs,
-    tapes: &Tapes,
+    tapes: &mut T,
     budget: u64,
     delivery: &Delivery,
-) -> Result<SeenRun, DeliveryErr>
+) -> Result<SeenRun, CourseErr>
     requires accepted { IsAccepted (typed_program_tree program.now) }
     requires inputs { AreInputs inputs.now }
-    ensures { IsSeenRunOf (typed_program_tree program.now) inputs.now tapes.now budget (delivery_seen delivery.now) result }
+    ensures { RunsFrom (T.state tapes.old) (T.state tapes.new) inputs.now result
+        (λ t. IsSeenRunOf (typed_program_tree program.now) inputs.now t budget (delivery_seen delivery.now) result) }
 {
     let course = run_in_net(alloc, program, inputs, tapes, budget, delivery)?;
-    let views = all_views(alloc, &course, tapes)?;
+    let views = all_views(alloc, &course)?;
     Ok(SeenRun {
         run: course.into_run(),
         views,

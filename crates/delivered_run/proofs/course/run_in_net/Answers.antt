@@ -1,79 +1,48 @@
-use Rattle.std.proofs.Common.{◌≤◌, ℕ, List, length, All, subst}
-use Rattle.proto_core.specs.declared.party.Number.TheVariants.{One, Two, Three}
+use Rattle.std.proofs.Common.{All, Err, subst}
+use Rattle.std.proofs.lemmas.Result.{err_from_is_err_and}
 use Rattle.input_share.specs.AddUp.{HasWords}
-use Rattle.input_share.specs.Dealing.{need_of}
-use Rattle.input_share.specs.Refusal.{Refuses}
-use Rattle.clear_eval.specs.Offers.{offered}
-use Rattle.view_model.specs.TapeMaps.{miners_of}
-use Rattle.program_run.specs.Inputs.{AreSound, Suffice, dealt_of}
+use Rattle.program_run.specs.Inputs.{AreSound, dealt_of}
+use Rattle.program_run.specs.Reports.{eval_with}
 use Rattle.typed_tree.specs.Programs.{typed_program_tree}
-use Rattle.program_run.specs.Reports.{lengths_of}
-use Rattle.program_run.proofs.Shared.{can_run_so, report_so}
-use Rattle.delivered_run.specs.Courses.{HasNetRun}
+use Rattle.miner_core.specs.declared.answer.Lost.TheVariants as lost
+use Rattle.delivered_run.specs.declared.course.Course.{Course}
+use Rattle.delivered_run.specs.Courses.{HasCourse, IsCourseOf}
 use Rattle.delivered_run.specs.Deliveries.{delivery_seen}
-use Rattle.delivered_run.proofs.Going.{code_refused, course_refused, files_so}
-use Rattle.delivered_run.proofs.Undealt.{undealt_ran, undealt_refused}
+use Rattle.delivered_run.specs.Drawing.{course_of}
+use Rattle.delivered_run.proofs.Going.{lost_so}
+use Rattle.delivered_run.proofs.Sources.{runs_undrawn, runs_with, runs_without}
 use Rattle.delivered_run.proofs.course.run_in_net.Goals as goal
 
-pub run_dealt-requires-clause-runs : goal.run_dealt-requires-clause-runs
-run_dealt-requires-clause-runs c =
-    let entries = c.args.inputs.now in
-    let sound : AreSound entries = record { form = c.requires.inputs; words = subst (All HasWords) c.entries.ensures c.see_entries.ensures } in
-    let suffice : Suffice entries c.args.tapes.now.dealer = record {
-      words = c.see_tapes.ensures.words.dealer;
-      enough = subst (λ (w : List ℕ). need_of entries ≤ length w) c.dealer.ensures c.in-Ok.ensures.enough;
-    } in
-    can_run_so (typed_program_tree c.args.program.now) c.requires.accepted c.in_ok-code.code c.in_ok-code.ensures entries c.args.tapes.now
-    sound suffice (c.see_tapes.ensures.words.miners One) (c.see_tapes.ensures.words.miners Two)
-    (c.see_tapes.ensures.words.miners Three)
-
-pub returns-in_err-end-in-Ok : goal.returns-in_err-end-in-Ok
-returns-in_err-end-in-Ok c =
-    let entries = c.args.inputs.now in
-    let sound : AreSound entries = record { form = c.requires.inputs; words = subst (All HasWords) c.entries.ensures c.see_entries.ensures } in
-    let suffice : Suffice entries c.args.tapes.now.dealer = record {
-      words = c.see_tapes.ensures.words.dealer;
-      enough = subst (λ (w : List ℕ). need_of entries ≤ length w) c.dealer.ensures c.in-Ok.ensures.enough;
-    } in
-    code_refused (typed_program_tree c.args.program.now) entries c.args.tapes.now c.args.budget (delivery_seen c.args.delivery.now) _ _
-    (report_so (typed_program_tree c.args.program.now) c.requires.accepted c.in_ok-code.code c.in_ok-code.ensures entries c.args.tapes.now
-    sound suffice (c.see_tapes.ensures.words.miners One) (c.see_tapes.ensures.words.miners Two)
-    (c.see_tapes.ensures.words.miners Three) c.args.budget)
-    c.in_err-end-in-Ok.ensures c.from_residual-in_err-end-in-Ok.result c.from_residual-in_err-end-in-Ok.ensures.1
-
-pub returns-in-Ok : goal.returns-in-Ok
-returns-in-Ok c =
-    let entries = c.args.inputs.now in
-    let t = c.args.tapes.now in
-    let sound : AreSound entries = record { form = c.requires.inputs; words = subst (All HasWords) c.entries.ensures c.see_entries.ensures } in
-    let suffice : Suffice entries t.dealer = record {
-      words = c.see_tapes.ensures.words.dealer;
-      enough = subst (λ (w : List ℕ). need_of entries ≤ length w) c.dealer.ensures c.in-Ok.ensures.enough;
-    } in
-    record {
-      can = record { sound = sound; suffice = suffice; words = c.see_tapes.ensures.words.miners };
-      file = files_so entries t c.in-Ok.files _ _ c.dealer.ensures c.lengths.ensures c.in-Ok.ensures.first c.in-Ok.ensures.second c.in-Ok.ensures.third;
-      ran = subst (λ r. HasNetRun (offered entries (lengths_of t)) (dealt_of entries t.dealer) c.args.budget (miners_of t) r
-          (delivery_seen c.args.delivery.now) c.in_ok-end-in-Ok.end)
-          (report_so (typed_program_tree c.args.program.now) c.requires.accepted c.in_ok-code.code c.in_ok-code.ensures entries t
-          sound suffice (c.see_tapes.ensures.words.miners One) (c.see_tapes.ensures.words.miners Two) (c.see_tapes.ensures.words.miners Three)
-          c.args.budget)
-          c.in_ok-end-in-Ok.ensures;
-    }
-
-pub returns-in_err-run-in-Err : goal.returns-in_err-run-in-Err
-returns-in_err-run-in-Err c =
+pub returns-in_err-code : goal.returns-in_err-code
+returns-in_err-code g c =
+    let state = g.T.TapeSource.state in
     let p = typed_program_tree c.args.program.now in
+    let entries = c.args.inputs.now in
     let given = delivery_seen c.args.delivery.now in
-    let short =
-    subst (λ (w : List ℕ). Refuses (need_of c.args.inputs.now) (length w) c.in-Err.refusal) c.dealer.ensures c.in-Err.ensures.short in
-    course_refused p c.args.inputs.now c.args.tapes.now c.args.budget given _
-    (undealt_refused p c.args.inputs.now c.args.tapes.now c.args.budget given c.in-Err.refusal short _ c.in_err-run-in-Err.ensures)
-    c.from_residual-in_err-run-in-Err.result c.from_residual-in_err-run-in-Err.ensures.1
+    let is = err_from_is_err_and c.from_residual.result c.from_residual.ensures.1 in
+    rw (is.1, is.2)
+    (runs_without (state c.args.tapes.now) entries lost.Memory
+    (λ t. IsCourseOf p entries t c.args.budget given (Err (course_of lost.Memory))) tt
+    (λ t. lost_so Course (dealt_of entries t.dealer) (eval_with p entries t c.args.budget) given (HasCourse p entries t c.args.budget given) lost.Memory))
+
+pub returns-in_err-words : goal.returns-in_err-words
+returns-in_err-words g c =
+    let state = g.T.TapeSource.state in
+    let p = typed_program_tree c.args.program.now in
+    let entries = c.args.inputs.now in
+    let given = delivery_seen c.args.delivery.now in
+    let why = c.in_err-words.field-0.0 in
+    let is = err_from_is_err_and c.from_residual-in_err-words.result c.from_residual-in_err-words.ensures.1 in
+    rw (is.1, is.2)
+    (runs_undrawn (state c.args.tapes.now) (state c.dealer_words.new.tapes) entries (λ words. words.items) why
+    (λ t. IsCourseOf p entries t c.args.budget given (Err (course_of why))) c.in_err-words.ensures
+    (λ t. lost_so Course (dealt_of entries t.dealer) (eval_with p entries t c.args.budget) given (HasCourse p entries t c.args.budget given) why))
 
 pub returns : goal.returns
-returns c =
-    undealt_ran (typed_program_tree c.args.program.now) c.args.inputs.now c.args.tapes.now c.args.budget (delivery_seen c.args.delivery.now)
-    c.in-Err.refusal
-    (subst (λ (w : List ℕ). Refuses (need_of c.args.inputs.now) (length w) c.in-Err.refusal) c.dealer.ensures c.in-Err.ensures.short)
-    c.in_ok-run-in-Err.run' c.in_ok-run-in-Err.ensures
+returns g c =
+    let state = g.T.TapeSource.state in
+    let entries = c.args.inputs.now in
+    let sound : AreSound entries = record { form = c.requires.inputs; words = subst (All HasWords) c.entries.ensures c.see_entries.ensures } in
+    runs_with (state c.args.tapes.now) (state c.dealer_words.new.tapes) (state c.run_with.new.tapes) _ (λ words. words.items) c.in_ok-words.words
+    c.deref.result.now (delivery_seen c.args.delivery.now) c.run_with.result c.in_ok-words.ensures c.run_with.ensures c.deref.ensures.value
+    c.lengths-lengths.ensures (typed_program_tree c.args.program.now) c.requires.accepted c.in_ok-code.ensures sound

@@ -1,54 +1,30 @@
-use Rattle.std.proofs.Common.{refl, ◌∙◌}
+use Rattle.std.proofs.Common.{refl}
+use Rattle.std.proofs.lemmas.Result.{err_from_is_err_and}
 use Rattle.delivered_run.specs.Deliveries.{delivery_seen}
-use Rattle.delivered_run.proofs.DealtRuns.{goes, net_is, refuses_on, runs, stops}
+use Rattle.delivered_run.proofs.Netting.{runs_made, runs_unmade, runs_without}
 use Rattle.delivered_run.proofs.running.run_dealt.Goals as goal
 
-pub reported-requires-clause-going : goal.reported-requires-clause-going
-reported-requires-clause-going c =
-    let job = c.args.job.now in
-    let files = c.args.files.now in
-    let entries = job.inputs.now in
-    let t = job.tapes.now in
-    goes job.code.now entries t job.budget c.requires.runs c.in_ok-net.net
-    (c.in_ok-net.ensures
-    ∙ net_is job.code.now entries t job.budget c.requires.runs c.in_ok-part.part c.lengths.result files.first files.second files.third
-    c.in_ok-part.ensures.value c.lengths.ensures c.requires.first c.requires.second c.requires.third)
-    (delivery_seen c.args.delivery.now) c.deliver_all.new.net c.in_ok-deliver_all.ensures
+pub returns-in_err-part : goal.returns-in_err-part
+returns-in_err-part g c =
+    let is = err_from_is_err_and c.from_residual.result c.from_residual.ensures.1 in
+    rw (is.1, is.2) (runs_without c.args.job.now c.args.files.now (delivery_seen c.args.delivery.now) (g.T.TapeSource.state c.args.tapes.now))
 
-pub reported-requires-clause-stopped : goal.reported-requires-clause-stopped
-reported-requires-clause-stopped c =
-    let job = c.args.job.now in
-    let files = c.args.files.now in
-    let entries = job.inputs.now in
-    let t = job.tapes.now in
-    stops job.code.now entries t job.budget c.requires.runs c.in_ok-net.net
-    (c.in_ok-net.ensures
-    ∙ net_is job.code.now entries t job.budget c.requires.runs c.in_ok-part.part c.lengths.result files.first files.second files.third
-    c.in_ok-part.ensures.value c.lengths.ensures c.requires.first c.requires.second c.requires.third)
-    (delivery_seen c.args.delivery.now) c.deliver_all.new.net c.in_ok-deliver_all.ensures
+pub returns-in_err-net : goal.returns-in_err-net
+returns-in_err-net g c =
+    let state = g.T.TapeSource.state in
+    let is = err_from_is_err_and c.from_residual-in_err-net.result c.from_residual-in_err-net.ensures.1 in
+    rw (is.1, is.2)
+    (runs_unmade c.args.job.now c.args.files.now (delivery_seen c.args.delivery.now) _ (state c.args.tapes.now) (state c.net.new.tapes)
+    c.in_err-net.field-0.0 c.in_err-net.ensures)
 
-pub returns-in_err-deliver_all : goal.returns-in_err-deliver_all
-returns-in_err-deliver_all c =
-    let job = c.args.job.now in
-    let files = c.args.files.now in
-    let entries = job.inputs.now in
-    let t = job.tapes.now in
-    refuses_on job.code.now entries t job.budget c.requires.runs c.in_ok-net.net
-    (c.in_ok-net.ensures
-    ∙ net_is job.code.now entries t job.budget c.requires.runs c.in_ok-part.part c.lengths.result files.first files.second files.third
-    c.in_ok-part.ensures.value c.lengths.ensures c.requires.first c.requires.second c.requires.third)
-    (delivery_seen c.args.delivery.now) c.deliver_all.new.net _ c.in_err-deliver_all.ensures c.from_residual-in_err-deliver_all.result
-    c.from_residual-in_err-deliver_all.ensures.1
+pub run_net-requires-clause-going : goal.run_net-requires-clause-going
+run_net-requires-clause-going g c = c.in_ok-net.ensures.ok.going
+
+pub run_net-requires-clause-left : goal.run_net-requires-clause-left
+run_net-requires-clause-left g c = λ going. c.in_ok-net.ensures.ok.left
 
 pub returns : goal.returns
-returns c =
-    let job = c.args.job.now in
-    let files = c.args.files.now in
-    let entries = job.inputs.now in
-    let t = job.tapes.now in
-    runs job.code.now entries t job.budget c.requires.runs c.in_ok-net.net
-    (c.in_ok-net.ensures
-    ∙ net_is job.code.now entries t job.budget c.requires.runs c.in_ok-part.part c.lengths.result files.first files.second files.third
-    c.in_ok-part.ensures.value c.lengths.ensures c.requires.first c.requires.second c.requires.third)
-    (delivery_seen c.args.delivery.now) c.deliver_all.new.net _ c.in_ok-deliver_all.ensures refl c.in_ok-report.ensures
-    (c.in_ok-delivered.ensures.items ∙ c.recorded.ensures)
+returns g c =
+    let state = g.T.TapeSource.state in
+    runs_made c.args.job.now c.args.files.now (delivery_seen c.args.delivery.now) _ refl refl refl c.in_ok-part.ensures.value (state c.args.tapes.now)
+    (state c.net.new.tapes) (state c.run_net.new.tapes) c.in_ok-net.net c.in_ok-net.ensures c.run_net.result c.run_net.ensures

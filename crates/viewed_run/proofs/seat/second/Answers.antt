@@ -1,19 +1,21 @@
 use Rattle.std.proofs.Common.{◌∙◌, ap, refl}
 use Rattle.proto_core.specs.declared.link.Link.TheVariants.{Link12, Link32}
+use Rattle.proto_core.specs.declared.party.Number.TheVariants.{One, Three}
 use Rattle.proto_core.specs.Strand.{on_link}
+use Rattle.delivered_run.proofs.Netting.{own_tape}
 use Rattle.viewed_run.proofs.seat.second.Goals as goal
 
 pub returns : goal.returns
 returns c =
-    let going = c.requires in
-    let own = c.miner2.ensures going in
-    let previous = c.miner1.ensures going in
-    let next = c.miner3.ensures going in
+    let net = c.args.net.now in
     record {
-      at = own;
+      miner = c.miner2.ensures;
       dealt = refl;
-      words = c.miner2-2.ensures;
-      previous = c.sent_to_next.ensures previous.going ∙ ap (on_link Link12) previous.acts;
-      next = c.sent_to_previous.ensures next.going ∙ ap (on_link Link32) next.acts;
+      previous = λ going tapes may.
+          let m = c.miner1.ensures going in
+          c.sent_to_next.ensures m.going (tapes One) (own_tape net One c.miner1.result.now m tapes may) ∙ ap (on_link Link12) (m.at tapes may).acts;
+      next = λ going tapes may.
+          let m = c.miner3.ensures going in
+          c.sent_to_previous.ensures m.going (tapes Three) (own_tape net Three c.miner3.result.now m tapes may) ∙ ap (on_link Link32) (m.at tapes may).acts;
       order = c.recorded.ensures;
     }

@@ -1,19 +1,21 @@
 use Rattle.std.proofs.Common.{◌∙◌, ap, refl}
 use Rattle.proto_core.specs.declared.link.Link.TheVariants.{Link23, Link13}
+use Rattle.proto_core.specs.declared.party.Number.TheVariants.{One, Two}
 use Rattle.proto_core.specs.Strand.{on_link}
+use Rattle.delivered_run.proofs.Netting.{own_tape}
 use Rattle.viewed_run.proofs.seat.third.Goals as goal
 
 pub returns : goal.returns
 returns c =
-    let going = c.requires in
-    let own = c.miner3.ensures going in
-    let previous = c.miner2.ensures going in
-    let next = c.miner1.ensures going in
+    let net = c.args.net.now in
     record {
-      at = own;
+      miner = c.miner3.ensures;
       dealt = refl;
-      words = c.miner3-2.ensures;
-      previous = c.sent_to_next.ensures previous.going ∙ ap (on_link Link23) previous.acts;
-      next = c.sent_to_previous.ensures next.going ∙ ap (on_link Link13) next.acts;
+      previous = λ going tapes may.
+          let m = c.miner2.ensures going in
+          c.sent_to_next.ensures m.going (tapes Two) (own_tape net Two c.miner2.result.now m tapes may) ∙ ap (on_link Link23) (m.at tapes may).acts;
+      next = λ going tapes may.
+          let m = c.miner1.ensures going in
+          c.sent_to_previous.ensures m.going (tapes One) (own_tape net One c.miner1.result.now m tapes may) ∙ ap (on_link Link13) (m.at tapes may).acts;
       order = c.recorded.ensures;
     }

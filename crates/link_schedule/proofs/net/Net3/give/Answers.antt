@@ -1,33 +1,29 @@
-use Rattle.std.proofs.Common.{length, ap, arith}
-use Rattle.link_schedule.specs.Net.{NetState}
-use Rattle.link_schedule.proofs.Joining.{net_of, few_came, given_to}
+use Rattle.std.proofs.Common.{arith}
+use Rattle.link_schedule.proofs.Giving.{use_at, left_at, given_net, given_along, given_few}
 use Rattle.link_schedule.proofs.net.Net3.give.Goals as goal
 
-pub give-requires : goal.give-requires
-give-requires c = λ i. ((net_of c.args.self.now c.self.inside c.self.view_is c.self.invariant c.requires.going).parts i).going
+pub give-requires-clause-going : goal.give-requires-clause-going
+give-requires-clause-going g c = use_at c.args.self.now c.self.inside c.self.view_is c.self.invariant c.requires.going
+
+pub give-requires-clause-left : goal.give-requires-clause-left
+give-requires-clause-left g c =
+    left_at c.args.self.now c.self.inside c.self.view_is c.self.invariant c.requires.going (g.T.TapeSource.state c.args.tapes.now) c.requires.left
 
 pub add-requires : goal.add-requires
-add-requires c =
-    let n = c.self.inside in
-    let net = net_of c.args.self.now c.self.inside c.self.view_is c.self.invariant c.requires.going in
-    let counted = net.counted c.args.link in
-    let few = few_came c.args.self.now c.args.link in
-    let same = ap (λ (s : NetState). length s.delivered) c.self.view_is in
-    let small = n.recorded.small in
-    let ok = n.recorded.ok in
+add-requires g c =
+    let few = given_few c.args.self.now c.self.inside c.self.view_is c.self.invariant c.requires.going c.args.link in
+    let small = c.self.inside.recorded.small in
+    let ok = c.self.inside.recorded.ok in
     omega arith
 
 pub invariant_of-self-2 : goal.invariant_of-self-2
-invariant_of-self-2 c =
-    λ h.
-    let n = c.self.inside in
-    let net = net_of c.args.self.now c.self.inside c.self.view_is c.self.invariant c.requires.going in
-    (given_to c.args.self.now n.miners c.give.new.self n.given c.add.new.self n.recorded.items c.push.new.self.items n.lost c.args.link c.args.message.now
-    c.self.view_is net c.requires.going c.requires.under_way c.requires.message c.in_ok-push.ensures.items c.in_ok-give.ensures c.add.ensures).net_is
+invariant_of-self-2 g c = λ h.
+    given_net c.args.self.now c.self.inside c.self.view_is c.self.invariant c.requires.going c.give.new.self (g.T.TapeSource.state c.args.tapes.now)
+    (g.T.TapeSource.state c.give.new.tapes) c.args.link c.args.message.now c.requires.left c.requires.under_way c.requires.message c.push.new.self.items
+    c.in_default-push.ensures.items c.add.new.self c.add.ensures c.in_default.ensures
 
-pub returns-clause-ok : goal.returns-clause-ok
-returns-clause-ok c =
-    let n = c.self.inside in
-    let net = net_of c.args.self.now c.self.inside c.self.view_is c.self.invariant c.requires.going in
-    (given_to c.args.self.now n.miners c.give.new.self n.given c.add.new.self n.recorded.items c.push.new.self.items n.lost c.args.link c.args.message.now
-    c.self.view_is net c.requires.going c.requires.under_way c.requires.message c.in_ok-push.ensures.items c.in_ok-give.ensures c.add.ensures).state
+pub returns : goal.returns
+returns g c =
+    given_along c.args.self.now c.self.inside c.self.view_is c.self.invariant c.requires.going c.give.new.self (g.T.TapeSource.state c.args.tapes.now)
+    (g.T.TapeSource.state c.give.new.tapes) c.args.link c.args.message.now c.requires.left c.requires.under_way c.requires.message c.push.new.self.items
+    c.in_default-push.ensures.items c.add.new.self c.add.ensures c.in_default.ensures

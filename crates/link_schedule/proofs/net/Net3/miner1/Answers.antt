@@ -1,6 +1,6 @@
 use Rattle.proto_core.specs.declared.party.Number.TheVariants.{One}
-use Rattle.link_schedule.proofs.Joining.{net_of, part_at}
+use Rattle.link_schedule.proofs.Giving.{miner_at}
 use Rattle.link_schedule.proofs.net.Net3.miner1.Goals as goal
 
 pub returns : goal.returns
-returns c = λ h. part_at c.args.self.now One c.self.inside.miners.one ((net_of c.args.self.now c.self.inside c.self.view_is c.self.invariant h).parts One)
+returns c = λ going. miner_at c.args.self.now c.self.inside c.self.view_is c.self.invariant going One

@@ -1,7 +1,7 @@
-use Rattle.std.proofs.Common.{false, sym, subst}
+use Rattle.std.proofs.Common.{sym, subst}
 use Rattle.link_schedule.specs.declared.miners.Miners.{Miners}
-use Rattle.link_schedule.specs.Parts.{state_of, IsNet}
-use Rattle.link_schedule.proofs.Joining.{first_net}
+use Rattle.link_schedule.specs.Coming.{AreNet}
+use Rattle.link_schedule.proofs.Giving.{fresh_net}
 use Rattle.link_schedule.proofs.net.Net3.new.Goals as goal
 
 pub invariant_of-result : goal.invariant_of-result
@@ -10,5 +10,5 @@ invariant_of-result c =
     let m : Miners = record { one = c.args.miner1; two = c.args.miner2; three = c.args.miner3 } in
     let alike = c.requires.alike in
     let fresh = c.requires.fresh in
-    subst (λ ls. IsNet (state_of m ls false) m c.new.result) (sym c.new-2.ensures.items)
-    (first_net m alike.0 alike.1 fresh.0 fresh.1 fresh.2 c.new.result c.new.ensures)
+    subst (λ ls. AreNet m ls c.new.result) (sym c.new-2.ensures.items)
+    (fresh_net m alike.0 alike.1 fresh.0 fresh.1 fresh.2 c.new.result c.new.ensures)

@@ -1,0 +1,69 @@
+-- For the crate's own functions: what a message does that comes to one of three miners which draw their tapes.
+use Rattle.std.specs.Prelude.{◌≡◌, true, false, Bool, ℕ, List, ◌++◌, None, Result, OnOk, IfErr}
+use Rattle.outside.specs.Tapes.{TapesState, Drew}
+use Rattle.proto_core.specs.declared.party.Number.{Number}
+use Rattle.proto_core.specs.declared.link.Link.{Link}
+use Rattle.proto_core.specs.Parties.{count_of, receiver_of, is_same}
+use Rattle.protocol_model.specs.Runs.{Tapes}
+use Rattle.gate_node.specs.Nodes.{IsTapeOf}
+use Rattle.counted_net.specs.declared.tally.Tally.{Tally}
+use Rattle.miner_core.specs.declared.answer.Lost.{Lost}
+use Rattle.miner_core.specs.Drawing.{left_for, IsLostBy}
+use Rattle.miner_core.specs.Streams.{StreamState, with_tape}
+use Rattle.link_schedule.specs.declared.miners.Miners.{Miners}
+use Rattle.link_schedule.specs.Parts.{Stories, Takes, Comes, IsNet, state_of}
+use Rattle.link_schedule.specs.Streams.{miner_in, stories_with, AreTapesOf, NetDrew}
+
+-- ---- to one miner
+
+module _ (i : Number) (l : Link) (m : List ℕ) (before after : StreamState) (old new : TapesState) where
+  pub record Taken (taken : List ℕ) : Type 0 where
+    pub going : after.lost ≡ None
+    pub tape : after.story.tape ≡ before.story.tape ++ taken
+    pub left : left_for i new ≡ after.ahead
+    pub takes : (tape : List ℕ) → IsTapeOf after.story.tape after.ahead tape → Takes i (with_tape before tape) (with_tape after tape) l m
+
+  -- it has the message, or is lost
+  pub record Gives (result : Result (Unit {0}) Lost) : Type 0 where
+    pub taken : List ℕ
+    pub drew : Drew old new (count_of i) taken
+    pub ok : OnOk result (Taken taken)
+    pub err : IfErr result (IsLostBy old new)
+    pub still : old.steady ≡ true → new.steady ≡ true
+
+-- ---- to three
+
+abbrev pub drawn_by : Miners → Tapes
+drawn_by m i = (miner_in m i).story.tape
+
+abbrev pub left_to : Miners → Number → ℕ
+left_to m i = (miner_in m i).ahead
+
+abbrev pub AreOfUse : Miners → Type 0
+AreOfUse m = (i : Number) → (miner_in m i).lost ≡ None
+
+-- with all tapes that they may have
+abbrev pub ForEachOf : Miners → (Stories → Type 0) → Type 0
+ForEachOf m Q = AreOfUse m → (tapes : Tapes) → AreTapesOf (drawn_by m) (left_to m) tapes → Q (stories_with m tapes)
+
+module _ (l : Link) (m : List ℕ) (before after : Miners) (old new : TapesState) where
+  pub record Come (taken : Tapes) : Type 0 where
+    pub going : AreOfUse after
+    pub drawn : (i : Number) → drawn_by after i ≡ drawn_by before i ++ taken i
+    pub left : (i : Number) → left_for i new ≡ left_to after i
+    pub comes :
+        (tapes : Tapes) → AreTapesOf (drawn_by after) (left_to after) tapes → Comes (stories_with before tapes) (stories_with after tapes) l m
+
+  -- the receiver has it, or is lost
+  pub record ComesTo (result : Result (Unit {0}) Lost) : Type 0 where
+    pub taken : Tapes
+    pub drew : NetDrew old new taken
+    pub ok : OnOk result (Come taken)
+    pub err : IfErr result (IsLostBy old new)
+    pub still : old.steady ≡ true → new.steady ≡ true
+
+-- three miners at work and the counts of what was delivered: with all tapes that they may have they are parts of their net
+pub record AreNet (m : Miners) (links : List Link) (given : Tally) : Type 0 where
+  pub going : AreOfUse m
+  pub net :
+      (tapes : Tapes) → AreTapesOf (drawn_by m) (left_to m) tapes → IsNet (state_of (stories_with m tapes) links false) (stories_with m tapes) given
