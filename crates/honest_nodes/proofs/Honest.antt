@@ -102,7 +102,7 @@ module _ (p : TypedProgramTree) (entries : List Entry) (t : FourTapes) (me : Num
   may : MayRunShared offer shares code (miners_of t)
   may = can_run_so p h.accepted own.code h.code entries t h.can.sound h.can.suffice (h.can.words One) (h.can.words Two) (h.can.words Three)
 
-  ran : OwnRunAsReported offer shares code own.budget (miners_of t) (eval_with p entries t own.budget)
+  pub ran : OwnRunAsReported offer shares code own.budget (miners_of t) (eval_with p entries t own.budget)
   ran =
       subst (λ (r : Report). OwnRunAsReported offer shares code own.budget (miners_of t) r)
       (report_so p h.accepted own.code h.code entries t h.can.sound h.can.suffice (h.can.words One) (h.can.words Two) (h.can.words Three) own.budget)
@@ -121,7 +121,7 @@ module _ (p : TypedProgramTree) (entries : List Entry) (t : FourTapes) (me : Num
       ap (λ (u : Option Ending). unless_undealt u me (first_story own.code file (miners_of t me) own.budget)) all_dealt
       ∙ ap (λ (w : World). strand_in me (record (first_story own.code file (miners_of t me) own.budget) { world = w })) (shares_known me entries t)
 
-  same_strand : own_strand me own ≡ own_nodes offer shares code own.budget (miners_of t) me
+  pub same_strand : own_strand me own ≡ own_nodes offer shares code own.budget (miners_of t) me
   same_strand =
       ap (λ (file : MinerFile). strand_of me own.code file own.tape own.budget) h.share
       ∙ ap (λ (tape : List ℕ). strand_of me own.code (dealt me entries t.dealer (lengths_of t)) tape own.budget) h.tape

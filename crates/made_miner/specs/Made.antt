@@ -1,6 +1,7 @@
 -- A miner, and the hello that it sends, by its share file.
-use Rattle.std.specs.Prelude.{ℕ, nat_le, if◌then◌else◌, List, [], false, Option, Some, None}
+use Rattle.std.specs.Prelude.{◌≡◌, ℕ, nat_le, if◌then◌else◌, List, [], false, Option, Some, None}
 use Rattle.sha2.specs.Sha256.{sha256}
+use Rattle.outside.specs.Tapes.{TapesState, Drew}
 use Rattle.sc_text.specs.declared.end.Ending.{Ending}
 use Rattle.sc_text.specs.declared.end.Ending.TheVariants.{Tape}
 use Rattle.sc_text.specs.declared.end.TapeOwner.TheVariants.{Dealer}
@@ -24,6 +25,8 @@ use Rattle.driven_nodes.specs.Steps.{Stopped}
 use Rattle.miner_core.specs.Places.{first_place}
 use Rattle.miner_core.specs.OwnCode.{Ended, Reached}
 use Rattle.miner_core.specs.Story.{Story, strand_in}
+use Rattle.miner_core.specs.Drawing.{left_for}
+use Rattle.miner_core.specs.Streams.{StreamState}
 
 -- ---- what a miner knows
 
@@ -75,6 +78,14 @@ run_code (Some how) code = idle_code
 -- where the inputs are not dealt, it runs code that does nothing
 abbrev pub made_story : RawCode → MinerFile → (tape : List ℕ) → (budget : ℕ) → Story
 made_story code share tape budget = first_story (run_code (undealt share) code) share tape budget
+
+-- of its tape these words were drawn, and as many are left behind them as the source has
+pub record IsMadeOf (i : Number) (code : RawCode) (share : MinerFile) (budget : ℕ) (old new : TapesState) (m : StreamState) : Type 0 where
+  pub going : m.lost ≡ None
+  pub taken : List ℕ
+  pub drew : Drew old new (count_of i) taken
+  pub story : m.story ≡ made_story code share taken budget
+  pub left : left_for i new ≡ m.ahead
 
 -- ---- the hello
 

@@ -7,13 +7,17 @@ ghost use Rattle.value_steps.specs.Views.{given_seen};
 ghost use Rattle.clear_eval.specs.Offers.{offered_with, part_given};
 ghost use Rattle.language_model.specs.Effects.{Answers};
 ghost use Rattle.language_model.specs.Reports.{world_of};
+ghost use Rattle.miner_core.specs.Drawing.{Draws};
 ghost use Rattle.miner_core.specs.Views.{task_code, task_world};
-ghost use Rattle.made_miner.specs.Made.{made_story, run_code, undealt, undealt_in};
+ghost use Rattle.view_model.specs.Dealing.{private_shares};
+ghost use Rattle.made_miner.specs.Made.{IsMadeOf, run_code, share_world, undealt, undealt_in};
 
 use clear_eval::{dealing, parts_given};
+use gates::Values;
 use idle_code::idle_code;
 use input_share::{ShareFile, shape_part};
-use miner_core::{Miner, Task};
+use miner_core::{Lost, StreamMiner, Task};
+use outside::TapeSource;
 use proto_core::Party;
 use sc_text::{Ending, TapeOwner};
 use std::alloc::{AllocError, Global};
@@ -21,10 +25,10 @@ use value_steps::{GivenInput, Lengths};
 use verified_code::Verified;
 use view_model::own_shares;
 
-/// A miner to which nothing was delivered. Where the dealer's tape is too short for the inputs, `undealt` is how the run has ended before it
-/// began, and the miner does nothing.
+/// A miner to which nothing was delivered, at its first wait. Where the dealer's tape is too short for the inputs, `undealt` is how the run has
+/// ended before it began, and the miner does nothing and draws nothing.
 pub struct Made<P: Party> {
-    pub miner: Miner<P>,
+    pub miner: StreamMiner<P>,
     pub undealt: Option<Ending>,
 }
 
@@ -80,23 +84,54 @@ fn run_code(alloc: Global, undealt: Option<Ending>, code: Verified) -> Result<Ve
     }
 }
 
-/// The miner of a share file, with this code, its own tape, and the budget of the run.
-pub fn miner<P: Party>(
-    alloc: Global,
-    code: Verified,
-    share: &ShareFile,
-    tape: Vec<u64>,
-    budget: u64,
-) -> Result<Made<P>, AllocError>
+// What a miner is made of: what it runs, its shares of the inputs, and how the run has ended where it ends before it begins.
+struct Prepared {
+    task: Task,
+    dealt: Values,
+    undealt: Option<Ending>,
+}
+
+// What the miner of a share file is made of.
+fn prepare(alloc: Global, code: Verified, share: &ShareFile) -> Result<Prepared, AllocError>
     requires { AreWritable share.now.entries }
-    ensures miner { IfOk result (λ made. made.miner ≡ made_story code share.now tape.items budget) }
-    ensures undealt { IfOk result (λ made. made.undealt ≡ undealt share.now) }
+    ensures world { IfOk result (λ prepared. task_world prepared.task ≡ share_world share.now) }
+    ensures code { IfOk result (λ prepared. task_code prepared.task ≡ settled (run_code (undealt share.now) code)) }
+    ensures dealt { IfOk result (λ prepared. prepared.dealt ≡ private_shares share.now.entries) }
+    ensures undealt { IfOk result (λ prepared. prepared.undealt ≡ undealt share.now) }
 {
     let dealt = own_shares(alloc, share.entries())?;
     let inputs = inputs_given(alloc, share)?;
     let undealt = undealt_end(&inputs, share.lens());
     let code = run_code(alloc, undealt, code)?;
     let task = task(code, inputs, share.lens());
-    let miner = Miner::new(alloc, task, dealt, tape, budget)?;
+    Ok(Prepared {
+        task,
+        dealt,
+        undealt,
+    })
+}
+
+/// The miner of a share file, with this code and the budget of the run. Its tape is what the source has left for it; of that it has drawn what
+/// the run up to its first wait draws.
+///
+/// `TapeFault` comes only where the source counted a fault.
+pub fn miner<P: Party, T: TapeSource>(
+    alloc: Global,
+    code: Verified,
+    share: &ShareFile,
+    budget: u64,
+    tapes: &mut T,
+) -> Result<Made<P>, Lost>
+    requires { AreWritable share.now.entries }
+    ensures miner { IfOk result (λ made. IsMadeOf P.me code share.now budget (T.state tapes.old) (T.state tapes.new) made.miner) }
+    ensures undealt { IfOk result (λ made. made.undealt ≡ undealt share.now) }
+    ensures draws { Draws P.me (T.state tapes.old) (T.state tapes.new) result }
+{
+    let Prepared {
+        task,
+        dealt,
+        undealt,
+    } = prepare(alloc, code, share)?;
+    let miner = StreamMiner::new(alloc, task, dealt, budget, tapes)?;
     Ok(Made { miner, undealt })
 }

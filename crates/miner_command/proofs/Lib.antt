@@ -1,2 +1,4 @@
+pub mod Drawn
+pub mod Opened
 pub mod Played
 pub mod Planned

@@ -1,6 +1,8 @@
 -- What a miner answers that has played its part with what it had read.
-use Rattle.std.proofs.Common.{◌≡◌, ℕ, List, true, Option, Result, Ok, Err, refl, sym, ap, ◌∙◌, subst}
+use Rattle.std.proofs.Common.{◌≡◌, ℕ, List, true, Option, Result, Ok, Err, refl, sym, ap, ◌∙◌, subst, inr, string_bytes, arith, zero, suc}
+use Rattle.outside.specs.Files.{FilesState}
 use Rattle.outside.specs.Links.{LinksState}
+use Rattle.sc_text.specs.Fault.{file_line}
 use Rattle.sc_text.specs.declared.end.End.{End}
 use Rattle.proto_core.specs.declared.party.Number.{Number}
 use Rattle.command_frame.specs.declared.plan.Plan.{Plan}
@@ -11,25 +13,29 @@ use Rattle.command_frame.specs.declared.stop.Stop.TheVariants as stops
 use Rattle.command_frame.specs.Answer.{Cause, Effect, breach_of, effect_of}
 use Rattle.command_frame.specs.Reads.{StopNames}
 use Rattle.command_frame.specs.Status.{of_peers}
-use Rattle.command_frame.specs.Stops.{IsBreachFor}
+use Rattle.command_frame.specs.Stops.{IsBreachFor, IsFileStop}
 use Rattle.command_words.specs.Ask.{MinerAsk}
 use Rattle.miner_node.specs.declared.node_err.NodeErr.{NodeErr}
 use Rattle.miner_node.specs.declared.node_err.NodeErr.TheVariants.{LinkFault, PeerMismatch, BadFrame, BadMessage, Memory}
+use Rattle.miner_node.specs.declared.node_err.ServeErr.{ServeErr}
+use Rattle.miner_node.specs.declared.node_err.ServeErr.TheVariants.{Node, TapeFault}
 use Rattle.miner_node.specs.Serving.{Outcome, Mismatch, NoFrame, Refused, Serving}
 use Rattle.node_faults.specs.declared.fault.NodeFault.{NodeFault}
 use Rattle.node_faults.specs.declared.fault.NodeFault.TheVariants as faults
 use Rattle.node_run.specs.declared.running.NodeText.{NodeText}
 use Rattle.node_run.specs.Nodes.{Outgoing, Own, own_bytes, own_serving, Runs}
 use Rattle.node_run.proofs.Joins.{all_sent}
-use Rattle.miner_command.specs.Files.{Given}
+use Rattle.miner_command.specs.declared.files.MinerFiles.{MinerFiles}
+use Rattle.miner_command.specs.Files.{Given, miner_paths}
+use Rattle.miner_command.specs.Views.{given_with}
 use Rattle.miner_command.specs.Miner.{answer_at, bad_peer, ended_answer, hello_field, message_fault, own_of, text_effect}
-use Rattle.miner_command.specs.Playing.{IsNodeStop, Plays, SentAll}
+use Rattle.miner_command.specs.Playing.{IsNodeStop, IsServeStop, Plays, PlaysOn, RunsOn, SentAll, TapeFaulted}
 
 of_a_peer : (fault : NodeFault) (b : Breach) → breach_of b ≡ bad_peer fault → of_peers b.status ≡ true
 unfolding bad_peer
 of_a_peer fault b is = ap (λ (c : Cause). of_peers c.status) is
 
-module _ (ask : MinerAsk) (given : Given) (a c : LinksState) where
+module _ (ask : MinerAsk) (given : Given) (f f' : FilesState) (a c : LinksState) where
   abbrev served : Serving
   served = own_serving ask.me (own_of ask given) a.coming
 
@@ -38,7 +44,7 @@ module _ (ask : MinerAsk) (given : Given) (a c : LinksState) where
 
   -- its text is to be written
   pub plays_so : (told : NodeText) (plan : Plan) → Runs ask.me (own_of ask given) a c (Ok told)
-      → effect_of plan ≡ text_effect ask.out told.text.items told.end → Plays ask given a c (Ok plan)
+      → effect_of plan ≡ text_effect ask.out told.text.items told.end → Plays ask given f f' a c (Ok plan)
   plays_so told plan h is =
       record {
         answers = λ t.
@@ -50,13 +56,13 @@ module _ (ask : MinerAsk) (given : Given) (a c : LinksState) where
       }
 
   -- memory was wanting for what is to be written
-  pub plays_unplanned : (told : NodeText) → Runs ask.me (own_of ask given) a c (Ok told) → Plays ask given a c (Err stops.Memory)
+  pub plays_unplanned : (told : NodeText) → Runs ask.me (own_of ask given) a c (Ok told) → Plays ask given f f' a c (Err stops.Memory)
   plays_unplanned told h = record { answers = tt; sends = λ t. all_sent ask.me a.sent c.sent out.to_next out.to_previous (h.ok t).sent }
 
   -- a peer sent what it must not send
   breached_so : (fault : NodeFault) (o : Outcome) → answer_at ask served.acts o ≡ Err (bad_peer fault)
       → (a.told ≡ true → (served.outcome ≡ o) × SentAll ask.me a c out) → (stop : Stop) → IsBreachFor (bad_peer fault) stop
-      → Plays ask given a c (Err stop)
+      → Plays ask given f f' a c (Err stop)
   breached_so fault o comes h stops.Memory for =
       record { answers = tt; sends = λ t. all_sent ask.me a.sent c.sent out.to_next out.to_previous (h t).1 }
   breached_so fault o comes h stops.Usage for = absurd for
@@ -71,9 +77,9 @@ module _ (ask : MinerAsk) (given : Given) (a c : LinksState) where
       }
   breached_so fault o comes h (stops.Failed object) for = absurd for
 
-  pub stops_so : (e : NodeErr) (stop : Stop) → Runs ask.me (own_of ask given) a c (Err e) → IsNodeStop e stop → Plays ask given a c (Err stop)
+  pub stops_so : (e : NodeErr) (stop : Stop) → Runs ask.me (own_of ask given) a c (Err e) → IsNodeStop e stop → Plays ask given f f' a c (Err stop)
   stops_so LinkFault stop h for =
-      subst (λ (s : Stop). Plays ask given a c (Err s)) (sym for)
+      subst (λ (s : Stop). Plays ask given f f' a c (Err s)) (sym for)
       (record {
         answers = record {
           rose = h.err.0.rose;
@@ -86,26 +92,64 @@ module _ (ask : MinerAsk) (given : Given) (a c : LinksState) where
   stops_so (BadFrame place) stop h for = breached_so (faults.BadFrame place) (NoFrame place) refl h.err stop for
   stops_so (BadMessage link cause) stop h for = breached_so (message_fault link cause) (Refused link cause) refl h.err stop for
   stops_so Memory stop h for =
-      subst (λ (s : Stop). Plays ask given a c (Err s)) (sym for) (record { answers = tt; sends = h.err })
+      subst (λ (s : Stop). Plays ask given f f' a c (Err s)) (sym for) (record { answers = tt; sends = h.err })
+
+  -- words of its tape could not be read
+  pub tape_stops_so : (stop : Stop) → Runs ask.me (own_of ask given) a c (Err Memory) → TapeFaulted f f' → IsFileStop ask.tape stop
+      → Plays ask given f f' a c (Err stop)
+  tape_stops_so stops.Memory h fault for = record { answers = tt; sends = h.err }
+  tape_stops_so stops.Usage h fault for = absurd for
+  tape_stops_so (stops.Refused r) h fault for = absurd for
+  tape_stops_so (stops.Breached b) h fault for = absurd for
+  tape_stops_so (stops.Failed (objects.File line)) h fault for = record { answers = (for, fault); sends = λ t. inr (for, h.err t) }
+  tape_stops_so (stops.Failed objects.Output) h fault for = absurd for
+  tape_stops_so (stops.Failed objects.Links) h fault for = absurd for
+  tape_stops_so (stops.Failed objects.Children) h fault for = absurd for
 
 -- ---- BY WHAT WAS READ
 
-module _ (ask : MinerAsk) (given : Given) (a c : LinksState) (me : Number) (is : me ≡ ask.me) (own : Own) (same : own ≡ own_of ask given) where
-  here : (result : Result NodeText NodeErr) → Runs me own a c result → Runs ask.me (own_of ask given) a c result
-  here result h =
-      subst (λ (v : Own). Runs ask.me v a c result) same (subst (λ (i : Number). Runs i own a c result) is h)
+module _ (ask : MinerAsk) (read : MinerFiles) (f f' : FilesState) (a c : LinksState) (me : Number) (is : me ≡ ask.me)
+    (own : (tape : List ℕ) → Own) (same : (tape : List ℕ) → own tape ≡ own_of ask (given_with read tape)) where
+  here : (tape : List ℕ) (result : Result NodeText NodeErr) → Runs me (own tape) a c result
+      → Runs ask.me (own_of ask (given_with read tape)) a c result
+  here tape result h =
+      subst (λ (v : Own). Runs ask.me v a c result) (same tape) (subst (λ (i : Number). Runs i (own tape) a c result) is h)
 
-  pub plays_with : (told : NodeText) (plan : Plan) → Runs me own a c (Ok told)
-      → effect_of plan ≡ text_effect ask.out told.text.items told.end → Plays ask given a c (Ok plan)
-  plays_with told plan h effect = plays_so ask given a c told plan (here (Ok told) h) effect
+  abbrev Ran : Result NodeText ServeErr → Type 0
+  Ran result = RunsOn me own read.tape ask.tape f f' a c result
 
-  pub unplanned_with : (told : NodeText) → Runs me own a c (Ok told) → Plays ask given a c (Err stops.Memory)
-  unplanned_with told h = plays_unplanned ask given a c told (here (Ok told) h)
+  pub plays_with : (told : NodeText) (plan : Plan) → Ran (Ok told) → effect_of plan ≡ text_effect ask.out told.text.items told.end
+      → PlaysOn ask read f f' a c (Ok plan)
+  plays_with told plan h effect =
+      record {
+        tape = h.tape;
+        there = h.there;
+        plays = plays_so ask (given_with read h.tape) f f' a c told plan (here h.tape (Ok told) h.runs) effect;
+      }
 
-  pub stops_with : (e : NodeErr) (stop : Stop) → Runs me own a c (Err e) → IsNodeStop e stop → Plays ask given a c (Err stop)
-  stops_with e stop h for = stops_so ask given a c e stop (here (Err e) h) for
+  pub unplanned_with : (told : NodeText) → Ran (Ok told) → PlaysOn ask read f f' a c (Err stops.Memory)
+  unplanned_with told h =
+      record {
+        tape = h.tape;
+        there = h.there;
+        plays = plays_unplanned ask (given_with read h.tape) f f' a c told (here h.tape (Ok told) h.runs);
+      }
 
--- ---- NO FILE STOPS IT ANY MORE
+  pub stops_with : (e : ServeErr) (stop : Stop) → Ran (Err e) → IsServeStop ask.tape e stop → PlaysOn ask read f f' a c (Err stop)
+  stops_with (Node e) stop h for =
+      record {
+        tape = h.tape;
+        there = h.there;
+        plays = stops_so ask (given_with read h.tape) f f' a c e stop (here h.tape (Err e) h.runs) for;
+      }
+  stops_with TapeFault stop h for =
+      record {
+        tape = h.tape;
+        there = h.there;
+        plays = tape_stops_so ask (given_with read h.tape) f f' a c stop (here h.tape (Err Memory) h.runs) (h.fault refl) for;
+      }
+
+-- ---- WHICH FILE STOPS IT
 
 links_unnamed : (paths : List (List ℕ)) → StopNames paths (stops.Failed objects.Links)
 links_unnamed paths = record { named = λ line is. absurd cc }
@@ -120,9 +164,29 @@ breach_unnamed paths cause (stops.Refused r) for = absurd for
 breach_unnamed paths cause (stops.Breached b) for = record { named = λ line is. absurd cc }
 breach_unnamed paths cause (stops.Failed object) for = absurd for
 
-pub node_unnamed : (paths : List (List ℕ)) (e : NodeErr) (stop : Stop) → IsNodeStop e stop → StopNames paths stop
+node_unnamed : (paths : List (List ℕ)) (e : NodeErr) (stop : Stop) → IsNodeStop e stop → StopNames paths stop
 node_unnamed paths LinkFault stop for = subst (StopNames paths) (sym for) (links_unnamed paths)
 node_unnamed paths (PeerMismatch field mine theirs) stop for = breach_unnamed paths _ stop for
 node_unnamed paths (BadFrame place) stop for = breach_unnamed paths _ stop for
 node_unnamed paths (BadMessage link cause) stop for = breach_unnamed paths _ stop for
 node_unnamed paths Memory stop for = subst (StopNames paths) (sym for) (memory_unnamed paths)
+
+-- the tape alone does
+tape_named : (ask : MinerAsk) (stop : Stop) → IsFileStop ask.tape stop → StopNames (miner_paths ask) stop
+unfolding miner_paths
+tape_named ask stops.Memory for = memory_unnamed (miner_paths ask)
+tape_named ask stops.Usage for = absurd for
+tape_named ask (stops.Refused r) for = absurd for
+tape_named ask (stops.Breached b) for = absurd for
+tape_named ask (stops.Failed (objects.File line)) for =
+    record { named = λ other is. (ask.tape, (suc (suc zero), omega arith, refl), ap string_bytes (sym (line_of_file line other is)) ∙ for) }
+  where
+    line_of_file : (x y : _) → stops.Failed (objects.File x) ≡ stops.Failed (objects.File y) → x ≡ y
+    line_of_file x y is = cc
+tape_named ask (stops.Failed objects.Output) for = absurd for
+tape_named ask (stops.Failed objects.Links) for = absurd for
+tape_named ask (stops.Failed objects.Children) for = absurd for
+
+pub serve_named : (ask : MinerAsk) (e : ServeErr) (stop : Stop) → IsServeStop ask.tape e stop → StopNames (miner_paths ask) stop
+serve_named ask (Node e) stop for = node_unnamed (miner_paths ask) e stop for
+serve_named ask TapeFault stop for = tape_named ask stop for

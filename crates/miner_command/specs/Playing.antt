@@ -1,6 +1,9 @@
 -- What a miner sent, and what it answered, by what it had read.
-use Rattle.std.specs.Prelude.{◌≡◌, true, Result, Ok, Err}
+use Rattle.std.specs.Prelude.{◌≡◌, ◌⊎◌, ℕ, List, true, Result, Ok, Err, IsErrOf}
+use Rattle.outside.specs.Causes.{Rose}
+use Rattle.outside.specs.Files.{FilesState}
 use Rattle.outside.specs.Links.{LinksState}
+use Rattle.sc_text.specs.Fault.{file_line}
 use Rattle.proto_core.specs.declared.party.Number.{Number}
 use Rattle.command_frame.specs.declared.plan.Plan.{Plan}
 use Rattle.command_frame.specs.declared.stop.Stop.{Stop}
@@ -9,15 +12,22 @@ use Rattle.command_frame.specs.Answer.{Answer, breach_of, effect_of}
 use Rattle.command_frame.specs.Objects.{OfObject}
 use Rattle.command_frame.specs.Reads.{LinksFaulted}
 use Rattle.command_frame.specs.Status.{of_peers}
-use Rattle.command_frame.specs.Stops.{IsBreachFor}
+use Rattle.command_frame.specs.Stops.{IsBreachFor, IsFileStop}
 use Rattle.command_words.specs.Ask.{MinerAsk}
 use Rattle.miner_node.specs.declared.node_err.NodeErr.{NodeErr}
 use Rattle.miner_node.specs.declared.node_err.NodeErr.TheVariants.{LinkFault, PeerMismatch, BadFrame, BadMessage, Memory}
+use Rattle.miner_node.specs.declared.node_err.ServeErr.{ServeErr}
+use Rattle.miner_node.specs.declared.node_err.ServeErr.TheVariants.{Node, TapeFault}
 use Rattle.miner_node.specs.Peers.{Sends, SendsFronts}
 use Rattle.node_faults.specs.declared.fault.NodeFault.TheVariants as faults
-use Rattle.node_run.specs.Nodes.{Outgoing, own_bytes, own_serving}
+use Rattle.node_run.specs.declared.running.NodeText.{NodeText}
+use Rattle.node_run.specs.Nodes.{Outgoing, Own, own_bytes, own_serving, with_memory, Runs}
+use Rattle.tape_sources.specs.FileTapes.{file_in, words_in}
 use Rattle.command_frame.specs.declared.object.Object.TheVariants as objects
+use Rattle.miner_command.specs.declared.files.MinerFiles.{MinerFiles}
+use Rattle.miner_command.specs.declared.opened_file.TapeFile.{TapeFile}
 use Rattle.miner_command.specs.Files.{Given}
+use Rattle.miner_command.specs.Views.{given_with}
 use Rattle.miner_command.specs.Miner.{bad_peer, hello_field, message_fault, node_answer, nothing_sent, own_of}
 
 -- ---- what was sent
@@ -29,15 +39,31 @@ module _ (me : Number) (old new : LinksState) where
   abbrev pub SentFronts : Outgoing → Type 0
   SentFronts out = SendsFronts me old.sent new.sent out.to_next out.to_previous
 
+  -- a file stops it before it has joined its peers, and nothing was sent; or words of its tape can't be read any more, and a front of these bytes
+  -- was sent to each peer
+  abbrev pub SentBefore : (tape : List ℕ) → Outgoing → (line : List ℕ) → Type 0
+  SentBefore tape out line = SentAll nothing_sent ⊎ ((line ≡ file_line tape) × SentFronts out)
+
   -- of a miner that has ended, and of one that stops at what a peer sent: exactly these bytes; where the links failed or memory ran out, a front
-  -- of them for each peer; and nothing where a file stops it
-  abbrev pub SendsSo : Outgoing → Result Plan Stop → Type 0
-  SendsSo out (Ok plan) = SentAll out
-  SendsSo out (Err stops.Memory) = SentFronts out
-  SendsSo out (Err stops.Usage) = ⊥
-  SendsSo out (Err (stops.Refused r)) = SentAll nothing_sent
-  SendsSo out (Err (stops.Breached b)) = SentAll out
-  SendsSo out (Err (stops.Failed object)) = OfObject (λ line. SentAll nothing_sent) ⊥ (SentFronts out) ⊥ object
+  -- of them for each peer; nothing where files are refused; and where one can't be read, nothing or, of its tape at this path, such a front
+  abbrev pub SendsSo : (tape : List ℕ) → Outgoing → Result Plan Stop → Type 0
+  SendsSo tape out (Ok plan) = SentAll out
+  SendsSo tape out (Err stops.Memory) = SentFronts out
+  SendsSo tape out (Err stops.Usage) = ⊥
+  SendsSo tape out (Err (stops.Refused r)) = SentAll nothing_sent
+  SendsSo tape out (Err (stops.Breached b)) = SentAll out
+  SendsSo tape out (Err (stops.Failed object)) = OfObject (SentBefore tape out) ⊥ (SentFronts out) ⊥ object
+
+-- where files are refused, the peers were not joined, and the links are as they were; so where one can't be read, but for words of the tape at this
+-- path, which are drawn later, too
+module _ (tape : List ℕ) (old new : LinksState) where
+  abbrev pub LeavesLinks : Result Plan Stop → Type 0
+  LeavesLinks (Ok plan) = Unit {0}
+  LeavesLinks (Err stops.Memory) = Unit {0}
+  LeavesLinks (Err stops.Usage) = ⊥
+  LeavesLinks (Err (stops.Refused r)) = new ≡ old
+  LeavesLinks (Err (stops.Breached b)) = Unit {0}
+  LeavesLinks (Err (stops.Failed object)) = OfObject (λ line. (new ≡ old) ⊎ (line ≡ file_line tape)) ⊥ (Unit {0}) ⊥ object
 
 -- ---- what was answered
 
@@ -49,16 +75,42 @@ IsNodeStop (BadFrame place) stop = IsBreachFor (bad_peer (faults.BadFrame place)
 IsNodeStop (BadMessage link cause) stop = IsBreachFor (bad_peer (message_fault link cause)) stop
 IsNodeStop Memory stop = stop ≡ stops.Memory
 
--- what is decided of the bytes that come; no file stops it any more
-abbrev pub AnswersSo : (old new : LinksState) → Result Plan Stop → Answer → Type 0
-AnswersSo old new (Ok plan) decided = old.told ≡ true → decided ≡ Ok (effect_of plan)
-AnswersSo old new (Err stops.Memory) decided = Unit {0}
-AnswersSo old new (Err stops.Usage) decided = ⊥
-AnswersSo old new (Err (stops.Refused r)) decided = ⊥
-AnswersSo old new (Err (stops.Breached b)) decided = (of_peers b.status ≡ true) × (old.told ≡ true → decided ≡ Err (breach_of b))
-AnswersSo old new (Err (stops.Failed object)) decided = OfObject (λ line. ⊥) ⊥ (LinksFaulted (old.told ≡ true) old new decided) ⊥ object
+-- of one that draws its tape from the file at this path
+abbrev pub IsServeStop : (tape : List ℕ) → ServeErr → Stop → Type 0
+IsServeStop tape (Node e) stop = IsNodeStop e stop
+IsServeStop tape TapeFault stop = IsFileStop tape stop
 
--- a miner has played its part with what it has read
-pub record Plays (ask : MinerAsk) (given : Given) (old new : LinksState) (result : Result Plan Stop) : Type 0 where
-  pub answers : AnswersSo old new result (node_answer ask (own_serving ask.me (own_of ask given) old.coming))
-  pub sends : old.told ≡ true → SendsSo ask.me old new (own_bytes ask.me (own_of ask given) old.coming) result
+-- words of the tape couldn't be read: the count of the files' faults rose, and where they tell, they were not steady
+pub record TapeFaulted (old new : FilesState) : Type 0 where
+  pub rose : Rose old.faults new.faults
+  pub unsteady : old.told ≡ true → old.steady ≡ true → ⊥
+
+-- what is decided of the bytes that come; of files the tape alone stops it then
+module _ (tape : List ℕ) (files files' : FilesState) (old new : LinksState) where
+  abbrev pub AnswersSo : Result Plan Stop → Answer → Type 0
+  AnswersSo (Ok plan) decided = old.told ≡ true → decided ≡ Ok (effect_of plan)
+  AnswersSo (Err stops.Memory) decided = Unit {0}
+  AnswersSo (Err stops.Usage) decided = ⊥
+  AnswersSo (Err (stops.Refused r)) decided = ⊥
+  AnswersSo (Err (stops.Breached b)) decided = (of_peers b.status ≡ true) × (old.told ≡ true → decided ≡ Err (breach_of b))
+  AnswersSo (Err (stops.Failed object)) decided =
+      OfObject (λ line. (line ≡ file_line tape) × TapeFaulted files files') ⊥ (LinksFaulted (old.told ≡ true) old new decided) ⊥ object
+
+-- a miner has played its part with what it has read, and such a tape
+pub record Plays (ask : MinerAsk) (given : Given) (files files' : FilesState) (old new : LinksState) (result : Result Plan Stop) : Type 0 where
+  pub answers : AnswersSo ask.tape files files' old new result (node_answer ask (own_serving ask.me (own_of ask given) old.coming))
+  pub sends : old.told ≡ true → SendsSo ask.me old new ask.tape (own_bytes ask.me (own_of ask given) old.coming) result
+
+-- the same with the tape in the file, where the store tells it, and else with one that begins with the words that were drawn
+pub record PlaysOn (ask : MinerAsk) (read : MinerFiles) (files files' : FilesState) (old new : LinksState) (result : Result Plan Stop) : Type 0 where
+  pub tape : List ℕ
+  pub there : files.told ≡ true → tape ≡ words_in (file_in files ask.tape) 8 read.tape.words
+  pub plays : Plays ask (given_with read tape) files files' old new result
+
+-- a node ran so, with such a tape
+pub record RunsOn (me : Number) (own : (tape : List ℕ) → Own) (file : TapeFile) (path : List ℕ) (files files' : FilesState) (old new : LinksState)
+    (result : Result NodeText ServeErr) : Type 0 where
+  pub tape : List ℕ
+  pub there : files.told ≡ true → tape ≡ words_in (file_in files path) 8 file.words
+  pub runs : Runs me (own tape) old new (with_memory result)
+  pub fault : IsErrOf result TapeFault → TapeFaulted files files'

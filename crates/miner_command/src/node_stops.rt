@@ -2,10 +2,10 @@
 ghost use Rattle.std.specs.Prelude.{◌≡◌};
 ghost use Rattle.command_frame.specs.Stops.{IsBreachFor};
 ghost use Rattle.miner_command.specs.Miner.{bad_peer, hello_field, message_fault};
-ghost use Rattle.miner_command.specs.Playing.{IsNodeStop};
+ghost use Rattle.miner_command.specs.Playing.{IsNodeStop, IsServeStop};
 
-use command_frame::{Object, Status, Stop, breached};
-use miner_node::NodeErr;
+use command_frame::{Object, Status, Stop, breached, file_stop};
+use miner_node::{NodeErr, ServeErr};
 use node_faults::{HelloField, NodeFault};
 use proto_core::{BadMessage, Link};
 use std::alloc::Global;
@@ -41,8 +41,8 @@ fn peer_stop(alloc: Global, fault: NodeFault) -> Stop
     breached(Status::Peer, format!(in alloc; "{fault}"))
 }
 
-/// Why a node has no text: its links failed, a peer sent what it must not send, or memory was wanting.
-pub(crate) fn node_stop(alloc: Global, refusal: NodeErr) -> Stop
+// Why a node has no text: its links failed, a peer sent what it must not send, or memory was wanting.
+fn node_stop(alloc: Global, refusal: NodeErr) -> Stop
     ensures { IsNodeStop refusal result }
 {
     match refusal {
@@ -53,5 +53,15 @@ pub(crate) fn node_stop(alloc: Global, refusal: NodeErr) -> Stop
         NodeErr::BadFrame { place } => peer_stop(alloc, NodeFault::BadFrame { place }),
         NodeErr::BadMessage { link, cause } => peer_stop(alloc, message_fault(link, cause)),
         NodeErr::Memory => Stop::Memory,
+    }
+}
+
+/// The same of one that draws its tape from the file at this path, of which words couldn't be read.
+pub(crate) fn serve_stop(alloc: Global, refusal: ServeErr, tape: &str) -> Stop
+    ensures { IsServeStop tape.now refusal result }
+{
+    match refusal {
+        ServeErr::Node(refusal) => node_stop(alloc, refusal),
+        ServeErr::TapeFault => file_stop(alloc, tape),
     }
 }

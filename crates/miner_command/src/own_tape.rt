@@ -1,15 +1,18 @@
 // A miner's own tape.
-ghost use Rattle.std.specs.Prelude.{◌≡◌, ◌∷◌, [], IfErr};
+ghost use Rattle.std.specs.Prelude.{◌≡◌, ◌∷◌, [], IfOk, IfErr};
 ghost use Rattle.command_frame.specs.Reads.{OnlyRead, Gives, StopNames};
 ghost use Rattle.command_frame.specs.Stops.{IsRefusalFor};
 ghost use Rattle.program_commands.specs.Reading.{bad_tape};
+ghost use Rattle.tape_sources.specs.FileTapes.{file_in, words_in};
 ghost use Rattle.miner_command.specs.Files.{own_tape_at};
+ghost use Rattle.miner_command.specs.Opened.{IsOpen};
 
-use command_frame::{Status, Stop, read_file, refused};
+use crate::opened_file::TapeFile;
+use command_frame::{Status, Stop, file_stop, refused};
 use outside::Files;
 use sc_text::Fault;
 use std::alloc::Global;
-use tape_file::{ReadErr, read_own};
+use tape_sources::{OpenErr, read_length};
 
 // Why an own tape is refused.
 #[tactic(auto, unfolding(program_commands::specs::Reading::bad_tape))]
@@ -20,23 +23,25 @@ fn tape_stop(alloc: Global, place: u64) -> Stop
     refused(Status::TapeFile, format!(in alloc; "{fault}"))
 }
 
-/// The tape of so many words in the file at this path.
-#[tactic(auto, unfolding(crate::specs::Files::own_tape_at))]
-pub fn read_own_tape<F: Files>(
+/// Opens the file at this path as a tape of so many words: its size and the length that stands in it are read, and no word.
+///
+/// It is refused exactly where a reader of the whole file refuses it, with the same place.
+pub fn open_own_tape<F: Files>(
     alloc: Global,
     files: &mut F,
     count: u64,
     path: &str,
-) -> Result<Vec<u64>, Stop>
+) -> Result<TapeFile, Stop>
     ensures files { OnlyRead (F.state files.old) (F.state files.new) }
-    ensures answer { Gives (λ tape. tape.items) (F.state files.old) (F.state files.new) result
+    ensures answer { Gives (λ tape. words_in (file_in (F.state files.old) path.now) 8 tape.words) (F.state files.old) (F.state files.new) result
         (own_tape_at (F.state files.old).contents count path.now) }
+    ensures words { IfOk result (λ tape. tape.words ≡ count) }
+    ensures opened { IfOk result (IsOpen (F.state files.new) path.now) }
     ensures names { IfErr result (StopNames (path.now ∷ [])) }
 {
-    let bytes = read_file(alloc, files, path)?;
-    match read_own(alloc, &bytes, count) {
-        Ok(tape) => Ok(tape),
-        Err(ReadErr::BadTape { place }) => Err(tape_stop(alloc, place)),
-        Err(ReadErr::Memory) => Err(Stop::Memory),
+    match read_length(files, path, count) {
+        Ok(size) => Ok(TapeFile { words: count, size }),
+        Err(OpenErr::BadTape { place }) => Err(tape_stop(alloc, place)),
+        Err(OpenErr::Failed) => Err(file_stop(alloc, path)),
     }
 }

@@ -1,20 +1,26 @@
 -- A node that joins its peers before it serves its links.
-use Rattle.std.proofs.Common.{◌≡◌, ℕ, List, [], ◌++◌, true, Result, Ok, Err, IfOk, IfErr, sym, ap, ◌∙◌, subst}
+use Rattle.std.proofs.Common.{◌≡◌, ℕ, List, [], ◌++◌, true, Option, Some, None, Result, Ok, Err, IfOk, IfErr, IfNone, sym, ap, ◌∙◌, subst}
 use Rattle.outside.specs.Causes.{Rose}
 use Rattle.outside.specs.Links.{LinksState, SameLinks}
+use Rattle.outside.specs.Tapes.{TapesState}
 use Rattle.proto_core.specs.declared.party.Number.{Number}
 use Rattle.proto_core.specs.Parties.{count_of, next_of, previous_of}
 use Rattle.proto_core.proofs.Beginnings.{append-none, begins-self}
 use Rattle.sc_text.specs.declared.end.Ending.{Ending}
 use Rattle.wire.specs.declared.fields.Hello.{Hello}
 use Rattle.miner_core.specs.Story.{Story, strand_in}
+use Rattle.miner_core.specs.Streams.{StreamState, with_tape}
+use Rattle.miner_core.proofs.Sources.{drew_none}
 use Rattle.miner_node.specs.declared.node_err.NodeErr.{NodeErr}
 use Rattle.miner_node.specs.declared.node_err.NodeErr.TheVariants as stop
+use Rattle.miner_node.specs.declared.node_err.ServeErr.{ServeErr}
+use Rattle.miner_node.specs.declared.node_err.ServeErr.TheVariants.{Node, TapeFault}
 use Rattle.miner_node.specs.Faults.{IsLater}
 use Rattle.miner_node.specs.Peers.{Sends, SendsFronts}
 use Rattle.miner_node.specs.Serving.{Outcome, serving, bytes_to_next, bytes_to_previous}
 use Rattle.miner_node.specs.Answers.{IsStop}
 use Rattle.miner_node.specs.Serves.{HasServed, HasStopped}
+use Rattle.miner_node.specs.Tapes.{Serves, StopsSo}
 use Rattle.miner_node.specs.Turns.{HasFinished}
 use Rattle.miner_node.proofs.Faulting.{fault_on}
 
@@ -101,3 +107,47 @@ if_ok_so (Err e) P Q so h = tt
 pub if_err_so : {T E : Type 0} (r : Result T E) (P Q : E → Type 0) → ((e : E) → P e → Q e) → IfErr r P → IfErr r Q
 if_err_so (Ok x) P Q so h = tt
 if_err_so (Err e) P Q so h = so e h
+
+pub if_none_so : {X : Type 0} (o : Option X) (P Q : Type 0) → (P → Q) → IfNone o P → IfNone o Q
+if_none_so None P Q so h = so h
+if_none_so (Some x) P Q so h = tt
+
+-- ---- WITH A MINER THAT DRAWS
+
+module _ (i : Number) (a b : LinksState) (same : SameLinks a b) (later : IsLater a b) (hello : Hello) (m : StreamState) (t : TapesState) where
+  -- the peers could not be joined
+  pub unjoined_from :
+      {A : Type 0} (miner : A → StreamState) (ending : A → Ending) → Rose a.faults b.faults → (a.steady ≡ true → ⊥)
+      → Serves i hello a b t t m {A = A} (Err (Node stop.LinkFault)) miner ending
+  unjoined_from miner ending rose unsteady =
+      record {
+        taken = [];
+        drew = drew_none t (count_of i);
+        ok = tt;
+        err = λ tape of. unjoined i a b same later hello (with_tape m tape) rose unsteady;
+        still = λ h. h;
+      }
+
+  module _ (c : LinksState) (u : TapesState) where
+    stops_on : (taken : List ℕ) (e : ServeErr) → StopsSo i hello b c t u m taken e → StopsSo i hello a c t u m taken e
+    stops_on taken (Node e) h = λ tape of. stopped_so i a b same later hello (with_tape m tape) c e (h tape of)
+    stops_on taken TapeFault h = (λ tape of. stopped_so i a b same later hello (with_tape m tape) c stop.Memory (h.0 tape of), h.1)
+
+    pub joined_from :
+        {A : Type 0} (r : Result A ServeErr) (miner : A → StreamState) (ending : A → Ending) → Serves i hello b c t u m r miner ending
+        → Serves i hello a c t u m r miner ending
+    joined_from r miner ending h =
+        record {
+          taken = h.taken;
+          drew = h.drew;
+          ok =
+              if_ok_so r _ _
+              (λ x k. record {
+                gone = k.gone;
+                served = λ tape of.
+                    joined_so i a b same later hello (with_tape m tape) c (with_tape (miner x) tape) (ending x) (k.served tape of);
+              })
+              h.ok;
+          err = if_err_so r _ _ (stops_on h.taken) h.err;
+          still = h.still;
+        }

@@ -1,19 +1,28 @@
 -- One miner's part of a run, by what it has: what its node comes to, what it sends, and its text.
-use Rattle.std.specs.Prelude.{◌≡◌, ℕ, ◌-◌, List, Option, Some, None, Result, true, IfOk, IfErr, IfSome, IfNone}
+use Rattle.std.specs.Prelude.{◌≡◌, ℕ, ◌-◌, List, Option, Some, None, Result, Ok, Err, true, IfOk, IfErr, IfSome, IfNone, IsErrOf}
 use Rattle.outside.specs.Links.{LinksState}
+use Rattle.outside.specs.Tapes.{TapesState, Drew}
 use Rattle.sc_text.specs.declared.end.End.{End}
 use Rattle.sc_text.specs.declared.end.Ending.{Ending}
 use Rattle.proto_core.specs.declared.party.Number.{Number}
+use Rattle.proto_core.specs.Parties.{count_of}
 use Rattle.proto_core.specs.Strand.{Act, Strand, told_in}
 use Rattle.bytecode.specs.Raw.{RawCode}
 use Rattle.input_share.specs.ShareFile.{MinerFile}
 use Rattle.driven_nodes.specs.Steps.{Running, Stopped, Short}
+use Rattle.gate_node.specs.Nodes.{IsTapeOf}
 use Rattle.own_code.specs.OwnCode.{Ended, Reached, Unfit}
 use Rattle.miner_text.specs.Lines.{text_of}
 use Rattle.told_text.specs.Told.{lines_told}
 use Rattle.wire.specs.declared.fields.Hello.{Hello}
+use Rattle.miner_core.specs.declared.answer.Lost.{Lost}
+use Rattle.miner_core.specs.declared.answer.Lost.TheVariants as lost
+use Rattle.miner_core.specs.Drawing.{left_for, IsTapeFault}
 use Rattle.miner_core.specs.Story.{Story, AtStop, node}
 use Rattle.miner_node.specs.declared.node_err.NodeErr.{NodeErr}
+use Rattle.miner_node.specs.declared.node_err.NodeErr.TheVariants.{Memory}
+use Rattle.miner_node.specs.declared.node_err.ServeErr.{ServeErr}
+use Rattle.miner_node.specs.declared.node_err.ServeErr.TheVariants.{Node, TapeFault}
 use Rattle.miner_node.specs.Peers.{Sends}
 use Rattle.miner_node.specs.Serving.{Finished, Serving, serving, bytes_to_next, bytes_to_previous}
 use Rattle.miner_node.specs.Answers.{IsStop}
@@ -89,6 +98,29 @@ module _ (me : Number) (own : Own) (old new : LinksState) where
   pub record Runs (result : Result NodeText NodeErr) : Type 0 where
     pub ok : IfOk result (λ told. old.told ≡ true → HasTextOf me own old new (own_serving me own old.coming) told)
     pub err : IfErr result (HasStoppedOf me own old new (own_serving me own old.coming))
+
+-- ---- a run whose tape is drawn from a source
+
+-- why there is no text where the miner could not be made
+abbrev pub unbegun : Lost → ServeErr
+unbegun lost.Memory = Node Memory
+unbegun lost.TapeFault = TapeFault
+
+-- what is answered where words of the tape couldn't be drawn is what may be where memory is wanting
+abbrev pub with_memory : Result NodeText ServeErr → Result NodeText NodeErr
+with_memory (Ok told) = Ok told
+with_memory (Err (Node e)) = Err e
+with_memory (Err TapeFault) = Err Memory
+
+-- words were drawn, and it ran so with each tape that begins with them, and has as many behind them as are left; where words couldn't be drawn,
+-- the source counted a fault, and was not steady
+module _ (me : Number) (own : (tape : List ℕ) → Own) (old new : LinksState) (before after : TapesState) where
+  pub record RunsFrom (result : Result NodeText ServeErr) : Type 0 where
+    pub taken : List ℕ
+    pub drew : Drew before after (count_of me) taken
+    pub runs : (tape : List ℕ) → IsTapeOf taken (left_for me after) tape → Runs me (own tape) old new (with_memory result)
+    pub fault : IsErrOf result TapeFault → IsTapeFault before after
+    pub still : before.steady ≡ true → after.steady ≡ true
 
 -- ---- a miner that has ended
 

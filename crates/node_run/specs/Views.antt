@@ -1,6 +1,8 @@
 -- What a miner has, without where it lies in memory.
+use Rattle.std.specs.Prelude.{ℕ, List}
 use Rattle.node_run.specs.Nodes.{Own}
 use Rattle.node_run.specs.declared.running.OwnPart.{OwnPart}
 
-abbrev pub own_seen : OwnPart → Own
-own_seen own = record { digest = own.digest; code = own.code; share = own.share; tape = own.tape.items; budget = own.budget }
+-- with this tape
+abbrev pub own_seen : OwnPart → (tape : List ℕ) → Own
+own_seen own tape = record { digest = own.digest; code = own.code; share = own.share; tape = tape; budget = own.budget }

@@ -1,20 +1,24 @@
 // How a miner's part of a run has ended, and its text.
-ghost use Rattle.std.specs.Prelude.{◌≡◌, ◌-◌, false, IfOk, IfSome, IfNone};
+ghost use Rattle.std.specs.Prelude.{◌≡◌, ◌-◌, None, IfOk, IfSome, IfNone};
 ghost use Rattle.miner_core.specs.Story.{AtStop, node};
+ghost use Rattle.miner_core.specs.Streams.{ForEachTape};
 ghost use Rattle.node_run.specs.Nodes.{node_text};
 
-use miner_core::Miner;
+use miner_core::StreamMiner;
 use proto_core::Party;
 use sc_text::{End, Ending};
 use std::alloc::{AllocError, Global};
 use told_text::told_text;
 
 /// How the run has ended: before it began, or as the miner's run.
-pub(crate) fn end_of<P: Party>(undealt: Option<Ending>, miner: &Miner<P>, ending: Ending) -> End
-    requires { miner.now.lost ≡ false }
+pub(crate) fn end_of<P: Party>(
+    undealt: Option<Ending>,
+    miner: &StreamMiner<P>,
+    ending: Ending,
+) -> End
     ensures undealt { IfSome undealt (λ how. result ≡ record { how = how; cost = 0 }) }
     ensures ended { IfNone undealt (result.how ≡ ending) }
-    ensures cost { IfNone undealt (AtStop P.me miner.now (λ p. result.cost ≡ miner.now.budget - p.stage.left)) }
+    ensures cost { IfNone undealt (ForEachTape miner.now (λ s. AtStop P.me s (λ p. result.cost ≡ s.budget - p.stage.left))) }
 {
     match undealt {
         Some(how) => End { how, cost: 0 },
@@ -28,11 +32,10 @@ pub(crate) fn end_of<P: Party>(undealt: Option<Ending>, miner: &Miner<P>, ending
 /// The text of a miner whose run has ended so.
 pub(crate) fn text_of<P: Party>(
     alloc: Global,
-    miner: &Miner<P>,
+    miner: &StreamMiner<P>,
     end: End,
 ) -> Result<Vec<u8>, AllocError>
-    requires { miner.now.lost ≡ false }
-    ensures { IfOk result (λ text. text.items ≡ node_text (node P.me miner.now).acts end) }
+    ensures { IfOk result (λ text. ForEachTape miner.now (λ s. text.items ≡ node_text (node P.me s).acts end)) }
 {
     told_text(alloc, miner.notices(), end)
 }

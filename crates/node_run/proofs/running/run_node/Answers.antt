@@ -1,61 +1,49 @@
-use Rattle.std.proofs.Common.{◌≡◌, ◌∙◌, ap}
 use Rattle.std.proofs.lemmas.Result.{err_from_is_err_and}
-use Rattle.proto_core.specs.declared.party.Number.{Number}
-use Rattle.made_miner.specs.Made.{hello_of, undealt}
-use Rattle.node_run.specs.Nodes.{own_hello}
-use Rattle.node_run.specs.Views.{own_seen}
-use Rattle.node_run.proofs.Idles.{made}
-use Rattle.node_run.proofs.Answered.{unbegun, run_stops, run_untold, run_ends}
+use Rattle.node_run.proofs.Answered.{ends_from, ready_so, stops_from, unbegun_from, untold_from}
 use Rattle.node_run.proofs.running.run_node.Goals as goal
 
-pub returns-in_err-miner-clause-runs : goal.returns-in_err-miner-clause-runs
-returns-in_err-miner-clause-runs g c =
-    let p = err_from_is_err_and c.from_residual-in_err-miner.result c.from_residual-in_err-miner.ensures.1 in
-    rw (p.1, p.2) (unbegun g.P.Party.me (own_seen c.args.own) (g.L.Links.state c.args.links.now))
+pub returns-in-Err-clause-runs : goal.returns-in-Err-clause-runs
+returns-in-Err-clause-runs g c =
+    let tapes = g.T.TapeSource.state in
+    rw c.unbegun.ensures
+    (unbegun_from g.P.Party.me c.args.own (tapes c.args.tapes.now) (tapes c.begin.new.tapes) (g.L.Links.state c.args.links.now) c.in-Err.lost
+    c.in-Err.ensures.draws)
+
+pub serve_joined-requires-clause-ready : goal.serve_joined-requires-clause-ready
+serve_joined-requires-clause-ready g c =
+    let tapes = g.T.TapeSource.state in
+    let h = c.in-Ok.ensures in
+    let b = c.in-Ok.begun in
+    ready_so g.P.Party.me c.args.own b.hello b.miner (tapes c.args.tapes.now) (tapes c.begin.new.tapes) h.hello h.miner
 
 pub returns-in_err-served-clause-runs : goal.returns-in_err-served-clause-runs
 returns-in_err-served-clause-runs g c =
-    let state = g.L.Links.state in
-    let own = own_seen c.args.own in
-    let me = g.P.Party.me in
-    let says : c.in_ok-hello.hello ≡ own_hello me own =
-    c.in_ok-hello.ensures ∙ ap (λ (i : Number). hello_of i own.digest own.share own.budget) c.number.ensures in
-    let e1 = c.in_ok-miner.miner-is in
-    let e2 = c.in_ok-miner.ensures.miner in
-    let is : c.in_ok-miner.field-0.miner ≡ made me own (undealt own.share) = cc in
-    let p = err_from_is_err_and c.from_residual-in_err-served.result c.from_residual-in_err-served.ensures.1 in
+    let tapes = g.T.TapeSource.state in
+    let links = g.L.Links.state in
+    let h = c.in-Ok.ensures in
+    let b = c.in-Ok.begun in
+    let p = err_from_is_err_and c.from_residual.result c.from_residual.ensures.1 in
     rw (p.1, p.2)
-    (run_stops me own (state c.args.links.now) (state c.serve_joined.new.links) c.in_ok-hello.hello c.in_ok-miner.field-0.miner says is
-    c.in_err-served.field-0.0 c.in_err-served.ensures.stopped)
+    (stops_from g.P.Party.me c.args.own b.hello b.miner (tapes c.args.tapes.now) (tapes c.begin.new.tapes) h.hello h.miner
+    (links c.args.links.now) (links c.serve_joined.new.links) (tapes c.serve_joined.new.tapes) _ _ h.draws.still c.in_err-served.field-0.0
+    c.in_err-served.ensures.serves)
 
-pub returns-in_err-text_served-clause-runs : goal.returns-in_err-text_served-clause-runs
-returns-in_err-text_served-clause-runs g c =
-    let state = g.L.Links.state in
-    let own = own_seen c.args.own in
-    let me = g.P.Party.me in
-    let says : c.in_ok-hello.hello ≡ own_hello me own =
-    c.in_ok-hello.ensures ∙ ap (λ (i : Number). hello_of i own.digest own.share own.budget) c.number.ensures in
-    let e1 = c.in_ok-miner.miner-is in
-    let e2 = c.in_ok-miner.ensures.miner in
-    let is : c.in_ok-miner.field-0.miner ≡ made me own (undealt own.share) = cc in
-    let p = err_from_is_err_and c.from_residual-in_err-text_served.result c.from_residual-in_err-text_served.ensures.1 in
-    rw (p.1, p.2)
-    (run_untold me own (state c.args.links.now) (state c.serve_joined.new.links) c.in_ok-hello.hello c.in_ok-miner.field-0.miner says is
-    c.in_ok-served.served.miner c.in_ok-served.served.ending c.in_ok-served.ensures.served)
+pub returns-in-Ok-text_served-clause-runs : goal.returns-in-Ok-text_served-clause-runs
+returns-in-Ok-text_served-clause-runs g c =
+    let tapes = g.T.TapeSource.state in
+    let links = g.L.Links.state in
+    let h = c.in-Ok.ensures in
+    let b = c.in-Ok.begun in
+    ends_from g.P.Party.me c.args.own b.hello b.miner (tapes c.args.tapes.now) (tapes c.begin.new.tapes) h.hello h.miner
+    (links c.args.links.now) (links c.serve_joined.new.links) (tapes c.serve_joined.new.tapes) _ _ h.draws.still c.in_ok-served.served
+    c.in_ok-served.ensures.serves b.undealt h.undealt c.in-Ok-text_served.told c.in-Ok-text_served.ensures
 
-pub returns-clause-runs : goal.returns-clause-runs
-returns-clause-runs g c =
-    let state = g.L.Links.state in
-    let own = own_seen c.args.own in
-    let me = g.P.Party.me in
-    let says : c.in_ok-hello.hello ≡ own_hello me own =
-    c.in_ok-hello.ensures ∙ ap (λ (i : Number). hello_of i own.digest own.share own.budget) c.number.ensures in
-    let e1 = c.in_ok-miner.miner-is in
-    let e2 = c.in_ok-miner.ensures.miner in
-    let is : c.in_ok-miner.field-0.miner ≡ made me own (undealt own.share) = cc in
-    let e3 = c.in_ok-miner.undealt-is in
-    let e4 = c.in_ok-miner.ensures.undealt in
-    let same : c.in_ok-miner.field-0.undealt ≡ undealt own.share = cc in
-    run_ends me own (state c.args.links.now) (state c.serve_joined.new.links) c.in_ok-hello.hello c.in_ok-miner.field-0.miner says is
-    c.in_ok-served.served.miner c.in_ok-served.served.ending c.in_ok-served.ensures.served c.in_ok-miner.field-0.undealt same
-    c.in_ok-text_served.field-0 c.in_ok-text_served.ensures
+pub returns-in-Err-text_served-clause-runs : goal.returns-in-Err-text_served-clause-runs
+returns-in-Err-text_served-clause-runs g c =
+    let tapes = g.T.TapeSource.state in
+    let links = g.L.Links.state in
+    let h = c.in-Ok.ensures in
+    let b = c.in-Ok.begun in
+    untold_from g.P.Party.me c.args.own b.hello b.miner (tapes c.args.tapes.now) (tapes c.begin.new.tapes) h.hello h.miner
+    (links c.args.links.now) (links c.serve_joined.new.links) (tapes c.serve_joined.new.tapes) _ _ h.draws.still c.in_ok-served.served
+    c.in_ok-served.ensures.serves
