@@ -101,7 +101,7 @@ module _ (reach : Reach) (course : Course) (plan : Plan) (a b : Sources) (f : Fi
         → FileFailed reach course a (at_last b f) line
     faulted_since line first fault = record {
       rose = omega (arith, first.later, fault.rose);
-      missing = λ s t. absurd (fault.unsteady (first.still s));
+      missing = λ s t. absurd (fault.unsteady (first.still s) (still_told t));
     }
 
     pub ends_as : {written : List (List ℕ)} (r : Result Status Stop) → OnlyAmong written a.files b.files → is_end effect.status ≡ true

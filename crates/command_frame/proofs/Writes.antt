@@ -1,18 +1,18 @@
 -- Writing files one after another.
-use Rattle.std.proofs.Common.{◌≡◌, ◌≢◌, ℕ, zero, suc, ◌+◌, ◌<◌, ◌≤◌, List, [], ◌∷◌, ◌++◌, length, get_or, drop, take, take_all, take-suc, take-append-drop, map, true}
+use Rattle.std.proofs.Common.{◌≡◌, ◌≢◌, ℕ, zero, suc, ◌+◌, ◌<◌, ◌≤◌, List, [], ◌∷◌, ◌++◌, length, get_or, drop, take, take_all, take-suc, take-append-drop, map}
 use Rattle.std.proofs.Common.{refl, ap, sym, ◌∙◌, arith, add-one, drop-cons, string_bytes, Contains}
 use Rattle.std.proofs.lemmas.List.{get_or-map, length-map, map-append}
 use Rattle.outside.proofs.MapFiles.{other_file}
 use Rattle.outside.specs.Files.{Contents, FilesState, Wrote, OnlyAt, with_file, file_at}
-use Rattle.command_frame.specs.Answer.{Written, writes_of, after_writes, paths_in}
+use Rattle.command_frame.specs.Answer.{Written, content_bytes, writes_of, after_writes, paths_in}
 use Rattle.command_frame.specs.declared.object.Object.TheVariants as objects
 use Rattle.command_frame.specs.declared.plan.PlannedWrite.{PlannedWrite}
 use Rattle.command_frame.specs.declared.stop.Stop.{Stop}
 use Rattle.command_frame.specs.declared.stop.Stop.TheVariants as stops
-use Rattle.command_frame.specs.Finish.{OnlyAmong, StopsMidway, StopsWriting, StopsWritingOne, WroteAll}
+use Rattle.command_frame.specs.Finish.{OnlyAmong, StopsMidway, StopsWriting, StopsWritingOne, Touches, WroteAll}
 
 abbrev seen : PlannedWrite → Written
-seen w = record { path = string_bytes w.path; bytes = w.bytes.items }
+seen w = record { path = string_bytes w.path; bytes = content_bytes w.content }
 
 abbrev paths : List PlannedWrite → List (List ℕ)
 paths ws = paths_in (writes_of ws)
@@ -49,20 +49,20 @@ path_among ws i e q lt is same = (
 -- ---- one write more
 
 pub among_more : (ws : List PlannedWrite) (i : ℕ) (e : PlannedWrite) (a b c : FilesState) → i < length ws → e ≡ get_or ws i e → OnlyAmong (paths ws) a b
-    → OnlyAt b c (string_bytes e.path) → b.faults ≤ c.faults → (b.steady ≡ true → c.steady ≡ true) → OnlyAmong (paths ws) a c
-among_more ws i e a b c lt is p q later still = record {
-  told = q.told ∙ p.told;
-  others = λ t path no. q.others (p.told ∙ t) path (λ same. no (path_among ws i e path lt is same)) ∙ p.others t path no;
-  later = omega (arith, p.later);
-  still = λ s. still (p.still s);
+    → Touches (string_bytes e.path) b c → OnlyAmong (paths ws) a c
+among_more ws i e a b c lt is p q = record {
+  told = q.only.told ∙ p.told;
+  others = λ t path no. q.only.others (p.told ∙ t) path (λ same. no (path_among ws i e path lt is same)) ∙ p.others t path no;
+  later = omega (arith, p.later, q.later);
+  still = λ s. q.still (p.still s);
 }
 
-pub wrote_more : (ws : List PlannedWrite) (i : ℕ) (e : PlannedWrite) (a b c : FilesState) (bytes : List ℕ) → bytes ≡ e.bytes.items → i < length ws
+pub wrote_more : (ws : List PlannedWrite) (i : ℕ) (e : PlannedWrite) (a b c : FilesState) → i < length ws
     → e ≡ get_or ws i e
-    → b.told ≡ a.told → WroteAll (writes_of (take i ws)) a b → Wrote b c (string_bytes e.path) bytes → WroteAll (writes_of (take (i + 1) ws)) a c
-wrote_more ws i e a b c bytes same lt is told done w = λ t.
-    w.contents (told ∙ t) ∙ ap (with_file b.contents (string_bytes e.path)) same
-    ∙ ap (λ (m : Contents). with_file m (string_bytes e.path) e.bytes.items) (done t)
+    → b.told ≡ a.told → WroteAll (writes_of (take i ws)) a b → Wrote b c (string_bytes e.path) (content_bytes e.content) → WroteAll (writes_of (take (i + 1) ws)) a c
+wrote_more ws i e a b c lt is told done w = λ t.
+    w.contents (told ∙ t)
+    ∙ ap (λ (m : Contents). with_file m (string_bytes e.path) (content_bytes e.content)) (done t)
     ∙ sym (ap (λ (v : List Written). after_writes v a.contents) (one_more ws i e lt is) ∙ after_append (writes_of (take i ws)) (seen e ∷ []) a.contents)
 
 pub wrote_all : (ws : List PlannedWrite) (i : ℕ) (a b : FilesState) → length ws ≤ i → WroteAll (writes_of (take i ws)) a b → WroteAll (writes_of ws) a b
@@ -90,7 +90,7 @@ stops_here ws i e a b c (stops.Refused r) lt is p done only s = s
 stops_here ws i e a b c (stops.Breached x) lt is p done only s = s
 stops_here ws i e a b c (stops.Failed (objects.File line)) lt is p done only s = record {
   rose = omega (arith, p.later, s.0);
-  unsteady = λ t. s.1 (p.still t);
+  unsteady = λ steady told. s.1 (p.still steady) (p.told ∙ told);
   breaks = record { path = string_bytes e.path; named = s.2; midway = midway ws i e a b c lt is p.told done only };
 }
 stops_here ws i e a b c (stops.Failed objects.Output) lt is p done only s = s

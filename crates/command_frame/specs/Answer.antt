@@ -4,10 +4,13 @@ use Rattle.std.specs.Option.{ok_or}
 use Rattle.outside.specs.Files.{Contents, file_at, with_file}
 use Rattle.sc_text.specs.declared.fault.Fault.TheVariants as faults
 use Rattle.sc_text.specs.Fault.{fault_line, file_line}
+use Rattle.view_text.specs.Text.{view_bytes}
 use Rattle.command_frame.specs.declared.status.Status.{Status}
 use Rattle.command_frame.specs.declared.status.Status.TheVariants.{File, Usage}
 use Rattle.command_frame.specs.declared.breach.Breach.{Breach}
 use Rattle.command_frame.specs.declared.refusal.Refusal.{Refusal}
+use Rattle.command_frame.specs.declared.plan.Content.{Content}
+use Rattle.command_frame.specs.declared.plan.Content.TheVariants as contents
 use Rattle.command_frame.specs.declared.plan.Plan.{Plan}
 use Rattle.command_frame.specs.declared.plan.PlannedWrite.{PlannedWrite}
 
@@ -59,8 +62,13 @@ bytes_at files path = ok_or (file_at files path) (missing path)
 abbrev pub cause_of : Refusal → Cause
 cause_of r = record { status = r.status; line = string_bytes r.line }
 
+-- the bytes that a file is to hold
+abbrev pub content_bytes : Content → List ℕ
+content_bytes (contents.Bytes bytes) = bytes.items
+content_bytes (contents.View view) = view_bytes view
+
 abbrev pub writes_of : List PlannedWrite → List Written
-writes_of writes = map (λ w. record { path = string_bytes w.path; bytes = w.bytes.items }) writes
+writes_of writes = map (λ w. record { path = string_bytes w.path; bytes = content_bytes w.content }) writes
 
 -- the same of what another miner did
 abbrev pub breach_of : Breach → Cause

@@ -1,7 +1,7 @@
 -- What a plan's writing and printing leaves.
-use Rattle.std.specs.Prelude.{ℕ, ◌≡◌, ◌≢◌, ◌≤◌, ◌⊎◌, List, ◌∷◌, ◌++◌, true, take, Contains, Result, Ok, Err}
+use Rattle.std.specs.Prelude.{ℕ, ◌≡◌, ◌≢◌, ◌≤◌, ◌⊎◌, List, ◌∷◌, ◌++◌, true, take, Contains, IsSome, Result, Ok, Err}
 use Rattle.outside.specs.Causes.{Rose}
-use Rattle.outside.specs.Files.{FilesState, file_at}
+use Rattle.outside.specs.Files.{FilesState, OnlyAt, Wrote, file_at}
 use Rattle.outside.specs.Sink.{SinkState, SameSink, Appends}
 use Rattle.sc_text.specs.Fault.{file_line}
 use Rattle.command_frame.specs.declared.status.Status.{Status}
@@ -16,6 +16,31 @@ pub record OnlyAmong (paths : List (List ℕ)) (old new : FilesState) : Type 0 w
   pub others : old.told ≡ true → (q : List ℕ) → (Contains paths q → ⊥) → file_at new.contents q ≡ file_at old.contents q
   pub later : old.faults ≤ new.faults
   pub still : old.steady ≡ true → new.steady ≡ true
+
+-- ---- a file that grows
+
+-- the file is there
+abbrev pub IsThere : FilesState → List ℕ → Type 0
+IsThere state path = state.told ≡ true → IsSome (file_at state.contents path)
+
+-- these bytes were put after the file's: it was written with some bytes, and has these after them now
+pub record Grew (path bytes : List ℕ) (old new : FilesState) : Type 0 where
+  pub there : IsThere old path → IsThere new path
+  pub adds : (start : FilesState) (given : List ℕ) → Wrote start old path given → Wrote start new path (given ++ bytes)
+
+-- of these bytes all but the last, these, were put after the file's
+pub record GrewUpTo (path whole left : List ℕ) (old new : FilesState) : Type 0 where
+  pub sent : List ℕ
+  pub order : whole ≡ sent ++ left
+  pub grew : Grew path sent old new
+
+-- all but this path is as it was
+pub record Touches (path : List ℕ) (old new : FilesState) : Type 0 where
+  pub only : OnlyAt old new path
+  pub later : old.faults ≤ new.faults
+  pub still : old.steady ≡ true → new.steady ≡ true
+
+-- ---- all files
 
 -- all was written
 abbrev pub WroteAll : List Written → FilesState → FilesState → Type 0
@@ -49,10 +74,10 @@ pub record BreaksOff (writes : List Written) (line : List ℕ) (old new : FilesS
   pub named : line ≡ file_line path
   pub midway : StopsMidway writes path old new
 
--- a file could not be written: the count rose, which a steady store's doesn't
+-- a file could not be written: the count rose, which that of a steady store that tells what it holds doesn't
 pub record WriteFaulted (writes : List Written) (line : List ℕ) (old new : FilesState) : Type 0 where
   pub rose : Rose old.faults new.faults
-  pub unsteady : old.steady ≡ true → ⊥
+  pub unsteady : old.steady ≡ true → old.told ≡ true → ⊥
   pub breaks : BreaksOff writes line old new
 
 -- memory ran out at one of the files
@@ -72,7 +97,7 @@ StopsWritingOne path old new stops.Usage = ⊥
 StopsWritingOne path old new (stops.Refused r) = ⊥
 StopsWritingOne path old new (stops.Breached b) = ⊥
 StopsWritingOne path old new (stops.Failed object) =
-    OfFile (λ line. Rose old.faults new.faults × (old.steady ≡ true → ⊥) × (line ≡ file_line path)) object
+    OfFile (λ line. Rose old.faults new.faults × (old.steady ≡ true → old.told ≡ true → ⊥) × (line ≡ file_line path)) object
 
 -- the output failed: its count rose, which a steady one's doesn't
 pub record PutFaulted (text : List ℕ) (old new : SinkState) : Type 0 where

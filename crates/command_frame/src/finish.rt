@@ -1,31 +1,11 @@
-ghost use Rattle.std.specs.Prelude.{◌≡◌, ◌≤◌, true, OnOk, IfErr, string_bytes};
-ghost use Rattle.outside.specs.Files.{Wrote, OnlyAt};
+ghost use Rattle.std.specs.Prelude.{OnOk, IfErr};
 ghost use Rattle.command_frame.specs.Answer.{effect_of, writes_of, paths_in};
-ghost use Rattle.command_frame.specs.Finish.{OnlyAmong, WroteAll, StopsWriting, StopsWritingOne, Finishes};
+ghost use Rattle.command_frame.specs.Finish.{OnlyAmong, WroteAll, StopsWriting, Finishes};
 
-use crate::stop::file_stop;
+use crate::writing::write_file;
 use crate::{Object, Plan, PlannedWrite, Status, Stop};
 use outside::{FileErr, Files, Sink, put_all};
 use std::alloc::Global;
-
-fn write_file<F: Files>(
-    alloc: Global,
-    files: &mut F,
-    path: &String,
-    bytes: &[u8],
-) -> Result<(), Stop>
-    ensures ok { OnOk result (Wrote (F.state files.old) (F.state files.new) (string_bytes path.now) bytes.now) }
-    ensures only { OnlyAt (F.state files.old) (F.state files.new) (string_bytes path.now) }
-    ensures later { (F.state files.old).faults ≤ (F.state files.new).faults }
-    ensures still { (F.state files.old).steady ≡ true → (F.state files.new).steady ≡ true }
-    ensures err { IfErr result (StopsWritingOne (string_bytes path.now) (F.state files.old) (F.state files.new)) }
-{
-    match files.write(alloc, path, bytes) {
-        Ok(()) => Ok(()),
-        Err(FileErr::Memory) => Err(Stop::Memory),
-        Err(FileErr::Failed) => Err(file_stop(alloc, path)),
-    }
-}
 
 /// Writes the files in order.
 ///
@@ -41,7 +21,7 @@ pub fn write_files<F: Files>(
     ensures err { IfErr result (StopsWriting (writes_of writes.now) (F.state files.old) (F.state files.new)) }
 {
     for entry in writes {
-        if let Err(stop) = write_file(alloc, files, &entry.path, &entry.bytes) {
+        if let Err(stop) = write_file(alloc, files, entry) {
             return Err(stop);
         }
     }

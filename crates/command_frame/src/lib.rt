@@ -14,11 +14,12 @@ mod refusal;
 mod saying;
 mod status;
 mod stop;
+mod writing;
 
 pub use breach::Breach;
 pub use finish::{finish_plan, write_files};
 pub use object::Object;
-pub use plan::{Plan, PlannedWrite};
+pub use plan::{Content, Plan, PlannedWrite};
 pub use reading::read_file;
 pub use refusal::Refusal;
 pub use saying::{ended_status, say};

@@ -6,7 +6,7 @@ ghost use Rattle.command_words.specs.Views.{gather_ask};
 ghost use Rattle.gather_command.specs.Gather.{gather_effect, gather_of, gather_paths, gathered_paths, lens_line, name_line, IsGatherStop};
 
 use crate::shares::read_shares;
-use command_frame::{Plan, PlannedWrite, Status, Stop, refused};
+use command_frame::{Content, Plan, PlannedWrite, Status, Stop, refused};
 use command_words::GatherWords;
 use gathered_shares::{GatherErr, gather};
 use input_share::{ShareFile, write_share};
@@ -50,7 +50,7 @@ fn gathered_plan(alloc: Global, to: &String, file: &ShareFile) -> Result<Plan, A
     let mut writes = Vec::new(alloc);
     writes.push(PlannedWrite {
         path: to.clone()?,
-        bytes: write_share(alloc, file)?,
+        content: Content::Bytes(write_share(alloc, file)?),
     })?;
     Ok(Plan {
         writes,

@@ -1,3 +1,4 @@
+pub mod HeldRuns
 pub mod LoadRuns
 pub mod Planned
 pub mod Written

@@ -18,7 +18,7 @@ use Rattle.tape_file.specs.Seeds.{seed_tapes}
 use Rattle.workload_program.specs.LoadTree.{load_typed}
 use Rattle.workload_program.proofs.Runnable.{load_is_runnable}
 use Rattle.program_run.specs.Accepted.{IsAccepted}
-use Rattle.viewed_run.specs.Deliveries.{HasRunOf, IsRunOf, net_of}
+use Rattle.viewed_run.specs.Deliveries.{HasRunOf, net_of}
 use Rattle.viewed_run.specs.Premises.{HaveWords}
 use Rattle.counted_net.specs.declared.delivery.DeliveryErr.{DeliveryErr}
 use Rattle.counted_net.specs.declared.delivery.DeliveryErr.TheVariants as refusal
@@ -32,7 +32,7 @@ use Rattle.program_commands.specs.Eval.{end_of}
 use Rattle.program_commands.specs.Judging.{Finding}
 use Rattle.miner_commands.specs.Load.{load_budget, load_effect, load_links, load_report, load_tapes, loaded_effect, messages_text}
 use Rattle.program_commands.specs.OfText.{Decides, IsFoundOf, program_in}
-use Rattle.miner_commands.specs.Run.{run_report}
+use Rattle.miner_commands.specs.Run.{run_report, IsHeldRun}
 use Rattle.program_commands.proofs.OfTexts.{only_memory}
 use Rattle.miner_commands.proofs.Planned.{told_end}
 
@@ -87,7 +87,8 @@ module _ (p : TypedProgramTree) (entries : List Entry) (tapes : FourTapes) (acce
   taken : net_of p entries tapes load_budget Default ≡ Accepted
   taken = made_deliveries_are_taken p entries tapes load_budget Default accepted have tt
 
-  pub never_refused : (e : DeliveryErr) → IsRunOf p entries tapes load_budget Default (Err e) → e ≡ refusal.Memory
+  pub never_refused : (e : DeliveryErr) → IsHeldRun p entries tapes load_budget Default (HasRunOf p entries tapes load_budget Default) (Err e)
+      → e ≡ refusal.Memory
   never_refused (refusal.EmptyLink entry link sent) is = let wrong : Accepted ≡ EmptyLink entry link sent = sym taken ∙ is in absurd cc
   never_refused (refusal.Stalled miner link) is = let wrong : Accepted ≡ Stalled miner link = sym taken ∙ is in absurd cc
   never_refused refusal.Memory is = refl

@@ -15,8 +15,9 @@ use Rattle.value_file.specs.declared.inputs.Entry.{Entry}
 use Rattle.typed_tree.specs.Programs.{TypedProgramTree}
 use Rattle.language_model.specs.Reports.{Report}
 use Rattle.program_run.specs.Reports.{eval_with}
-use Rattle.viewed_run.specs.Deliveries.{delivered_of, net_of, IsRefusedOf}
+use Rattle.viewed_run.specs.Deliveries.{delivered_of, net_of, IsOrRefused, IsRefusedOf}
 use Rattle.counted_net.specs.declared.delivery.DeliveryErr.{DeliveryErr}
+use Rattle.delivered_run.specs.declared.errors.CourseErr.{CourseErr}
 use Rattle.viewed_run.specs.Views.{view_of}
 use Rattle.view_text.specs.View.{View}
 use Rattle.command_frame.specs.declared.plan.Plan.{Plan}
@@ -59,6 +60,11 @@ run_told ask program entries tapes delivery =
     run_effect ask (λ i. view_of i program entries tapes ask.budget delivery) (run_report program entries tapes ask.budget)
     (delivered_of program entries tapes ask.budget delivery)
 
+-- so a run with tapes in memory comes out, or its schedule is refused
+abbrev pub IsHeldRun : {A : Type 0} → TypedProgramTree → List Entry → FourTapes → (budget : ℕ) → Delivery → (A → Type 0) → Result A DeliveryErr → Type 0
+IsHeldRun p entries tapes budget delivery Q (Ok x) = Q x
+IsHeldRun p entries tapes budget delivery Q (Err e) = IsRefusedOf p entries tapes budget delivery e
+
 module _ (ask : RunAsk) (p : TypedProgramTree) (entries : List Entry) (tapes : FourTapes) (delivery : Delivery) where
   -- the net takes the delivery, and this is planned
   pub record HasRan (plan : Plan) : Type 0 where
@@ -67,8 +73,11 @@ module _ (ask : RunAsk) (p : TypedProgramTree) (entries : List Entry) (tapes : F
 
   -- so it is, or the schedule is refused
   abbrev pub IsRan : Result Plan DeliveryErr → Type 0
-  IsRan (Ok plan) = HasRan plan
-  IsRan (Err e) = IsRefusedOf p entries tapes ask.budget delivery e
+  IsRan result = IsHeldRun p entries tapes ask.budget delivery HasRan result
+
+  -- or no more is said since a tape couldn't be read
+  abbrev pub IsRanOrNot : Result Plan CourseErr → Type 0
+  IsRanOrNot result = IsOrRefused p entries tapes ask.budget delivery HasRan result
 
 -- Each file is read and then checked: the program and its size, the input, the tapes, the schedule; then the program is run.
 unfoldable pub run_of : Finding → RunAsk → Contents → Answer

@@ -5,11 +5,15 @@ ghost use Rattle.command_frame.specs.Reads.{PlanNames};
 ghost use Rattle.command_frame.specs.declared.stop.Stop.TheVariants.{Memory};
 ghost use Rattle.command_words.specs.Views.{load_ask};
 ghost use Rattle.protocol_model.specs.Network.{Default};
+ghost use Rattle.program_run.specs.Accepted.{IsAccepted};
+ghost use Rattle.typed_tree.specs.Programs.{typed_program_tree};
 ghost use Rattle.value_file.specs.Input.{AreInputs};
+ghost use Rattle.view_model.specs.TapeMaps.{AreTapes};
 ghost use Rattle.workload.specs.Load.{load_program};
 ghost use Rattle.workload_program.specs.LoadTree.{load_typed};
 ghost use Rattle.viewed_run.specs.Deliveries.{HasRunOf};
 ghost use Rattle.miner_commands.specs.Load.{load_budget, load_effect, loaded_effect, messages_text};
+ghost use Rattle.miner_commands.specs.Run.{IsHeldRun};
 
 use command_frame::{Plan, Stop};
 use command_words::LoadWords;
@@ -17,8 +21,12 @@ use input_share::see_entries;
 use program_commands::{ending_status, typed_of_text};
 use sc_text::run_text;
 use std::alloc::{AllocError, Global};
+use tape_file::Tapes;
+use tape_sources::HeldTapes;
+use typed_tree::TypedProgram;
+use value_file::Inputs;
 use view_model::see_tapes;
-use viewed_run::{DeliveredRun, Delivery, DeliveryErr, run_delivered};
+use viewed_run::{CourseErr, DeliveredRun, Delivery, DeliveryErr, run_delivered};
 use workload::{Workload, make};
 
 /// The most that the run may cost.
@@ -47,24 +55,43 @@ fn loaded_plan(alloc: Global, ran: &DeliveredRun) -> Result<Plan, AllocError>
     })
 }
 
+// Three miners run a program with tapes in memory, which can always be read.
+fn run_held(
+    alloc: Global,
+    program: &TypedProgram,
+    inputs: &Inputs,
+    tapes: Tapes,
+) -> Result<DeliveredRun, DeliveryErr>
+    requires accepted { IsAccepted (typed_program_tree program.now) }
+    requires inputs { AreInputs inputs.now }
+    requires tapes { AreTapes tapes }
+    ensures { IsHeldRun (typed_program_tree program.now) inputs.now tapes load_budget Default
+        (HasRunOf (typed_program_tree program.now) inputs.now tapes load_budget Default) result }
+{
+    let mut held = HeldTapes::new(tapes);
+    match run_delivered(alloc, program, inputs, &mut held, BUDGET, &Delivery::InTurn) {
+        Ok(ran) => Ok(ran),
+        Err(CourseErr::Delivery(refusal)) => Err(refusal),
+        Err(CourseErr::TapeFault) => unreachable!(),
+    }
+}
+
 // Three miners run a workload. Its program is accepted, and the delivery that is made is complete.
-fn run_load(alloc: Global, load: &Workload) -> Result<DeliveredRun, Stop>
-    requires program { string_bytes load.now.program ≡ load_program }
-    requires inputs { AreInputs load.now.inputs }
-    ensures run { IfOk result (HasRunOf load_typed load.now.inputs load.now.tapes load_budget Default) }
+fn run_load(alloc: Global, load: Workload) -> Result<DeliveredRun, Stop>
+    requires program { string_bytes load.program ≡ load_program }
+    requires inputs { AreInputs load.inputs }
+    ensures run { IfOk result (HasRunOf load_typed load.inputs load.tapes load_budget Default) }
     ensures memory { IfErr result (λ stop. stop ≡ Memory) }
 {
-    let program = typed_of_text(alloc, load.program.as_bytes())?;
-    see_entries(load.inputs.entries());
-    see_tapes(&load.tapes);
-    match run_delivered(
-        alloc,
-        &program,
-        &load.inputs,
-        &load.tapes,
-        BUDGET,
-        &Delivery::InTurn,
-    ) {
+    let Workload {
+        program: text,
+        inputs,
+        tapes,
+    } = load;
+    let program = typed_of_text(alloc, text.as_bytes())?;
+    see_entries(inputs.entries());
+    see_tapes(&tapes);
+    match run_held(alloc, &program, &inputs, tapes) {
         Ok(ran) => Ok(ran),
         Err(DeliveryErr::Memory) => Err(Stop::Memory),
         Err(DeliveryErr::EmptyLink { .. }) => unreachable!(),
@@ -80,6 +107,6 @@ pub fn plan_load(alloc: Global, words: &LoadWords) -> Result<Plan, Stop>
     ensures names { IfOk result (PlanNames []) }
 {
     let load = make(alloc, words.number)?;
-    let ran = run_load(alloc, &load)?;
+    let ran = run_load(alloc, load)?;
     Ok(loaded_plan(alloc, &ran)?)
 }

@@ -3,18 +3,20 @@ ghost use Rattle.std.specs.Prelude.{◌≡◌, ◌++◌, true, option_map, IfOk,
 ghost use Rattle.command_frame.specs.Answer.{effect_of, writes_of};
 ghost use Rattle.command_frame.specs.Reads.{OnlyRead, Gives, KeepsTo, PlanNames, StopsReading};
 ghost use Rattle.command_words.specs.Views.{run_ask};
+ghost use Rattle.outside.specs.Tapes.{TapesState};
+ghost use Rattle.delivered_run.specs.Sources.{RunsFrom};
 ghost use Rattle.counted_net.specs.declared.delivery.DeliveryErr.TheVariants.{Memory as NoMemory};
 ghost use Rattle.viewed_run.specs.Deliveries.{delivery_seen};
 ghost use Rattle.program_run.specs.Accepted.{IsAccepted};
 ghost use Rattle.typed_tree.specs.Programs.{typed_program_tree};
 ghost use Rattle.value_file.specs.Input.{AreInputs};
 ghost use Rattle.program_commands.specs.Judging.{Finding, FoundAt, HasFinding, its_program, Tells};
-ghost use Rattle.miner_commands.specs.Run.{ran_effect, ran_paths, recorded_links, run_of, run_paths, IsRan};
+ghost use Rattle.miner_commands.specs.Run.{ran_effect, ran_paths, recorded_links, run_of, run_paths, IsRan, IsRanOrNot};
 
 use crate::views::view_writes;
-use command_frame::{Plan, PlannedWrite, Stop};
+use command_frame::{Content, Plan, PlannedWrite, Stop};
 use command_words::RunWords;
-use outside::Files;
+use outside::{Files, TapeSource};
 use program_commands::{
     delivery_stop, ending_status, read_delivery, read_inputs, read_tapes, read_typed,
 };
@@ -22,9 +24,11 @@ use proto_core::Link;
 use sc_text::run_text;
 use std::alloc::{AllocError, Global};
 use tape_file::Tapes;
+use tape_sources::HeldTapes;
 use typed_tree::TypedProgram;
 use value_file::Inputs;
-use viewed_run::{DeliveredRun, Delivery, DeliveryErr, run_delivered, run_seen};
+use view_model::see_tapes;
+use viewed_run::{CourseErr, DeliveredRun, Delivery, DeliveryErr, run_delivered, run_seen};
 
 // Adds the links that were delivered to what is to be written, where they are asked for.
 fn record_links(
@@ -37,8 +41,8 @@ fn record_links(
 {
     if let Some(path) = recorded {
         let path = path.clone()?;
-        let bytes = schedule_file::write(alloc, links)?;
-        writes.push(PlannedWrite { path, bytes })?;
+        let content = Content::Bytes(schedule_file::write(alloc, links)?);
+        writes.push(PlannedWrite { path, content })?;
     }
     Ok(())
 }
@@ -62,35 +66,63 @@ fn ran_plan(
     })
 }
 
-// What a run takes: the program, its inputs, the tapes, and the order of deliveries.
+// What a run takes beside its tapes: the program, its inputs, and the order of deliveries.
 #[derive(Drop)]
 struct Job<'a> {
     program: &'a TypedProgram,
     inputs: &'a Inputs,
-    tapes: &'a Tapes,
     delivery: &'a Delivery,
 }
 
 // The run, and what is to be written and printed of it; the miners' views are made where they are asked for.
-fn run_job(alloc: Global, job: &Job<'_>, words: &RunWords) -> Result<Plan, DeliveryErr>
+fn run_job<T: TapeSource>(
+    alloc: Global,
+    job: &Job<'_>,
+    words: &RunWords,
+    tapes: &mut T,
+) -> Result<Plan, CourseErr>
     requires accepted { IsAccepted (typed_program_tree job.now.program.now) }
     requires inputs { AreInputs job.now.inputs.now }
-    ensures ran { IsRan (run_ask words.now) (typed_program_tree job.now.program.now) job.now.inputs.now job.now.tapes.now
-        (delivery_seen job.now.delivery.now) result }
+    ensures ran { RunsFrom (T.state tapes.old) (T.state tapes.new) job.now.inputs.now result
+        (λ t. IsRanOrNot (run_ask words.now) (typed_program_tree job.now.program.now) job.now.inputs.now t
+        (delivery_seen job.now.delivery.now) result) }
     ensures names { IfOk result (PlanNames (ran_paths (run_ask words.now))) }
 {
     let (program, inputs) = (job.program, job.inputs);
-    let (tapes, budget) = (job.tapes, words.budget);
+    let budget = words.budget;
     match &words.views {
         Some(prefix) => {
             let seen = run_seen(alloc, program, inputs, tapes, budget, job.delivery)?;
-            let files = view_writes(alloc, prefix, &seen.views)?;
-            Ok(ran_plan(alloc, &seen.run, files, words)?)
+            let (run, views) = seen.into_parts();
+            let files = view_writes(alloc, prefix, views)?;
+            Ok(ran_plan(alloc, &run, files, words)?)
         }
         None => {
             let run = run_delivered(alloc, program, inputs, tapes, budget, job.delivery)?;
             Ok(ran_plan(alloc, &run, Vec::new(alloc), words)?)
         }
+    }
+}
+
+// The same with tapes in memory, which can always be read.
+fn run_held(
+    alloc: Global,
+    job: &Job<'_>,
+    tapes: Tapes,
+    words: &RunWords,
+) -> Result<Plan, DeliveryErr>
+    requires accepted { IsAccepted (typed_program_tree job.now.program.now) }
+    requires inputs { AreInputs job.now.inputs.now }
+    ensures ran { IsRan (run_ask words.now) (typed_program_tree job.now.program.now) job.now.inputs.now tapes
+        (delivery_seen job.now.delivery.now) result }
+    ensures names { IfOk result (PlanNames (ran_paths (run_ask words.now))) }
+{
+    see_tapes(&tapes);
+    let mut held = HeldTapes::new(tapes);
+    match run_job(alloc, job, words, &mut held) {
+        Ok(plan) => Ok(plan),
+        Err(CourseErr::Delivery(refusal)) => Err(refusal),
+        Err(CourseErr::TapeFault) => unreachable!(),
     }
 }
 
@@ -114,10 +146,9 @@ pub fn plan_run<F: Files>(alloc: Global, files: &mut F, words: &RunWords) -> Res
     let job = Job {
         program: &program,
         inputs: &inputs,
-        tapes: &tapes,
         delivery: &delivery,
     };
-    match run_job(alloc, &job, words) {
+    match run_held(alloc, &job, tapes, words) {
         Ok(plan) => Ok(plan),
         Err(refusal) => Err(delivery_stop(alloc, refusal)),
     }

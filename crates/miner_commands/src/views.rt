@@ -6,10 +6,10 @@ ghost use Rattle.program_commands.specs.Paths.{file_of};
 ghost use Rattle.miner_commands.specs.Views.{view_files};
 ghost use Rattle.viewed_run.specs.Seen.{view_in};
 
-use command_frame::PlannedWrite;
+use command_frame::{Content, PlannedWrite};
 use program_commands::add_write;
 use std::alloc::{AllocError, Global};
-use view_text::{View, write};
+use view_text::View;
 use viewed_run::Views;
 
 // Adds a view file that is to be written.
@@ -18,25 +18,25 @@ fn add_view(
     writes: &mut Vec<PlannedWrite>,
     prefix: &str,
     suffix: &str,
-    view: &View,
+    view: View,
 ) -> Result<(), AllocError>
-    ensures { OnOk result (writes_of writes.new.items ≡ writes_of writes.old.items ++ file_of prefix.now suffix.now (view_bytes view.now) ∷ []) }
+    ensures { OnOk result (writes_of writes.new.items ≡ writes_of writes.old.items ++ file_of prefix.now suffix.now (view_bytes view) ∷ []) }
 {
-    let bytes = write(alloc, view)?;
-    add_write(alloc, writes, prefix, suffix, bytes)
+    add_write(alloc, writes, prefix, suffix, Content::View(view))
 }
 
 /// The files of the views of miners 1, 2 and 3.
 pub fn view_writes(
     alloc: Global,
     prefix: &str,
-    views: &Views,
+    views: Views,
 ) -> Result<Vec<PlannedWrite>, AllocError>
-    ensures { IfOk result (λ writes. writes_of writes.items ≡ view_files (Some prefix.now) (λ i. Some (view_in views.now i))) }
+    ensures { IfOk result (λ writes. writes_of writes.items ≡ view_files (Some prefix.now) (λ i. Some (view_in views i))) }
 {
+    let (one, two, three) = views.into_each();
     let mut writes = Vec::new(alloc);
-    add_view(alloc, &mut writes, prefix, ".1", &views.one)?;
-    add_view(alloc, &mut writes, prefix, ".2", &views.two)?;
-    add_view(alloc, &mut writes, prefix, ".3", &views.three)?;
+    add_view(alloc, &mut writes, prefix, ".1", one)?;
+    add_view(alloc, &mut writes, prefix, ".2", two)?;
+    add_view(alloc, &mut writes, prefix, ".3", three)?;
     Ok(writes)
 }

@@ -9,7 +9,7 @@ ghost use Rattle.program_commands.specs.Judging.{Finding, FoundAt, HasFinding, i
 
 use crate::programs::read_typed;
 use bytecode::{Code, encode};
-use command_frame::{Plan, PlannedWrite, Status, Stop};
+use command_frame::{Content, Plan, PlannedWrite, Status, Stop};
 use command_words::CompileWords;
 use outside::Files;
 use program_run::compile_program;
@@ -36,10 +36,10 @@ fn code_plan(alloc: Global, code: &Code, path: &str) -> Result<Plan, AllocError>
     ensures names { IfOk result (PlanNames (path.now ∷ [])) }
 {
     let line = functions_line(alloc, functions(code))?;
-    let bytes = encode(alloc, code)?;
+    let content = Content::Bytes(encode(alloc, code)?);
     let path = String::from_str(alloc, path)?;
     let mut writes = Vec::new(alloc);
-    writes.push(PlannedWrite { path, bytes })?;
+    writes.push(PlannedWrite { path, content })?;
     Ok(Plan {
         writes,
         text: line.into_bytes(),

@@ -11,7 +11,7 @@ ghost use Rattle.program_commands.specs.Paths.{file_of};
 
 use crate::readers::{read_inputs, read_tape_file, refusal_of};
 use crate::writes::add_write;
-use command_frame::{Plan, PlannedWrite, Status, Stop};
+use command_frame::{Content, Plan, PlannedWrite, Status, Stop};
 use command_words::DealWords;
 use input_share::{DealErr, Dealt, ShareFile, deal, write_share};
 use outside::Files;
@@ -38,7 +38,7 @@ fn add_share(
     ensures { OnOk result (writes_of writes.new.items ≡ writes_of writes.old.items ++ file_of prefix.now suffix.now (file_bytes file.now) ∷ []) }
 {
     let bytes = write_share(alloc, file)?;
-    add_write(alloc, writes, prefix, suffix, bytes)
+    add_write(alloc, writes, prefix, suffix, Content::Bytes(bytes))
 }
 
 // Adds a miner's tape file that is to be written.
@@ -52,7 +52,7 @@ fn add_tape(
     ensures { OnOk result (writes_of writes.new.items ≡ writes_of writes.old.items ++ file_of prefix.now suffix.now (own_bytes words.now) ∷ []) }
 {
     let bytes = write_own(alloc, words)?;
-    add_write(alloc, writes, prefix, suffix, bytes)
+    add_write(alloc, writes, prefix, suffix, Content::Bytes(bytes))
 }
 
 /// The six files of a dealing in order, at paths behind the prefix: the share files of miners 1, 2 and 3, then their tape files.

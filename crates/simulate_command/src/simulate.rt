@@ -6,7 +6,7 @@ ghost use Rattle.command_words.specs.Views.{simulate_ask};
 ghost use Rattle.program_commands.specs.Judging.{Finding, FoundAt, HasFinding, its_program, Tells};
 ghost use Rattle.simulate_command.specs.Simulate.{short_line, simulate_effect, simulate_of, simulate_paths, simulated_paths, IsSimulateStop};
 
-use command_frame::{Plan, PlannedWrite, Status, Stop, refused};
+use command_frame::{Content, Plan, PlannedWrite, Status, Stop, refused};
 use command_words::SimulateWords;
 use counted_net::DeliveryErr;
 use outside::Files;
@@ -44,14 +44,14 @@ fn simulate_stop(alloc: Global, refusal: SimulateErr) -> Stop
 
 // What is to be written of a view.
 #[tactic(auto, unfolding(crate::specs::Simulate::simulated_paths))]
-fn simulate_plan(alloc: Global, words: &SimulateWords, view: &View) -> Result<Plan, AllocError>
-    ensures effect { IfOk result (λ plan. effect_of plan ≡ simulate_effect (simulate_ask words.now) (Some view.now)) }
+fn simulate_plan(alloc: Global, words: &SimulateWords, view: View) -> Result<Plan, AllocError>
+    ensures effect { IfOk result (λ plan. effect_of plan ≡ simulate_effect (simulate_ask words.now) (Some view)) }
     ensures names { IfOk result (PlanNames (simulated_paths (simulate_ask words.now).view)) }
 {
     let mut writes = Vec::new(alloc);
     writes.push(PlannedWrite {
         path: words.view.clone()?,
-        bytes: view_text::write(alloc, view)?,
+        content: Content::View(view),
     })?;
     Ok(Plan {
         writes,
@@ -92,7 +92,7 @@ pub fn plan_simulate<F: Files>(
         delivery: &delivery,
     };
     match simulate(alloc, words.miner, &run) {
-        Ok(view) => Ok(simulate_plan(alloc, words, &view)?),
+        Ok(view) => Ok(simulate_plan(alloc, words, view)?),
         Err(refusal) => Err(simulate_stop(alloc, refusal)),
     }
 }

@@ -9,7 +9,7 @@ ghost use Rattle.view_reader.specs.Opened.{opened_bytes};
 ghost use Rattle.program_commands.specs.Judging.{Finding, FoundAt, HasFinding, its_program, Tells};
 ghost use Rattle.tape_commands.specs.Map.{made_effect, map_of, map_paths, mapped_paths};
 
-use command_frame::{Plan, PlannedWrite, Status, Stop};
+use command_frame::{Content, Plan, PlannedWrite, Status, Stop};
 use command_words::MapWords;
 use outside::Files;
 use program_commands::{read_inputs, read_tape_file, read_typed};
@@ -40,7 +40,8 @@ fn add_planned(
     ensures { OnOk result (writes_of writes.new.items ≡ writes_of writes.old.items ++ record { path = string_bytes path.now; bytes = bytes.items } ∷ []) }
 {
     let path = path.clone()?;
-    writes.push(PlannedWrite { path, bytes })?;
+    let content = Content::Bytes(bytes);
+    writes.push(PlannedWrite { path, content })?;
     Ok(())
 }
 

@@ -6,7 +6,7 @@ ghost use Rattle.command_words.specs.Views.{twin_ask};
 ghost use Rattle.program_commands.specs.Judging.{Finding, FoundAt, HasFinding, its_program, Tells};
 ghost use Rattle.tape_commands.specs.Twin.{entry_line, word_line, written_effect, twin_of, twin_paths, twinned_paths, IsTwinStop};
 
-use command_frame::{Plan, PlannedWrite, Status, Stop, refused};
+use command_frame::{Content, Plan, PlannedWrite, Status, Stop, refused};
 use command_words::TwinWords;
 use outside::Files;
 use program_commands::{read_inputs, read_tape_file, read_typed};
@@ -55,7 +55,7 @@ fn twin_plan(alloc: Global, to: &String, tapes: &Tapes) -> Result<Plan, AllocErr
     let mut writes = Vec::new(alloc);
     writes.push(PlannedWrite {
         path: to.clone()?,
-        bytes: tape_file::write(alloc, tapes)?,
+        content: Content::Bytes(tape_file::write(alloc, tapes)?),
     })?;
     Ok(Plan {
         writes,

@@ -3,6 +3,7 @@
 
 mod laws;
 mod numbers;
+mod pieces;
 mod view;
 mod writing;
 
@@ -11,5 +12,6 @@ pub use laws::{
     views_end_as_runs_do, what_is_read_was_written,
 };
 pub use numbers::word_in;
+pub use pieces::Pieces;
 pub use view::{InputShare, Received, View};
 pub use writing::write;

@@ -5,21 +5,21 @@ use Rattle.command_frame.proofs.finish.write_files.Goals as goal
 pub returns-in-Err-clause-only : goal.returns-in-Err-clause-only
 returns-in-Err-clause-only g c =
     among_more c.args.writes.now c.loop-entry.entry-index c.entry-item.result _ _ _ (omega arith) c.entry-item.is c.loop-entry.invariant.only
-    c.write_file.ensures.only c.write_file.ensures.later c.write_file.ensures.still
+    c.write_file.ensures.touches
 
 pub returns-in-Err-clause-err : goal.returns-in-Err-clause-err
 returns-in-Err-clause-err g c =
     stops_here c.args.writes.now c.loop-entry.entry-index c.entry-item.result _ _ _ c.in-Err.stop (omega arith) c.entry-item.is c.loop-entry.invariant.only
     c.loop-entry.invariant.done
-    c.write_file.ensures.only c.in-Err.ensures.err
+    c.write_file.ensures.touches.only c.in-Err.ensures.err
 
 pub loop-entry-preserved : goal.loop-entry-preserved
 loop-entry-preserved g c = record {
   only = among_more c.args.writes.now c.loop-entry.entry-index c.entry-item.result _ _ _
-      (omega arith) c.entry-item.is c.loop-entry.invariant.only c.write_file.ensures.only c.write_file.ensures.later c.write_file.ensures.still;
+      (omega arith) c.entry-item.is c.loop-entry.invariant.only c.write_file.ensures.touches;
   done =
       wrote_more c.args.writes.now c.loop-entry.entry-index c.entry-item.result (g.F.Files.state c.args.files.now) (g.F.Files.state c.loop-entry.files)
-      (g.F.Files.state c.write_file.new.files) c.deref.result.now c.deref.ensures.value (omega arith) c.entry-item.is c.loop-entry.invariant.only.told
+      (g.F.Files.state c.write_file.new.files) (omega arith) c.entry-item.is c.loop-entry.invariant.only.told
       c.loop-entry.invariant.done c.in_default.ensures.ok;
 }
 

@@ -12,15 +12,15 @@ returns-in_err-program-clause-memory c =
 
 pub returns-in-Ok-clause-run : goal.returns-in-Ok-clause-run
 returns-in-Ok-clause-run c =
-    run_of_load (typed_program_tree c.in_ok-program.program) c.args.load.now.inputs c.args.load.now.tapes c.in-Ok.ran
+    run_of_load (typed_program_tree c.in_ok-program.program) c.args.load.inputs c.args.load.tapes c.in-Ok.ran
     (load_is_typed typed_program_tree c.as_bytes.result.now (c.as_bytes.ensures.value ∙ c.requires.program) c.in_ok-program.program
     c.in_ok-program.ensures.answer)
     c.in-Ok.ensures
 
 pub unreachable-requires : goal.unreachable-requires
 unreachable-requires c =
-    let entries = c.args.load.now.inputs in
-    let tapes = c.args.load.now.tapes in
+    let entries = c.args.load.inputs in
+    let tapes = c.args.load.tapes in
     let have = have_words entries tapes c.requires.inputs (subst (All HasWords) c.entries.ensures c.see_entries.ensures)
     c.see_tapes.ensures.words in
     let is = never_refused (typed_program_tree c.in_ok-program.program) entries tapes c.in_ok-program.ensures.accepted have c.in-Err-EmptyLink.field-0
@@ -29,8 +29,8 @@ unreachable-requires c =
 
 pub unreachable-requires-in-Err-Stalled : goal.unreachable-requires-in-Err-Stalled
 unreachable-requires-in-Err-Stalled c =
-    let entries = c.args.load.now.inputs in
-    let tapes = c.args.load.now.tapes in
+    let entries = c.args.load.inputs in
+    let tapes = c.args.load.tapes in
     let have = have_words entries tapes c.requires.inputs (subst (All HasWords) c.entries.ensures c.see_entries.ensures)
     c.see_tapes.ensures.words in
     let is = never_refused (typed_program_tree c.in_ok-program.program) entries tapes c.in_ok-program.ensures.accepted have c.in-Err-Stalled.field-0
