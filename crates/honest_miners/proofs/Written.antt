@@ -16,10 +16,9 @@ use Rattle.miner_text.specs.Lines.{text_of}
 use Rattle.told_text.specs.Told.{lines_told}
 use Rattle.miner_node.specs.Laws.{AreHonest}
 use Rattle.miner_node.specs.Serving.{Outcome, Serving}
-use Rattle.node_run.specs.Nodes.{own_hello, own_serving}
-use Rattle.honest_nodes.specs.Honest.{EndsAsEvaluated, run_messages}
-use Rattle.honest_nodes.proofs.Digests.{sha256_length}
-use Rattle.honest_nodes.proofs.Honest.{ends_with_the_run}
+use Rattle.served_miners.specs.Nodes.{own_hello, own_serving}
+use Rattle.served_miners.specs.Honest.{EndsAsEvaluated, run_messages}
+use Rattle.served_miners.proofs.Served.{digest_size, three_served_miners}
 use Rattle.miner_command.specs.Files.{Given, GivenCode, code_at, code_of, given_at}
 use Rattle.miner_command.specs.Held.{HoldsMiner}
 use Rattle.miner_command.specs.Miner.{answer_at, ended_answer, miner_of, node_answer, own_of, text_effect}
@@ -35,7 +34,7 @@ same_code : (a b : GivenCode) → held a ≡ held b → a ≡ b
 same_code a b is = cc
 
 -- the digest is that of a file
-digest_length : (files : Contents) (path : List ℕ) (given : GivenCode) → code_at files path ≡ Ok given → length given.digest ≡ 32
+pub digest_length : (files : Contents) (path : List ℕ) (given : GivenCode) → code_at files path ≡ Ok given → length given.digest ≡ 32
 unfolding code_at
 digest_length files path given is =
     elim (steps (bytes_at files path) (λ bytes. code_of bytes >>= λ code. Ok (record { digest = sha256 bytes; code = code })) (Ok given) is) [
@@ -45,15 +44,15 @@ digest_length files path given is =
             | inl (c, e2, wrong) ↦ no_code c given wrong
             | inr (code, e2, made) ↦
                 subst (λ (g : GivenCode). length g.digest ≡ 32) (same_code (record { digest = sha256 bytes; code = code }) given made)
-                (sha256_length bytes)
+                (digest_size bytes)
           ]
     ]
 
-given_so : (ask : MinerAsk) (files : Contents) (given : Given) → HoldsMiner ask files given → given_at ask files ≡ Ok given
+pub given_so : (ask : MinerAsk) (files : Contents) (given : Given) → HoldsMiner ask files given → given_at ask files ≡ Ok given
 unfolding given_at
 given_so ask files given h = rw (h.code, h.share, h.tape) refl
 
-decides : (ask : MinerAsk) (files : Contents) (coming : ℕ → List ℕ) (given : Given) → given_at ask files ≡ Ok given
+pub decides : (ask : MinerAsk) (files : Contents) (coming : ℕ → List ℕ) (given : Given) → given_at ask files ≡ Ok given
     → miner_of ask files coming ≡ node_answer ask (own_serving ask.me (own_of ask given) coming)
 unfolding miner_of
 decides ask files coming given is = rw is refl
@@ -83,7 +82,7 @@ module _ (p : TypedProgramTree) (entries : List Entry) (t : FourTapes) (ask : Mi
       → WritesItsText p entries t ask files (eval_with p entries t ask.budget) coming
   writes_so honest =
       writes
-      (ends_with_the_run p entries t ask.me (own_of ask given) coming
+      (three_served_miners.end_with_honest_peers p entries t ask.me (own_of ask given) coming
       (record {
         accepted = h.accepted;
         code = h.code;

@@ -20,8 +20,8 @@ use Rattle.code_runs.specs.Telling.{Tells}
 use Rattle.miner_text.specs.Lines.{text_of}
 use Rattle.told_text.specs.Told.{lines_told}
 use Rattle.miner_node.specs.Laws.{AreHonest}
-use Rattle.node_run.specs.Nodes.{own_hello}
-use Rattle.honest_nodes.specs.Honest.{run_messages}
+use Rattle.served_miners.specs.Nodes.{own_hello}
+use Rattle.served_miners.specs.Honest.{run_messages}
 use Rattle.miner_command.specs.Files.{Given}
 use Rattle.miner_command.specs.Held.{HoldsMiner}
 use Rattle.miner_command.specs.Miner.{miner_of, own_of, text_effect}

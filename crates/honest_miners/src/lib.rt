@@ -5,4 +5,4 @@
 
 mod laws;
 
-pub use laws::honest_miners_write_their_text;
+pub use laws::{honest_miners_write_their_text, three_miners_answer_the_run};

@@ -1,16 +1,20 @@
 -- Children that were started and waited for.
-use Rattle.std.proofs.Common.{◌≡◌, ◌<◌, ◌++◌, ℕ, ℤ, List, [], ◌∷◌, Bool, true, false, Result, Ok, Err, if◌then◌else◌, length, arith, refl, ap, sym, ◌∙◌}
+use Rattle.std.proofs.Common.{◌≡◌, ◌<◌, ◌++◌, ◌⊎◌, ℕ, ℤ, List, [], ◌∷◌, Bool, true, false, Result, Ok, Err, if◌then◌else◌, length, arith, refl, ap, subst, sym, ◌∙◌}
 use Rattle.std.proofs.Common.{inl, inr}
+use Rattle.std.proofs.lemmas.Bool.{false≢true}
 use Rattle.std.proofs.lemmas.List.{append_cancel_left, append-nil}
 use Rattle.std.specs.Prelude.{◌||◌}
+use Rattle.outside.specs.Causes.{Rose}
 use Rattle.outside.specs.Spawner.{ChildCall, SpawnerState, awaited, started}
 use Rattle.outside.specs.declared.error.SpawnErr.{SpawnErr}
+use Rattle.outside.specs.declared.error.SpawnErr.TheVariants as spawn_err
 use Rattle.proto_core.specs.declared.party.Number.{Number}
 use Rattle.proto_core.specs.declared.party.Number.TheVariants.{One, Two, Three}
-use Rattle.trio.specs.Children.{all_answers, child_answer, lacked_memory, unless_wrong}
-use Rattle.trio.specs.Launches.{Awaited, Halted, IsTold, Launch, Launched, answer_to, calls_of, of_all, starts, wait_of}
+use Rattle.trio.specs.Children.{all_answers, child_answer, fault_in, lacked_memory, unless_wrong}
+use Rattle.trio.specs.Launches.{Awaited, Halted, HasFault, IsTold, Launch, Launched, answer_to, calls_of, of_all, starts, wait_of}
 use Rattle.trio.specs.declared.child_err.ChildErr.TheVariants as child_err
-use Rattle.trio_command.specs.Launching.{AreRun, AreStatuses, MayLaunch}
+use Rattle.trio_command.specs.Launching.{AreRun, AreStarted, AreStatuses, MayLaunch}
+use Rattle.trio_command.specs.inner.Runs.{IsJudged}
 use Rattle.trio_command.proofs.Ended.{Judged}
 
 -- ---- where all ended as runs do, each was waited for
@@ -77,6 +81,57 @@ module _ (words : Number → List (List ℕ)) (old new : SpawnerState) where
   all_run launched t =
       let came = launched.came t in
       by_launch came.launch came.calls came.answer
+
+-- ---- where they were judged, all were started
+
+-- without memory to wait for one of them they were not judged
+not_judged : (b : Bool) (judged : Judged) → b ≡ true → IsJudged (if b then Err child_err.Memory else judged) → ⊥
+not_judged true judged is h = h
+not_judged false judged is h = false≢true is
+
+not_halted : (err : SpawnErr) → IsJudged (Err (fault_in err)) → ⊥
+not_halted spawn_err.Failed h = h
+not_halted spawn_err.Memory h = h
+
+module _ (words : Number → List (List ℕ)) (old new : SpawnerState) where
+  module _ (child : Number → ℕ) (answer : Number → Result ℤ SpawnErr) (judged : IsJudged (all_answers answer))
+      (rose : HasFault (Awaited child answer) → Rose old.faults new.faults) where
+    abbrev all_waits : List ChildCall
+    all_waits = three_waits (wait_of (child One) (answer One)) (wait_of (child Two) (answer Two)) (wait_of (child Three) (answer Three))
+
+    abbrev lacked : Bool
+    lacked = lacked_memory (answer One) || (lacked_memory (answer Two) || lacked_memory (answer Three))
+
+    short : {X : Type 0} → lacked ≡ true → X
+    short is =
+        absurd
+        (not_judged lacked (unless_wrong (child_answer One (answer One)) (unless_wrong (child_answer Two (answer Two)) (child_answer Three (answer Three))))
+        is judged)
+
+    -- each was waited for, or a wait failed
+    all_waited : (all_waits ≡ of_all (λ i. awaited (child i))) ⊎ Rose old.faults new.faults
+    all_waited = by_answers (answer One) refl (answer Two) refl (answer Three) refl
+      where
+        by_answers : (a : Result ℤ SpawnErr) → answer One ≡ a → (b : Result ℤ SpawnErr) → answer Two ≡ b → (c : Result ℤ SpawnErr) → answer Three ≡ c
+            → (all_waits ≡ of_all (λ i. awaited (child i))) ⊎ Rose old.faults new.faults
+        by_answers (Err spawn_err.Memory) e1 b e2 c e3 = short (rw e1 refl)
+        by_answers (Err spawn_err.Failed) e1 b e2 c e3 = inr (rose (One, e1))
+        by_answers (Ok x) e1 (Err spawn_err.Memory) e2 c e3 = short (rw (e1, e2) refl)
+        by_answers (Ok x) e1 (Err spawn_err.Failed) e2 c e3 = inr (rose (Two, e2))
+        by_answers (Ok x) e1 (Ok y) e2 (Err spawn_err.Memory) e3 = short (rw (e1, e2, e3) refl)
+        by_answers (Ok x) e1 (Ok y) e2 (Err spawn_err.Failed) e3 = inr (rose (Three, e3))
+        by_answers (Ok x) e1 (Ok y) e2 (Ok z) e3 = inl (rw (e1, e2, e3) refl)
+
+  judged_launch : (launch : Launch) → new.calls ≡ old.calls ++ calls_of words launch → IsJudged (answer_to launch)
+      → (HasFault launch → Rose old.faults new.faults) → AreStarted words old new
+  judged_launch (Halted begun err) calls judged rose = absurd (not_halted err judged)
+  judged_launch (Awaited child answer) calls judged rose =
+      record { child = child; waits = all_waits child answer judged rose; calls = calls; waited = all_waited child answer judged rose }
+
+  pub all_started : (part : Judged) → Launched old new words part → IsJudged part → old.told ≡ true → AreStarted words old new
+  all_started part launched judged t =
+      let came = launched.came t in
+      judged_launch came.launch came.calls (subst IsJudged came.answer judged) came.rose
 
 -- ---- there are statuses
 

@@ -17,20 +17,22 @@ use Rattle.command_frame.specs.Answer.{Answer, Cause, Course, Effect, Written, a
 use Rattle.command_frame.specs.Decides.{AfterWrites, Decides, RefusesFor, StopsDeciding, StopsDecidingAnyhow}
 use Rattle.command_frame.specs.Finish.{BreaksOff, OnlyAmong, StopsMidway, StopsWriting, WriteFaulted, WroteAll}
 use Rattle.command_frame.specs.Moments.{Sources}
+use Rattle.command_frame.specs.Objects.{OfFile}
 use Rattle.command_frame.specs.Reads.{PlanNames, StopNames, Stops, StopsReading}
 use Rattle.command_frame.specs.Whole.{FileFaulted, StopsAtFile}
 use Rattle.command_frame.proofs.Deciding.{nothing_written, reading_anyhow, reading_stops}
 use Rattle.command_frame.proofs.Finishing.{midway_among}
 use Rattle.command_words.specs.Ask.{TrioAsk}
 use Rattle.program_commands.specs.Judging.{Finding, FoundAt, HasFinding, StopTells, its_program}
+use Rattle.proto_core.specs.declared.party.Number.{Number}
 use Rattle.trio_command.specs.Deciding.{IsCourse, TrioPlanned, all_paths, sources_with, trio_reach}
-use Rattle.trio_command.specs.Launching.{LaunchesFor}
+use Rattle.trio_command.specs.Launching.{AreRun, LaunchesBy, StartsBy}
 use Rattle.trio_command.specs.Trio.{Prepared, answer_of_miners, course_of, dealt, prepared_of, prepared_paths, text_paths, trio_of, trio_paths, undealt}
 use Rattle.trio_command.specs.Trio.{undealt_effect, words_for}
 use Rattle.trio_command.specs.inner.Runs.{MinersDecide, MinersRan, StopsMiners, WereLaunched}
 use Rattle.trio.specs.Launches.{Launched}
 use Rattle.trio_command.proofs.Ended.{Judged}
-use Rattle.trio_command.proofs.Launches.{all_run}
+use Rattle.trio_command.proofs.Launches.{all_run, all_started}
 
 -- ---- by what three miners came to
 
@@ -81,12 +83,69 @@ writes_nothing : (r : Result Plan Stop) → IfOk r (λ plan. writes_of plan.writ
 writes_nothing (Ok plan) is = record { written = λ path contains. subst (λ (ws : List Written). Contains (paths_in ws) path) is contains }
 writes_nothing (Err stop) is = tt
 
-all_launched : (ask : TrioAsk) (c c' : SpawnerState) (r : Result Plan Stop) (prepared : Result Prepared Cause) (ws : List Written)
-    → prepared ≡ Ok (dealt ws) → WereLaunched (words_for ask) c c' r → c.told ≡ true → IfOk r (λ plan. LaunchesFor (words_for ask) c c' prepared)
-all_launched ask c c' (Ok plan) prepared ws is l t =
-    subst (λ (p : Result Prepared Cause). LaunchesFor (words_for ask) c c' p) (sym is)
-    (all_run (words_for ask) c c' (subst (λ (part : Judged). Launched c c' (words_for ask) part) l.ended l.launched) t)
-all_launched ask c c' (Err stop) prepared ws is l t = tt
+module _ (ask : TrioAsk) (c c' : SpawnerState) where
+  run_so : (part : Judged) → Launched c c' (words_for ask) part → part ≡ Ok tt → c.told ≡ true → AreRun (words_for ask) c c'
+  run_so part launched is t = all_run (words_for ask) c c' (subst (λ (p : Judged). Launched c c' (words_for ask) p) is launched) t
+
+  starts_so : (f f' : FilesState) (r : Result Plan Stop) → WereLaunched (words_for ask) c c' r → c.told ≡ true → IfErr r (StopsMiners f f' c c')
+      → StartsBy (words_for ask) c c' r
+  starts_so f f' (Ok plan) l t s = run_so l.part l.launched l.ended t
+  starts_so f f' (Err stops.Memory) l t s = tt
+  starts_so f f' (Err stops.Usage) l t s = tt
+  starts_so f f' (Err (stops.Refused r)) l t s = tt
+  starts_so f f' (Err (stops.Breached b)) l t s =
+      (all_started (words_for ask) c c' l.part l.launched l.ended.0 t, λ differ. run_so l.part l.launched (l.ended.1 differ) t)
+  starts_so f f' (Err (stops.Failed (objects.File line))) l t s = inr (run_so l.part l.launched l.ended t)
+  starts_so f f' (Err (stops.Failed objects.Output)) l t s = absurd s
+  starts_so f f' (Err (stops.Failed objects.Links)) l t s = tt
+  starts_so f f' (Err (stops.Failed objects.Children)) l t s = s.0
+
+  all_launched : (f f' : FilesState) (r : Result Plan Stop) (prepared : Result Prepared Cause) (ws : List Written)
+      → prepared ≡ Ok (dealt ws) → WereLaunched (words_for ask) c c' r → c.told ≡ true → IfErr r (StopsMiners f f' c c')
+      → LaunchesBy (words_for ask) c c' r prepared
+  all_launched f f' r prepared ws is l t s =
+      subst (λ (p : Result Prepared Cause). LaunchesBy (words_for ask) c c' r p) (sym is) (starts_so f f' r l t s)
+
+-- a stop before any child is started
+abbrev IsEarly : Stop → Type 0
+IsEarly stops.Memory = Unit {0}
+IsEarly stops.Usage = Unit {0}
+IsEarly (stops.Refused r) = Unit {0}
+IsEarly (stops.Breached b) = ⊥
+IsEarly (stops.Failed object) = OfFile (λ line. Unit {0}) object
+
+reading_early : (f g : FilesState) (stop : Stop) → StopsReading f g stop → IsEarly stop
+reading_early f g stops.Memory s = tt
+reading_early f g stops.Usage s = absurd s
+reading_early f g (stops.Refused r) s = tt
+reading_early f g (stops.Breached b) s = s
+reading_early f g (stops.Failed (objects.File line)) s = tt
+reading_early f g (stops.Failed objects.Output) s = s
+reading_early f g (stops.Failed objects.Links) s = s
+reading_early f g (stops.Failed objects.Children) s = s
+
+writing_early : (ws : List Written) (g h : FilesState) (stop : Stop) → StopsWriting ws g h stop → IsEarly stop
+writing_early ws g h stops.Memory s = tt
+writing_early ws g h stops.Usage s = absurd s
+writing_early ws g h (stops.Refused r) s = absurd s
+writing_early ws g h (stops.Breached b) s = s
+writing_early ws g h (stops.Failed (objects.File line)) s = tt
+writing_early ws g h (stops.Failed objects.Output) s = s
+writing_early ws g h (stops.Failed objects.Links) s = s
+writing_early ws g h (stops.Failed objects.Children) s = s
+
+none_started : (words : Number → List (List ℕ)) (c : SpawnerState) (stop : Stop) → IsEarly stop → (prepared : Result Prepared Cause)
+    → LaunchesBy {X = Plan} words c c (Err stop) prepared
+none_started words c stop early (Err cause) = refl
+none_started words c stop early (Ok (undealt need have)) = refl
+none_started words c stops.Memory early (Ok (dealt writes)) = tt
+none_started words c stops.Usage early (Ok (dealt writes)) = tt
+none_started words c (stops.Refused r) early (Ok (dealt writes)) = tt
+none_started words c (stops.Breached b) early (Ok (dealt writes)) = absurd early
+none_started words c (stops.Failed (objects.File line)) early (Ok (dealt writes)) = inl refl
+none_started words c (stops.Failed objects.Output) early (Ok (dealt writes)) = absurd early
+none_started words c (stops.Failed objects.Links) early (Ok (dealt writes)) = absurd early
+none_started words c (stops.Failed objects.Children) early (Ok (dealt writes)) = absurd early
 
 module _ (ask : TrioAsk) (f : FilesState) (c : SpawnerState) where
   -- what is prepared of the files, whatever is found of the program
@@ -140,7 +199,7 @@ module _ (ask : TrioAsk) (f : FilesState) (c : SpawnerState) where
       anyhow = λ links. reading_anyhow trio_reach (sources_with links f c) (sources_with links g c) stop anyhow;
       found = found;
       children = inl refl;
-      launched = λ found h t tc. tt;
+      launched = λ found h t tc. none_started (words_for ask) c stop (reading_early f g stop anyhow) (prepared_of found ask f.contents);
       only = nothing_written (prepared_paths ask) f g read;
       written = tt;
       names = λ links.
@@ -166,7 +225,7 @@ module _ (ask : TrioAsk) (f : FilesState) (c : SpawnerState) where
       anyhow = λ links. tt;
       found = λ t tells. found t;
       children = inl refl;
-      launched = λ given h t tc. subst (λ (p : Result Prepared Cause). LaunchesFor (words_for ask) c c p) (sym (prepared given h t)) refl;
+      launched = λ given h t tc. subst (λ (p : Result Prepared Cause). LaunchesBy (words_for ask) c c (Ok plan) p) (sym (prepared given h t)) refl;
       only = nothing_written (prepared_paths ask) f g read;
       written = undealt_names plan need have is;
       names = λ links. tt;
@@ -225,7 +284,7 @@ module _ (ask : TrioAsk) (f : FilesState) (c : SpawnerState) where
       writing_decides course is (stops.Breached b) s = absurd s
       writing_decides course is (stops.Failed (objects.File line)) s = record {
         rose = omega (arith, read.later, s.rose);
-        missing = λ steady t. absurd (s.unsteady (read.still steady));
+        missing = λ steady t. absurd (s.unsteady (read.still steady) (read.same.told ∙ t.files));
       }
       writing_decides course is (stops.Failed objects.Output) s = absurd s
       writing_decides course is (stops.Failed objects.Links) s = absurd s
@@ -274,7 +333,7 @@ module _ (ask : TrioAsk) (f : FilesState) (c : SpawnerState) where
       anyhow = λ links. writing_anyhow links stop s;
       found = λ t tells. found t;
       children = inl refl;
-      launched = λ given at t tc. tt;
+      launched = λ given at t tc. none_started (words_for ask) c stop (writing_early ws g h stop s) (prepared_of given ask f.contents);
       only = only_prepared;
       written = tt;
       names = λ links. writing_names links stop s;
@@ -332,7 +391,8 @@ module _ (ask : TrioAsk) (f : FilesState) (c : SpawnerState) where
         anyhow = λ links. err_anyhow links f h f' c c' only_prepared.later r ran.anyhow;
         found = λ t tells. found t;
         children = inr (ran.launch.part, ran.launch.launched);
-        launched = λ given at t tc. all_launched ask c c' r (prepared_of given ask f.contents) ws (prepared given at t) ran.launch tc;
+        launched = λ given at t tc.
+            all_launched ask c c' h f' r (prepared_of given ask f.contents) ws (prepared given at t) ran.launch tc ran.anyhow;
         only = only_at_last;
         written = writes_nothing r ran.nothing;
         names = λ links. err_names r ran.names (ran_names links);

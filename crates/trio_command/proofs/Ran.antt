@@ -4,6 +4,7 @@ use Rattle.outside.specs.Files.{FilesState, OnlyRead}
 use Rattle.outside.specs.Spawner.{SpawnerState}
 use Rattle.command_frame.specs.declared.object.Object.TheVariants as objects
 use Rattle.command_frame.specs.declared.plan.Plan.{Plan}
+use Rattle.command_frame.specs.declared.status.Status.TheVariants as statuses
 use Rattle.command_frame.specs.declared.stop.Stop.{Stop}
 use Rattle.command_frame.specs.declared.stop.Stop.TheVariants as stops
 use Rattle.command_frame.specs.Answer.{Answer, Cause, Effect, effect_of}
@@ -11,6 +12,7 @@ use Rattle.command_frame.specs.Reads.{StopNames, StopsAmong, StopsReadingAmong}
 use Rattle.command_frame.specs.Status.{of_texts}
 use Rattle.command_frame.specs.Stops.{IsBreachFor}
 use Rattle.command_frame.proofs.Deciding.{unchanged}
+use Rattle.command_frame.proofs.Statuses.{clash}
 use Rattle.command_words.specs.Ask.{TrioAsk}
 use Rattle.join_command.specs.Join.{IsJoinStop, joined_effect, texts_joined}
 use Rattle.join_command.proofs.Joins.{all_decided, join_anyhow, join_names, join_stops, texts_only_read, unnamed_breach}
@@ -27,7 +29,7 @@ use Rattle.trio.specs.declared.join_err.JoinErr.{JoinErr}
 use Rattle.trio.specs.declared.trio_err.TrioErr.{TrioErr}
 use Rattle.trio.specs.declared.trio_err.TrioErr.TheVariants as trio_err
 use Rattle.trio_command.specs.Trio.{answer_of_miners, bad_status, children_ended, text_paths, words_for}
-use Rattle.trio_command.specs.inner.Runs.{IsChildStop, IsRunStop, IsTextsStop, MinersDecide, MinersRan, StopsMiners}
+use Rattle.trio_command.specs.inner.Runs.{IsChildStop, IsLaunchOf, IsRunStop, IsTextsStop, MinersDecide, MinersRan, StopsMiners}
 use Rattle.trio_command.proofs.Ended.{launch_means}
 
 among : (ask : TrioAsk) (i : Number) → Contains (text_paths ask) (out_path ask.to i)
@@ -95,11 +97,21 @@ module _ (ask : TrioAsk) (f f' : FilesState) (c c' : SpawnerState) where
   unnamed_memory : StopNames (text_paths ask) stops.Memory
   unnamed_memory = record { named = λ line is. absurd cc }
 
+  texts_launch : (stop : Stop) → IsLaunchOf (Ok tt) (Err stop)
+  texts_launch stops.Memory = tt
+  texts_launch stops.Usage = tt
+  texts_launch (stops.Refused r) = tt
+  texts_launch (stops.Breached b) = (tt, λ differ. refl)
+  texts_launch (stops.Failed (objects.File line)) = refl
+  texts_launch (stops.Failed objects.Output) = tt
+  texts_launch (stops.Failed objects.Links) = tt
+  texts_launch (stops.Failed objects.Children) = tt
+
   texts_stopped : (err : JoinErr) (stop : Stop) → Launched c c' (words_for ask) (Ok tt) → TextsRead f f' (out_path ask.to) (Err err)
       → IsJoinStop (out_path ask.to) err stop → MinersRan ask f f' c c' (Err stop)
   texts_stopped err stop launched read for = record {
     read = texts_only_read f f' (out_path ask.to) (Err err) read;
-    launch = record { part = Ok tt; launched = launched; ended = tt };
+    launch = record { part = Ok tt; launched = launched; ended = texts_launch stop };
     decided = λ status are.
         texts_decide stop (decided status) (λ t. ended_well status (launch_means (words_for ask) c c' status are (Ok tt) launched t.1))
         (join_stops f f' (out_path ask.to) err stop read for);
@@ -166,11 +178,20 @@ module _ (ask : TrioAsk) (f f' : FilesState) (c c' : SpawnerState) where
   status_anyhow i s (stops.Breached b) for = ap (λ (x : Cause). of_texts x.status) for
   status_anyhow i s (stops.Failed object) for = absurd for
 
+  status_launch : (i : Number) (s : ℤ) (stop : Stop) → IsBreachFor (bad_status i s) stop → IsLaunchOf (Err (child_err.Status i s)) (Err stop)
+  unfolding bad_status
+  status_launch i s stops.Memory for = tt
+  status_launch i s stops.Usage for = absurd for
+  status_launch i s (stops.Refused r) for = absurd for
+  status_launch i s (stops.Breached b) for =
+      (tt, λ differ. clash statuses.Child statuses.Disagree refl (sym (ap (λ (x : Cause). x.status) for) ∙ differ))
+  status_launch i s (stops.Failed object) for = absurd for
+
   ended_otherwise : (i : Number) (s : ℤ) (stop : Stop) → Launched c c' (words_for ask) (Err (child_err.Status i s)) → f' ≡ f
       → IsBreachFor (bad_status i s) stop → MinersRan ask f f' c c' (Err stop)
   ended_otherwise i s stop launched same for = record {
     read = none_read same;
-    launch = record { part = Err (child_err.Status i s); launched = launched; ended = tt };
+    launch = record { part = Err (child_err.Status i s); launched = launched; ended = status_launch i s stop for };
     decided = λ status are.
         status_decides i s stop (decided status)
         (λ t. ended_badly status (bad_status i s) (launch_means (words_for ask) c c' status are (Err (child_err.Status i s)) launched t.1)) for;

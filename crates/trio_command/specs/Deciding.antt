@@ -15,7 +15,7 @@ use Rattle.command_frame.specs.Whole.{Paths, StopsAtFile}
 use Rattle.command_words.specs.Ask.{TrioAsk}
 use Rattle.program_commands.specs.Judging.{Finding, FoundAt, HasFinding, Tells, its_program}
 use Rattle.proto_core.specs.declared.party.Number.{Number}
-use Rattle.trio_command.specs.Launching.{AreStatuses, LaunchesFor, MayLaunch}
+use Rattle.trio_command.specs.Launching.{AreStatuses, LaunchesBy, MayLaunch}
 use Rattle.trio_command.specs.Trio.{prepared_of, prepared_paths, text_paths, trio_of, trio_paths, words_for}
 
 -- it reaches files and other programs, and stops at what a child did or a miner's text says
@@ -50,7 +50,7 @@ pub record TrioPlanned (ask : TrioAsk) (f f' : FilesState) (c c' : SpawnerState)
   pub children : MayLaunch (words_for ask) c c'
   pub launched :
       (found : Finding) → FoundAt (its_program ask.program) f.contents found → f.told ≡ true → c.told ≡ true
-      → IfOk result (λ plan. LaunchesFor (words_for ask) c c' (prepared_of found ask f.contents))
+      → LaunchesBy (words_for ask) c c' result (prepared_of found ask f.contents)
   -- no path but these was written, and the plan writes none
   pub only : OnlyAmong (prepared_paths ask) f f'
   pub written : IfOk result (PlanNames [])

@@ -1,10 +1,15 @@
 -- The children that `trio` starts.
 use Rattle.std.specs.Prelude.{◌≡◌, ◌⊎◌, ℕ, ℤ, List, ◌++◌, Result, Ok, Err}
+use Rattle.outside.specs.Causes.{Rose}
 use Rattle.outside.specs.Spawner.{ChildCall, SpawnerState, awaited}
 use Rattle.proto_core.specs.declared.party.Number.{Number}
 use Rattle.trio.specs.Launches.{Launched, of_all, starts}
 use Rattle.trio.specs.declared.child_err.ChildErr.{ChildErr}
 use Rattle.command_frame.specs.Answer.{Cause}
+use Rattle.command_frame.specs.Objects.{OfObject}
+use Rattle.command_frame.specs.declared.status.Status.TheVariants.{Disagree}
+use Rattle.command_frame.specs.declared.stop.Stop.{Stop}
+use Rattle.command_frame.specs.declared.stop.Stop.TheVariants as stops
 use Rattle.trio_command.specs.Trio.{Prepared, dealt, undealt}
 
 -- the status of each of three children that were started with these words, one after another
@@ -18,11 +23,29 @@ pub record AreRun (words : Number → List (List ℕ)) (old new : SpawnerState) 
   pub child : Number → ℕ
   pub calls : new.calls ≡ old.calls ++ (starts (of_all words) (of_all child) ++ of_all (λ i. awaited (child i)))
 
--- three miners are run where files are dealt, and no child is started where not
-abbrev pub LaunchesFor : (words : Number → List (List ℕ)) → (old new : SpawnerState) → Result Prepared Cause → Type 0
-LaunchesFor words old new (Ok (dealt writes)) = AreRun words old new
-LaunchesFor words old new (Ok (undealt need have)) = new ≡ old
-LaunchesFor words old new (Err cause) = new ≡ old
+-- they are started so, and then waited for: each wait was answered, or one failed
+pub record AreStarted (words : Number → List (List ℕ)) (old new : SpawnerState) : Type 0 where
+  pub child : Number → ℕ
+  pub waits : List ChildCall
+  pub calls : new.calls ≡ old.calls ++ (starts (of_all words) (of_all child) ++ waits)
+  pub waited : (waits ≡ of_all (λ i. awaited (child i))) ⊎ Rose old.faults new.faults
+
+-- what was started where files are dealt: all three are run where the command goes on, where the output fails, and where two texts differ; so they are
+-- where a child or a text is the cause, but that a wait may have failed; at a file none was started, or all three were run
+abbrev pub StartsBy : {X : Type 0} → (words : Number → List (List ℕ)) → (old new : SpawnerState) → Result X Stop → Type 0
+StartsBy words old new (Ok x) = AreRun words old new
+StartsBy words old new (Err stops.Memory) = Unit {0}
+StartsBy words old new (Err stops.Usage) = Unit {0}
+StartsBy words old new (Err (stops.Refused r)) = Unit {0}
+StartsBy words old new (Err (stops.Breached b)) = AreStarted words old new × (b.status ≡ Disagree → AreRun words old new)
+StartsBy words old new (Err (stops.Failed object)) =
+    OfObject (λ line. (new ≡ old) ⊎ AreRun words old new) (AreRun words old new) (Unit {0}) (Rose old.faults new.faults) object
+
+-- and no child is started where a file is refused, or nothing can be dealt, however the command stops
+abbrev pub LaunchesBy : {X : Type 0} → (words : Number → List (List ℕ)) → (old new : SpawnerState) → Result X Stop → Result Prepared Cause → Type 0
+LaunchesBy words old new result (Ok (dealt writes)) = StartsBy words old new result
+LaunchesBy words old new result (Ok (undealt need have)) = new ≡ old
+LaunchesBy words old new result (Err cause) = new ≡ old
 
 -- no child was started; or miners were, one after another
 abbrev pub MayLaunch : (words : Number → List (List ℕ)) → (old new : SpawnerState) → Type 0

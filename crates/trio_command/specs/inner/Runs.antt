@@ -6,7 +6,7 @@ use Rattle.outside.specs.Files.{FilesState, OnlyRead}
 use Rattle.outside.specs.Spawner.{SpawnerState}
 use Rattle.command_frame.specs.declared.object.Object.TheVariants as objects
 use Rattle.command_frame.specs.declared.plan.Plan.{Plan}
-use Rattle.command_frame.specs.declared.status.Status.TheVariants.{File}
+use Rattle.command_frame.specs.declared.status.Status.TheVariants.{Disagree, File}
 use Rattle.command_frame.specs.declared.stop.Stop.{Stop}
 use Rattle.command_frame.specs.declared.stop.Stop.TheVariants as stops
 use Rattle.command_frame.specs.Answer.{Answer, breach_of, cause_of, effect_of, writes_of}
@@ -67,11 +67,27 @@ StopsMiners f f' c c' (stops.Breached b) = of_texts b.status ≡ true
 StopsMiners f f' c c' (stops.Failed object) =
     OfObject (λ line. Rose f.faults f'.faults) ⊥ ⊥ (Rose c.faults c'.faults × (c.steady ≡ true → c.told ≡ true → ⊥)) object
 
--- three miners that were launched, of whom a plan tells that all ended as runs do
+-- the children were judged by their statuses
+abbrev pub IsJudged : Result (Unit {0}) ChildErr → Type 0
+IsJudged (Ok done) = Unit {0}
+IsJudged (Err (child_err.Status i status)) = Unit {0}
+IsJudged (Err child_err.Fault) = ⊥
+IsJudged (Err child_err.Memory) = ⊥
+
+-- a plan tells that all ended as runs do, and so does a stop at a text; one for what a child did or a text says, that all were judged
+abbrev pub IsLaunchOf : Result (Unit {0}) ChildErr → Result Plan Stop → Type 0
+IsLaunchOf part (Ok plan) = part ≡ Ok tt
+IsLaunchOf part (Err stops.Memory) = Unit {0}
+IsLaunchOf part (Err stops.Usage) = Unit {0}
+IsLaunchOf part (Err (stops.Refused r)) = Unit {0}
+IsLaunchOf part (Err (stops.Breached b)) = IsJudged part × (b.status ≡ Disagree → part ≡ Ok tt)
+IsLaunchOf part (Err (stops.Failed object)) = OfObject (λ line. part ≡ Ok tt) (Unit {0}) (Unit {0}) (Unit {0}) object
+
+-- three miners that were launched
 pub record WereLaunched (words : Number → List (List ℕ)) (c c' : SpawnerState) (result : Result Plan Stop) : Type 0 where
   pub part : Result (Unit {0}) ChildErr
   pub launched : Launched c c' words part
-  pub ended : IfOk result (λ plan. part ≡ Ok tt)
+  pub ended : IsLaunchOf part result
 
 pub record MinersRan (ask : TrioAsk) (f f' : FilesState) (c c' : SpawnerState) (result : Result Plan Stop) : Type 0 where
   pub read : OnlyRead f f'

@@ -1,0 +1,4 @@
+pub mod Greetings
+pub mod Messages
+pub mod Joined
+pub mod Served
