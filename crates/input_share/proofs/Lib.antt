@@ -7,3 +7,4 @@ pub mod ShapeLaws
 pub mod RoundTrip
 pub mod FormLaws
 pub mod OfWords
+pub mod PartAgain

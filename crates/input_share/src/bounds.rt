@@ -3,6 +3,7 @@ ghost use Rattle.std.specs.Prelude.{◌≡◌, ℕ, List, Ok};
 ghost use Rattle.value_file.specs.declared.inputs.Entry.{Entry};
 ghost use Rattle.value_file.specs.declared.public.PublicEntry.{PublicEntry};
 ghost use Rattle.value_file.specs.Input.{read_of};
+ghost use Rattle.value_file.specs.Public.{part_bytes};
 ghost use Rattle.value_file.specs.PublicFile.{read_public_of};
 ghost use Rattle.input_share.specs.OfWords.{AreRead, ArePublicRead};
 
@@ -11,4 +12,9 @@ ghost use Rattle.input_share.specs.OfWords.{AreRead, ArePublicRead};
 pub fn read_entries_are_of_words()
     ensures inputs { (bytes : List ℕ) (entries : List Entry) → read_of bytes ≡ Ok entries → AreRead entries }
     ensures public { (bytes : List ℕ) (part : List PublicEntry) → read_public_of bytes ≡ Ok part → ArePublicRead part }
+{}
+
+/// Law: the text of a public part that may stand in a file is read as this part, if its numbers are words of 64 bits.
+pub fn public_parts_are_read_again()
+    ensures { (part : List PublicEntry) → ArePublicRead part → read_public_of (part_bytes part) ≡ Ok part }
 {}

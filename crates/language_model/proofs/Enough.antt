@@ -4,6 +4,7 @@ use Rattle.std.specs.Prelude.{nat_le}
 use Rattle.std.proofs.lemmas.Bool.{le-leb}
 use Rattle.sc_text.specs.declared.end.Ending.TheVariants.{Tape}
 use Rattle.sc_text.specs.declared.end.TapeOwner.{TapeOwner}
+use Rattle.sc_text.specs.declared.event.Event.TheVariants as event
 use Rattle.sc_text.specs.declared.end.TapeOwner.TheVariants.{Miner1, Miner2, Miner3}
 use Rattle.typed_tree.specs.Programs.{TypedProgramTree}
 use Rattle.language_model.specs.Effects.{Words, World, Stage, Ended, Run, Effect, ◌>>=◌, carry, with_more, fits, take_words, draw}
@@ -13,7 +14,7 @@ use Rattle.language_model.specs.Tapes.{AtMost, lacks_words}
 use Rattle.language_model.proofs.Loops.{IsFlow, turns_flow, repeats_flow}
 use Rattle.language_model.proofs.Walk.{IsLaw, main_of, program_holds}
 use Rattle.language_model.proofs.Onward.{stage_of, at_most_then, Onward, onward_bind, onward_done, onward_end, onward_charge, onward_test}
-use Rattle.language_model.proofs.Onward.{onward_draw, onward_gate, onward_number, onward_gates, onward_emit, onward_answers, onward_show}
+use Rattle.language_model.proofs.Onward.{onward_draw, onward_gate, onward_number, onward_gates, onward_emit, onward_answers, onward_told}
 use Rattle.language_model.proofs.Onward.{onward_turns, onward_repeats}
 
 abbrev pub lacks : {A : Type 0} → Run A → Bool
@@ -154,9 +155,9 @@ enough_law w w' source inputs = record {
   on_gate = λ g. enough_same (onward_gate g);
   on_number = enough_same onward_number;
   on_gates = λ gs. enough_same (onward_gates gs);
-  on_emit = λ e. enough_same (onward_emit e);
+  on_publish = λ text elements. enough_same (onward_emit (event.Publish text elements));
   on_answers = λ n. enough_same (onward_answers n);
-  on_show = λ words. enough_same (onward_show words);
+  on_told = λ shape words. enough_same (onward_told shape words);
   on_turns = enough_turns w w';
   on_repeats = enough_repeats w w';
 }

@@ -8,16 +8,19 @@ use Rattle.sc_text.specs.declared.end.TrapKind.{TrapKind}
 use Rattle.sc_text.specs.declared.end.TapeOwner.{TapeOwner}
 use Rattle.sc_text.specs.declared.end.TapeOwner.TheVariants.{Miner1, Miner2, Miner3}
 use Rattle.sc_text.specs.declared.event.Event.{Event}
+use Rattle.sc_text.specs.declared.event.Event.TheVariants as event
 use Rattle.gates.specs.declared.gate.Gate.{Gate}
 use Rattle.typed_tree.specs.Programs.{TypedProgramTree}
+use Rattle.typed_tree.specs.declared.kinds.Shape.{Shape}
 use Rattle.language_model.specs.Effects.{Words, World, Stage, Ended, Short, Run, Effect, ◌>>=◌, carry, done, end, charge, test, with_more, fits, draw}
 use Rattle.language_model.specs.Effects.{gate, next_number, put_gates, emit, next_answers, show}
 use Rattle.language_model.specs.Beginnings.{Begins}
 use Rattle.language_model.specs.Tapes.{AtMost}
-use Rattle.language_model.specs.Values.{Value}
+use Rattle.language_model.specs.Values.{Value, elements_of, plain}
+use Rattle.language_model.specs.Operations.{read_answer}
 use Rattle.language_model.specs.Evaluation.{Frame, Flow, turns, repeats}
 use Rattle.language_model.proofs.Loops.{IsFlow, turns_flow, repeats_flow}
-use Rattle.language_model.proofs.Walk.{IsLaw, main_of, program_holds}
+use Rattle.language_model.proofs.Walk.{IsLaw, main_of, program_holds, told_open}
 
 abbrev pub stage_of : {A : Type 0} → Run A → Stage
 stage_of (Ok x) = x.1
@@ -200,6 +203,11 @@ onward_show {w = w} words =
       };
     }
 
+pub onward_told : {w : World} (shape : Shape) (words : List ℕ) → Onward w (told_open shape words)
+onward_told shape words =
+    let shown = read_answer shape.element words in
+    onward_bind (onward_show shown) (λ _. onward_bind (onward_emit (event.Open (elements_of (plain shape shown)))) (λ _. onward_done (plain shape shown)))
+
 -- ---- whole programs
 
 unfoldable pub is_onward : World → (A : Type 0) → Effect A → Effect A → Type 0
@@ -242,9 +250,9 @@ onward_law w = record {
   on_gate = onward_gate;
   on_number = onward_number;
   on_gates = onward_gates;
-  on_emit = onward_emit;
+  on_publish = λ text elements. onward_emit (event.Publish text elements);
   on_answers = onward_answers;
-  on_show = onward_show;
+  on_told = onward_told;
   on_turns = onward_turns w;
   on_repeats = onward_repeats w;
 }

@@ -8,12 +8,13 @@ use Rattle.sc_text.specs.declared.end.TrapKind.{TrapKind}
 use Rattle.sc_text.specs.declared.end.TapeOwner.{TapeOwner}
 use Rattle.sc_text.specs.declared.end.TapeOwner.TheVariants.{Miner1, Miner2, Miner3}
 use Rattle.sc_text.specs.declared.event.Event.{Event}
+use Rattle.sc_text.specs.declared.event.Event.TheVariants as event
 use Rattle.gates.specs.declared.gate.Gate.{Gate}
 use Rattle.typed_tree.specs.Programs.{TypedProgramTree}
 use Rattle.language_model.specs.Effects.{Words, World, Stage, RunStop, Ended, Short, Run, Effect, ◌>>=◌, carry, done, end, charge, test, fits, draw}
 use Rattle.language_model.specs.Effects.{gate, next_number, put_gates, emit, next_answers, show}
-use Rattle.language_model.specs.Values.{Value, is_true}
-use Rattle.language_model.specs.Operations.{tested}
+use Rattle.language_model.specs.Values.{Value, elements_of, is_true, plain}
+use Rattle.language_model.specs.Operations.{read_answer, tested}
 use Rattle.language_model.specs.Evaluation.{Frame, either, Flow, goes, returns, stops, skips, turned, turns, repeats}
 use Rattle.language_model.specs.Beginnings.{Begins}
 use Rattle.language_model.proofs.Walk.{IsLaw, main_of, program_holds}
@@ -347,9 +348,11 @@ steady_law w n n' = record {
   on_gate = steady_gate;
   on_number = steady_number;
   on_gates = steady_gates;
-  on_emit = steady_emit;
+  on_publish = λ text elements. steady_emit (event.Publish text elements);
   on_answers = steady_answers;
-  on_show = steady_show;
+  on_told = λ shape words. let shown = read_answer shape.element words in
+      steady_bind (steady_show shown)
+      (λ _. steady_bind (steady_emit (event.Open (elements_of (plain shape shown)))) (λ _. steady_done (plain shape shown)));
   on_turns = steady_turns;
   on_repeats = steady_repeats;
 }

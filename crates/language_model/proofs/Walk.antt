@@ -5,7 +5,7 @@ use Rattle.std.specs.List.{slice_get, flat_map}
 use Rattle.sc_text.specs.declared.end.Ending.{Ending}
 use Rattle.sc_text.specs.declared.end.TrapKind.{TrapKind}
 use Rattle.sc_text.specs.declared.end.TrapKind.TheVariants as trap
-use Rattle.sc_text.specs.declared.event.Event.{Event}
+use Rattle.sc_text.specs.declared.elements.Element.{Element}
 use Rattle.sc_text.specs.declared.event.Event.TheVariants as event
 use Rattle.gates.specs.declared.gate.Gate.{Gate}
 use Rattle.gates.specs.declared.gate.Gate.TheVariants.{Const, Sub, And, Xor, Spread}
@@ -54,6 +54,13 @@ use Rattle.language_model.specs.Evaluation.{asked_for, input_from, input_named, 
 use Rattle.language_model.specs.Evaluation.{returns, stops, skips, then_do, turns, repeats, StatementContext, stored, execute, execute_all, body_of}
 use Rattle.language_model.specs.Evaluation.{call_at, deepest}
 
+-- words that are opened and told in one step: so a law can say what the two have to do with one another
+abbrev pub told_open : Shape → List ℕ → Effect Value
+told_open shape words = do
+  _ ← show (read_answer shape.element words)
+  _ ← emit (event.Open (elements_of (plain shape (read_answer shape.element words))))
+  done (plain shape (read_answer shape.element words))
+
 -- the steps, under two worlds with the same inputs and answers
 pub record IsLaw (w w' : World) (P : (A : Type 0) → Effect A → Effect A → Type 0) : Type 1 where
   pub source : w.source ≡ w'.source
@@ -67,9 +74,9 @@ pub record IsLaw (w w' : World) (P : (A : Type 0) → Effect A → Effect A → 
   pub on_gate : (g : Gate) → P _ (gate g) (gate g)
   pub on_number : P _ next_number next_number
   pub on_gates : (gs : List Gate) → P _ (put_gates gs) (put_gates gs)
-  pub on_emit : (e : Event) → P _ (emit e) (emit e)
+  pub on_publish : (text : List ℕ) (elements : List Element) → P _ (emit (event.Publish text elements)) (emit (event.Publish text elements))
   pub on_answers : (n : ℕ) → P _ (next_answers n) (next_answers n)
-  pub on_show : (words : List ℕ) → P _ (show words) (show words)
+  pub on_told : (shape : Shape) (words : List ℕ) → P _ (told_open shape words) (told_open shape words)
   pub on_turns : {condition condition' : Frame → Effect Value} {step step' body body' : Frame → Effect Flow}
       → ((fr : Frame) → P _ (condition fr) (condition' fr)) → ((fr : Frame) → P _ (step fr) (step' fr)) → ((fr : Frame) → P _ (body fr) (body' fr))
       → (fr : Frame) → P _ (λ s. turns (s.left + 1) condition step body fr s) (λ s. turns (s.left + 1) condition' step' body' fr s)
@@ -116,9 +123,7 @@ module _ (w w' : World) (P : (A : Type 0) → Effect A → Effect A → Type 0) 
   pub revealed_holds : (v : Value) → P _ (revealed w v) (revealed w' v)
   revealed_holds v =
       law.bind (subst (λ o. P _ (answer w.source v.words) (answer o v.words)) law.source (answer_holds w.source v.words)) (λ words.
-      law.bind (law.on_show (read_answer v.shape.element words))
-      (λ _. law.bind (law.on_emit (event.Open (elements_of (plain v.shape (read_answer v.shape.element words)))))
-      (λ _. law.on_done (plain v.shape (read_answer v.shape.element words)))))
+      law.on_told v.shape words)
 
   pub opened_holds : (x : Secrecy) (v : Value) → P _ (opened_from w x v) (opened_from w' x v)
   opened_holds Plain v = law.on_done v
@@ -281,7 +286,7 @@ module _ (w w' : World) (P : (A : Type 0) → Effect A → Effect A → Type 0) 
   handed_holds (Private k) v = law.bind (law.on_draw _) (λ _. law.bind (number_holds v) (λ u. law.bind (law.on_gate _) (λ _. law.on_done tt)))
 
   pub published_holds : (text : List ℕ) (v : Value) → P _ (published w text v) (published w' text v)
-  published_holds text v = law.bind (untrapped_holds (size v)) (λ _. law.bind (handed_holds v.secrecy v) (λ _. law.on_emit _))
+  published_holds text v = law.bind (untrapped_holds (size v)) (λ _. law.bind (handed_holds v.secrecy v) (λ _. law.on_publish _ _))
 
   pub tested_holds : (v : Value) → P _ (tested v) (tested v)
   tested_holds v = law.bind (law.on_charge 1) (λ _. law.on_done _)

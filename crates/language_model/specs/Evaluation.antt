@@ -22,7 +22,7 @@ use Rattle.typed_tree.specs.Statements.{fill_statement, input_statement, element
 use Rattle.typed_tree.specs.Statements as Statements'
 use Rattle.typed_tree.specs.Programs.{TypedFunctionTree}
 use Rattle.reached_instances.specs.declared.instance.BoundDomain.{BoundDomain}
-use Rattle.reached_instances.specs.Domains.{Setting, domain, domains, domain_under, slot_domain, given_domain, binding_of}
+use Rattle.reached_instances.specs.Domains.{Setting, domain, domains, domain_under, given_domain, binding_of}
 pub use Rattle.reached_instances.specs.Domains.{is_private, next_is_private, shape_at, slot_is_private, slot_shape}
 use Rattle.gates.specs.declared.gate.Gate.TheVariants.{Input}
 pub use Rattle.typed_tree.specs.Operators.{connective}
@@ -73,10 +73,11 @@ same_shape s t = same_type s.element t.element && same_truth s.array t.array
 abbrev pub is_as_declared : (secret : Bool) → Shape → GivenInput → Bool
 is_as_declared secret shape x = same_truth x.secret secret && same_shape x.shape shape
 
--- the input of a name, and how many private ones stand before it
+-- how many private inputs stand before the one after this
 abbrev pub behind : GivenInput → ℕ → ℕ
 behind x k = if x.secret then k + 1 else k
 
+-- the input of a name, and how many private ones stand before it
 abbrev pub input_from : ℕ → List ℕ → List GivenInput → Option (GivenInput × ℕ)
 input_from k text [] = None
 input_from k text (x ∷ xs) = if bytes_eq text x.text then Some (x, k) else input_from (behind x k) text xs
@@ -108,7 +109,7 @@ abbrev pub bound_at : Option TypedFunctionTree → List BoundDomain → List Bou
 bound_at None ds = []
 bound_at (Some f) ds = binding_of f ds
 
--- whether the next parameter is private
+-- the parameters after the next one
 abbrev pub behind_next : List Slot → List Slot
 behind_next [] = []
 behind_next (s ∷ ss) = ss
@@ -183,7 +184,7 @@ unfoldable mutual
     x ← value w calls here e fr
     declassified w x
 
-  -- arguments, each classified right behind its evaluation where its parameter is private
+  -- arguments, each classified right after its evaluation where its parameter is private
   pub arguments : World → Calls → Setting → List BoundDomain → List Slot → TypedTrees → Frame → Effect (List Value)
   arguments w calls here b ss Tree'.none fr = done []
   arguments w calls here b ss (Tree'.also e es) fr = do
@@ -194,7 +195,7 @@ unfoldable mutual
 
 -- ---- STATEMENTS
 
--- where a function goes on: behind the statement, back to its caller, behind the loop, or with the loop's next turn
+-- where a function goes on: after the statement, back to its caller, after the loop, or with the loop's next turn
 pub data Flow : Type 0 where
   goes : Frame → Flow
   returns : Value → Flow
@@ -207,7 +208,7 @@ then_do (returns v) next = done (returns v)
 then_do (stops fr) next = done (stops fr)
 then_do (skips fr) next = done (skips fr)
 
--- behind the body of a loop
+-- after the body of a loop
 abbrev pub turned : Flow → (Frame → Effect Flow) → Effect Flow
 turned (goes fr) next = next fr
 turned (skips fr) next = next fr

@@ -1,5 +1,6 @@
 -- Openings that three miners tell are of elements of 64 bits.
-use Rattle.std.proofs.Common.{ℕ, suc, List, [], ◌∷◌, map}
+use Rattle.std.proofs.Common.{◌≡◌, ℕ, suc, List, [], ◌∷◌, map, length, Bool, true, false, if◌then◌else◌, Ok, refl, sym, ap, subst, ◌∙◌}
+use Rattle.std.specs.Prelude.{nat_le}
 use Rattle.secrec_ast.specs.declared.expression.DataType.{DataType}
 use Rattle.secrec_ast.specs.declared.expression.DataType.TheVariants as datatype
 use Rattle.sc_text.specs.declared.event.Event.{Event}
@@ -9,7 +10,23 @@ use Rattle.language_model.specs.Values.{element_of}
 use Rattle.gate_laws.specs.Dealt.{InRange}
 use Rattle.program_run.specs.Telling.{type_of, Tells, nothing, opened, published, handed}
 use Rattle.view_text.specs.View.{AreElements, AreOpened}
-use Rattle.program_views.specs.Views.{openings}
+use Rattle.program_views.specs.Views.{lengths_of, openings, run_on}
+use Rattle.program_views.specs.Inputs.{AreSound}
+use Rattle.program_views.proofs.Given.{same_need}
+use Rattle.clear_eval.specs.Offers.{offered}
+use Rattle.language_model.specs.Effects.{World, Clear}
+use Rattle.language_model.specs.Reports.{Report, world_of, beginning, report_of, not_dealt}
+use Rattle.language_model.proofs.Walk.{main_of}
+use Rattle.program_run.specs.Accepted.{IsAccepted}
+use Rattle.program_run.proofs.Shared.{runs_where_accepted}
+use Rattle.tape_file.specs.Tapes.{FourTapes}
+use Rattle.typed_tree.specs.Programs.{TypedProgramTree}
+use Rattle.value_file.specs.declared.inputs.Entry.{Entry}
+use Rattle.view_model.specs.TapeMaps.{is_dealt, AreTapes}
+use Rattle.view_model.proofs.Corresponding.{le_from}
+use Rattle.view_reader.specs.Opened.{opened_bytes, opened_of}
+use Rattle.view_laws.proofs.OpenedFiles.{words_again}
+use Rattle.view_laws.proofs.OpenedWords.{opened_is_told}
 
 elements_are : (e : DataType) (words : List ℕ) → InRange e words → AreElements (map (element_of e) words)
 elements_are e [] h = tt
@@ -21,3 +38,32 @@ openings_are nothing = tt
 openings_are (opened form words range rest) = (elements_are (type_of form.element) words range, openings_are rest)
 openings_are (published text form words range rest) = openings_are rest
 openings_are (handed text form words shares range are rest) = openings_are rest
+
+-- ---- of a whole run
+
+module _ (p : TypedProgramTree) (entries : List Entry) (t : FourTapes) (budget : ℕ) where
+  abbrev r : Report
+  r = run_on p entries (lengths_of t) budget
+
+  abbrev w : World
+  w = world_of Clear (offered entries (lengths_of t))
+
+  undealt : is_dealt entries t ≡ false → r ≡ not_dealt w
+  undealt e =
+      ap (λ (b : Bool). if b then report_of w budget (main_of w p (beginning budget [])) else not_dealt w)
+      (ap (λ n. nat_le n (length t.dealer)) (same_need entries) ∙ e)
+
+  pub run_openings_are : IsAccepted p → AreSound entries → AreTapes t → AreOpened (openings r.events)
+  run_openings_are accepted sound tapes = go (is_dealt entries t) refl
+    where
+      go : (b : Bool) → is_dealt entries t ≡ b → AreOpened (openings r.events)
+      go true e =
+          openings_are
+          (runs_where_accepted p entries t budget accepted
+          (record { sound = sound; suffice = record { words = tapes.dealer; enough = le_from _ _ e }; words = tapes.miners })).run.told
+      go false e = subst (λ (x : Report). AreOpened (openings x.events)) (sym (undealt e)) tt
+
+  -- the file of what a run opens is read as the words that it opens
+  pub opened_file_is_read_again : IsAccepted p → AreSound entries → AreTapes t → opened_of (opened_bytes (openings r.events)) ≡ Ok r.opened
+  opened_file_is_read_again accepted sound tapes =
+      words_again (openings r.events) (run_openings_are accepted sound tapes) ∙ ap Ok (sym (opened_is_told w p budget []))

@@ -1,7 +1,6 @@
 -- Each part of a view is of its form.
-use Rattle.std.proofs.Common.{◌≡◌, ℕ, ◌≤◌, ◌<◌, ◌^◌, List, [], length, map, Bool, true, false, if◌then◌else◌, Some, None, refl, sym, ap, ◌∙◌}
+use Rattle.std.proofs.Common.{◌≡◌, ℕ, ◌≤◌, ◌<◌, ◌^◌, List, [], length, map, Bool, true, false, if◌then◌else◌, Some, None, refl}
 use Rattle.std.proofs.Common.{subst, arith}
-use Rattle.std.specs.Prelude.{nat_le}
 use Rattle.proto_core.specs.declared.party.Number.{Number}
 use Rattle.proto_core.specs.declared.party.Number.TheVariants.{One, Two, Three}
 use Rattle.protocol_model.specs.Gates.{gates_script}
@@ -14,8 +13,7 @@ use Rattle.input_share.specs.Dealing.{need_of}
 use Rattle.tape_file.specs.Tapes.{FourTapes}
 use Rattle.typed_tree.specs.Programs.{TypedProgramTree}
 use Rattle.language_model.specs.Effects.{World, Clear, RunStop, Ended, Short}
-use Rattle.language_model.specs.Reports.{Report, world_of, beginning, report_of, not_dealt}
-use Rattle.language_model.proofs.Walk.{main_of}
+use Rattle.language_model.specs.Reports.{Report, world_of}
 use Rattle.language_model.proofs.Kept.{cost_kept}
 use Rattle.clear_eval.specs.Offers.{offered}
 use Rattle.view_text.specs.View.{View, Words, AreInputs, AreReceived, AreOpened, IsView}
@@ -27,7 +25,6 @@ use Rattle.view_model.proofs.Corresponding.{le_from, ready_with}
 use Rattle.framed_runs.specs.Framing.{CanBeFramed}
 use Rattle.framed_runs.proofs.FramedScripts.{run_gates-fit}
 use Rattle.framed_runs.proofs.FramedMessages.{run-framed}
-use Rattle.program_run.proofs.Shared.{runs_where_accepted}
 use Rattle.program_views.specs.Laws.{IsGivenTo}
 use Rattle.program_views.specs.Views.{lengths_of, run_on, received, openings, input_shares, nothing_seen, view_at, seen_of, view_of}
 use Rattle.program_views.proofs.Given.{same_need}
@@ -37,7 +34,7 @@ use Rattle.ending_laws.proofs.Programs.{programs_end}
 use Rattle.view_laws.specs.Views.{CanBeRun, ViewsAreOfTheirForm, IsSeen, IsReadAgain, AreEqualByTheirTexts}
 use Rattle.view_laws.proofs.Shares.{are_words, shares_are, need_most}
 use Rattle.view_laws.proofs.Messages.{are_received}
-use Rattle.view_laws.proofs.Openings.{openings_are}
+use Rattle.view_laws.proofs.Openings.{run_openings_are}
 
 module _ (p : TypedProgramTree) (entries : List Entry) (t : FourTapes) (budget : ℕ) (can : CanBeRun p entries t budget) where
   abbrev r : Report
@@ -72,24 +69,8 @@ module _ (p : TypedProgramTree) (entries : List Entry) (t : FourTapes) (budget :
 
   -- ---- what was opened
 
-  undealt : is_dealt entries t ≡ false → r ≡ not_dealt w
-  undealt e =
-      ap (λ (b : Bool). if b then report_of w budget (main_of w p (beginning budget [])) else not_dealt w)
-      (ap (λ n. nat_le n (length t.dealer)) (same_need entries) ∙ e)
-
   opened : AreOpened (openings r.events)
-  opened = go (is_dealt entries t) refl
-    where
-      go : (b : Bool) → is_dealt entries t ≡ b → AreOpened (openings r.events)
-      go true e =
-          openings_are
-          (runs_where_accepted p entries t budget can.program
-          (record {
-            sound = can.inputs;
-            suffice = record { words = can.tapes.dealer; enough = le_from _ _ e };
-            words = can.tapes.miners;
-          })).run.told
-      go false e = subst (λ (x : Report). AreOpened (openings x.events)) (sym (undealt e)) tt
+  opened = run_openings_are p entries t budget can.program can.inputs can.tapes
 
   -- ---- the messages
 

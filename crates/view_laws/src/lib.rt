@@ -6,5 +6,6 @@
 mod laws;
 
 pub use laws::{
-    equal_view_texts_are_of_equal_views, view_texts_are_read_again, views_are_of_their_form,
+    equal_view_texts_are_of_equal_views, opened_files_are_read_again, runs_open_what_they_tell,
+    view_texts_are_read_again, views_are_of_their_form,
 };
