@@ -1,11 +1,9 @@
 -- What a call keeps: the promises of each command, the headline, and the laws.
-use Rattle.std.proofs.Common.{◌≡◌, ◌⊎◌, ℕ, List, true, Some, refl}
+use Rattle.std.proofs.Common.{◌≡◌, ℕ, List, [], Some, refl}
 use Rattle.outside.specs.Files.{Contents}
 use Rattle.command_frame.specs.declared.status.Status.{Status}
-use Rattle.command_frame.specs.declared.status.Status.TheVariants.{Write}
 use Rattle.command_frame.specs.Moments.{AreTold, Moment}
 use Rattle.command_frame.specs.Reads.{BothTold}
-use Rattle.command_frame.specs.Status.{is_end}
 use Rattle.command_words.specs.Ask.{MinerAsk, TrioAsk, miner, trio, words_of}
 use Rattle.trio_command.specs.Deciding.{trio_reach}
 use Rattle.trio_command.specs.Launching.{MayLaunch}
@@ -25,10 +23,14 @@ use Rattle.run_engine.proofs.Miners.{made_taken, maps_made, miners_run, views_ma
 use Rattle.run_engine.proofs.Promises.{check_keeps, compile_keeps, deal_keeps, eval_keeps, need_keeps, run_keeps, load_keeps}
 use Rattle.run_engine.proofs.JoinedKept.{join_keeps, mine_keeps}
 use Rattle.run_engine.proofs.TrioKept.{trio_keeps}
-use Rattle.honest_nodes.proofs.Honest.{ends_with_the_run}
-use Rattle.joined_nodes.proofs.Nodes.{joined_nodes_agree_on_programs}
-use Rattle.joined_texts.proofs.Joined.{texts_of_a_run_are_its_text}
-use Rattle.miner_node.proofs.Honest.{does_as_its_miner}
+use Rattle.honest_miners.proofs.Served.{three_served_miners}
+use Rattle.honest_miners.proofs.Three.{three_miners_answer}
+use Rattle.honest_miners.proofs.Written.{writes_with_honest_peers}
+use Rattle.run_engine.proofs.Chains.{mapped_simulated, twin_read_again}
+use Rattle.view_laws.proofs.OpenedWords.{opened_is_told}
+use Rattle.clear_eval.specs.Offers.{offered}
+use Rattle.language_model.specs.Effects.{Clear}
+use Rattle.language_model.specs.Reports.{world_of}
 use Rattle.run_engine.proofs.ViewLaws.{maps_correspond, simulated_so, twins_see_it}
 use Rattle.workload_program.proofs.Runnable.{load_is_runnable}
 use Rattle.run_engine.proofs.ViewPromises.{map_keeps, simulate_keeps, twin_keeps}
@@ -37,7 +39,7 @@ module _ (words : List (List ℕ)) (m m' : Moment) (s : Status) (call : Call wor
     (sends : (ask : MinerAsk) → words_of words ≡ Some (miner ask) → BothTold m.sources.files m.sources.links
     → MinerSends ask (contents_in m) m.sources.links m'.sources.links s)
     (starts : (ask : TrioAsk) → words_of words ≡ Some (trio ask) → AreTold trio_reach m.sources
-    → (is_end s ≡ true) ⊎ (s ≡ Write) → StartsMiners ask (contents_in m) m.sources.children m'.sources.children)
+    → StartsMiners ask (contents_in m) m.sources.children m'.sources.children s)
     (only : (ask : TrioAsk) → words_of words ≡ Some (trio ask) → MayLaunch (words_for ask) m.sources.children m'.sources.children) where
   pub commands_kept : Commands words m m' s
   commands_kept = record {
@@ -79,12 +81,9 @@ module _ (words : List (List ℕ)) (m m' : Moment) (s : Status) (call : Call wor
 
 pub laws_kept : (words : List (List ℕ)) (files : Contents) → Laws words files
 laws_kept words files = record {
-  three_served_miners = record {
-    does_as_its_miner = does_as_its_miner;
-    agree_with_evaluation = joined_nodes_agree_on_programs;
-    end_with_honest_peers = ends_with_the_run;
-    texts_make_the_run_text = texts_of_a_run_are_its_text;
-  };
+  three_miners_answer_the_run = three_miners_answer;
+  three_served_miners = three_served_miners;
+  miner_writes_with_honest_peers = λ ask program entries tapes given coming. writes_with_honest_peers program entries tapes ask files given coming;
   compiled_code_means_program = λ ask program reached asks holds are. code_means ask.program files program holds reached are;
   gathered_is_one_dealing = λ ask miners owner owners asks holds. writes_one_dealing ask files miners owner owners holds;
   mapped_tapes_correspond = λ ask program entries tapes asks held. maps_correspond ask files program entries tapes held;
@@ -92,4 +91,7 @@ laws_kept words files = record {
       simulated_so ask files program entries tapes more delivery held have;
   twins_see_the_same = λ ask program first second tapes asks held alike. twins_see_it ask files program first second tapes held alike;
   load_program_is_runnable = load_is_runnable;
+  runs_open_what_they_tell = λ program entries lengths budget. opened_is_told (world_of Clear (offered entries lengths)) program budget [];
+  mapped_files_are_simulated = λ mapping program entries tapes asks held. mapped_simulated mapping files program entries tapes held;
+  twin_files_are_read_again = λ ask program first second tapes asks held alike. twin_read_again ask files program first second tapes held alike;
 }

@@ -1,4 +1,5 @@
 pub mod Calls
+pub mod Chains
 mod Deals
 pub mod Evals
 pub mod Gathers

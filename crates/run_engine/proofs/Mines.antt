@@ -21,8 +21,8 @@ use Rattle.command_frame.specs.declared.status.Status.TheVariants as statuses
 use Rattle.command_frame.specs.Answer.{Answer, Cause, Effect, bytes_at, missing, ◌>>=◌}
 use Rattle.command_frame.specs.Status.{can_refuse, is_end}
 use Rattle.command_words.specs.Ask.{MinerAsk}
-use Rattle.miner_node.specs.Serving.{Outcome, Finished, Mismatch, NoFrame, Refused, CutOff}
-use Rattle.node_run.specs.Nodes.{end_in, node_text}
+use Rattle.honest_miners.specs.Serving.{Outcome, Finished, Mismatch, NoFrame, Refused, CutOff}
+use Rattle.honest_miners.specs.Nodes.{end_in, node_text}
 use Rattle.program_commands.specs.Reading.{bad_input, bad_tape, read_or, share_at}
 use Rattle.program_commands.proofs.Held.{read_there}
 use Rattle.program_commands.proofs.Refusals.{ReadRefused, end_is, input_status, refusing, share_refused, status_in_answer, status_of_cause, steps}

@@ -1,9 +1,10 @@
 -- What a command sent to peers, and which programs it started, also once its files are written and its text is printed.
-use Rattle.std.proofs.Common.{◌≡◌, ◌⊎◌, [], true, false, Ok, Err, Result, refl, subst, sym, inl, inr}
+use Rattle.std.proofs.Common.{◌≡◌, ◌⊎◌, ℕ, List, [], true, false, Ok, Err, Result, refl, subst, sym, inl, inr, string_bytes}
 use Rattle.std.proofs.lemmas.List.{append-nil}
 use Rattle.outside.specs.Files.{Contents, FilesState}
 use Rattle.outside.specs.Links.{LinksState}
 use Rattle.outside.specs.Sink.{SinkState}
+use Rattle.outside.specs.Spawner.{SpawnerState}
 use Rattle.proto_core.specs.declared.party.Number.{Number}
 use Rattle.proto_core.specs.Parties.{count_of, next_of, previous_of}
 use Rattle.proto_core.proofs.Beginnings.{begins-self}
@@ -13,7 +14,7 @@ use Rattle.command_frame.specs.declared.status.Status.{Status}
 use Rattle.command_frame.specs.declared.status.Status.TheVariants as statuses
 use Rattle.command_frame.specs.declared.stop.Stop.{Stop}
 use Rattle.command_frame.specs.declared.stop.Stop.TheVariants as stops
-use Rattle.command_frame.specs.Answer.{cause_of, effect_of}
+use Rattle.command_frame.specs.Answer.{Cause, Effect, cause_of, effect_of}
 use Rattle.command_frame.specs.Finish.{Finishes}
 use Rattle.command_frame.specs.Moments.{Sources}
 use Rattle.command_frame.specs.Reads.{BothTold, GivesOfPeers}
@@ -21,12 +22,14 @@ use Rattle.command_frame.specs.Status.{is_end}
 use Rattle.command_frame.specs.Whole.{status_in}
 use Rattle.command_frame.proofs.Finishing.{at_last}
 use Rattle.command_frame.proofs.Statuses.{never}
-use Rattle.command_words.specs.Ask.{Ask, MinerAsk, TrioAsk, check, compile, deal, eval, gather, join, load, map_tape, miner, need, run, simulate, trio, twin}
+use Rattle.command_words.specs.Ask.{Ask, MinerAsk, check, compile, deal, eval, gather, join, load, map_tape, miner, need, run, simulate, trio, twin}
 use Rattle.miner_command.specs.Miner.{miner_of, nothing_sent, sent_of}
-use Rattle.miner_command.specs.Playing.{SendsSo, SentAll, SentFronts}
-use Rattle.node_run.specs.Nodes.{Outgoing}
+use Rattle.miner_command.specs.Playing.{SendsSo, SentAll, SentBefore, SentFronts}
+use Rattle.honest_miners.specs.Nodes.{Outgoing}
+use Rattle.trio_command.specs.Launching.{AreRun, LaunchesBy, StartsBy}
+use Rattle.trio_command.specs.Trio.{Prepared, dealt, prepared_of, undealt, words_for}
 use Rattle.run_engine.specs.MinerPromises.{MinerSends}
-use Rattle.run_engine.specs.Moves.{MinerSent, Moves, RanMiners, RanThem}
+use Rattle.run_engine.specs.Moves.{MinerSent, Moves}
 use Rattle.run_engine.specs.Promises.{is_refusal}
 use Rattle.run_engine.proofs.Mines.{refused_sends_nothing}
 
@@ -65,14 +68,19 @@ module _ (ask : MinerAsk) (f f' : FilesState) (l l' : LinksState) (told : BothTo
   abbrev Answered : Result Plan Stop → Type 0
   Answered r = GivesOfPeers effect_of f f' l l' r (miner_of ask f.contents l.coming)
 
-  pub miner_sent : (r : Result Plan Stop) → SendsSo ask.me l l' out r → Answered r → MinerSent ask.me l l' out r
+  -- at a file that can't be read nothing was sent, or at its tape a front
+  at_file : (line : List ℕ) → SentBefore ask.me l l' ask.tape out line → SentFronts ask.me l l' out
+  at_file line (inl none) = none_fronts ask.me l l' out none
+  at_file line (inr (named, front)) = front
+
+  pub miner_sent : (r : Result Plan Stop) → SendsSo ask.me l l' ask.tape out r → Answered r → MinerSent ask.me l l' out r
   miner_sent (Ok plan) sends gives = sends
   miner_sent (Err stops.Memory) sends gives = sends
   miner_sent (Err stops.Usage) sends gives = absurd sends
   miner_sent (Err (stops.Refused r)) sends gives =
       subst (SentAll ask.me l l') (sym (refused_sends_nothing ask f.contents l.coming (cause_of r) r.refuses (gives told))) sends
   miner_sent (Err (stops.Breached b)) sends gives = sends
-  miner_sent (Err (stops.Failed (objects.File line))) sends gives = none_fronts ask.me l l' out sends
+  miner_sent (Err (stops.Failed (objects.File line))) sends gives = at_file (string_bytes line) sends
   miner_sent (Err (stops.Failed objects.Output)) sends gives = absurd sends
   miner_sent (Err (stops.Failed objects.Links)) sends gives = sends
   miner_sent (Err (stops.Failed objects.Children)) sends gives = absurd sends
@@ -101,23 +109,42 @@ module _ (me : Number) (l l' : LinksState) (out : Outgoing) where
 
 -- ---- miners that were started
 
-ran_stop : (ask : TrioAsk) (s s' : Sources) (stop : Stop) → RanThem {X = Plan} ask s s' (Err stop) → RanThem {X = Status} ask s s' (Err stop)
-ran_stop ask s s' stops.Memory ran = tt
-ran_stop ask s s' stops.Usage ran = tt
-ran_stop ask s s' (stops.Refused r) ran = tt
-ran_stop ask s s' (stops.Breached b) ran = tt
-ran_stop ask s s' (stops.Failed object) ran = ran
+module _ (words : Number → List (List ℕ)) (c c' : SpawnerState) where
+  starts_stop : (stop : Stop) → StartsBy {X = Plan} words c c' (Err stop) → StartsBy {X = Status} words c c' (Err stop)
+  starts_stop stops.Memory ran = tt
+  starts_stop stops.Usage ran = tt
+  starts_stop (stops.Refused r) ran = tt
+  starts_stop (stops.Breached b) ran = ran
+  starts_stop (stops.Failed object) ran = ran
 
-ran_end : (ask : TrioAsk) (a b : Sources) (f : FilesState) (r : Result Status Stop) → RanMiners ask a b → RanThem ask a (at_last b f) r
-ran_end ask a b f (Ok s) ran = ran
-ran_end ask a b f (Err stops.Memory) ran = tt
-ran_end ask a b f (Err stops.Usage) ran = tt
-ran_end ask a b f (Err (stops.Refused r)) ran = tt
-ran_end ask a b f (Err (stops.Breached x)) ran = tt
-ran_end ask a b f (Err (stops.Failed (objects.File line))) ran = tt
-ran_end ask a b f (Err (stops.Failed objects.Output)) ran = ran
-ran_end ask a b f (Err (stops.Failed objects.Links)) ran = tt
-ran_end ask a b f (Err (stops.Failed objects.Children)) ran = tt
+  launch_stop : (stop : Stop) (p : Result Prepared Cause) → LaunchesBy {X = Plan} words c c' (Err stop) p → LaunchesBy {X = Status} words c c' (Err stop) p
+  launch_stop stop (Ok (dealt writes)) ran = starts_stop stop ran
+  launch_stop stop (Ok (undealt wanted have)) ran = ran
+  launch_stop stop (Err cause) ran = ran
+
+  starts_end : (e : Effect) (b f : FilesState) (o o' : SinkState) (r : Result Status Stop) → AreRun words c c' → Finishes e b f o o' r
+      → StartsBy words c c' r
+  starts_end e b f o o' (Ok s) ran part = ran
+  starts_end e b f o o' (Err stops.Memory) ran part = tt
+  starts_end e b f o o' (Err stops.Usage) ran part = tt
+  starts_end e b f o o' (Err (stops.Refused r)) ran part = tt
+  starts_end e b f o o' (Err (stops.Breached x)) ran part = absurd part
+  starts_end e b f o o' (Err (stops.Failed (objects.File line))) ran part = inr ran
+  starts_end e b f o o' (Err (stops.Failed objects.Output)) ran part = ran
+  starts_end e b f o o' (Err (stops.Failed objects.Links)) ran part = tt
+  starts_end e b f o o' (Err (stops.Failed objects.Children)) ran part = absurd part
+
+  launch_end : (e : Effect) (b f : FilesState) (o o' : SinkState) (plan : Plan) (r : Result Status Stop) (p : Result Prepared Cause)
+      → LaunchesBy words c c' (Ok plan) p → Finishes e b f o o' r → LaunchesBy words c c' r p
+  launch_end e b f o o' plan r (Ok (dealt writes)) ran part = starts_end e b f o o' r ran part
+  launch_end e b f o o' plan r (Ok (undealt wanted have)) ran part = ran
+  launch_end e b f o o' plan r (Err cause) ran part = ran
+
+-- where there was no memory for the words, nothing was started
+launch_none : (words : Number → List (List ℕ)) (c : SpawnerState) (p : Result Prepared Cause) → LaunchesBy {X = Status} words c c (Err stops.Memory) p
+launch_none words c (Ok (dealt writes)) = tt
+launch_none words c (Ok (undealt wanted have)) = refl
+launch_none words c (Err cause) = refl
 
 -- ---- of each command
 
@@ -136,7 +163,8 @@ moves_stop (gather ask) s s' stop moves = tt
 moves_stop (join ask) s s' stop moves = tt
 moves_stop (miner ask) s s' stop moves = λ told.
     sent_stop ask.me s.links s'.links (sent_of ask s.files.contents s.links.coming) stop (moves told)
-moves_stop (trio ask) s s' stop moves = (moves.0, ran_stop ask s s' stop moves.1)
+moves_stop (trio ask) s s' stop moves =
+    (moves.0, λ found at t t'. launch_stop (words_for ask) s.children s'.children stop (prepared_of found ask s.files.contents) (moves.1 found at t t'))
 
 pub moves_end : (ask : Ask) (a b : Sources) (f : FilesState) (o o' : SinkState) (plan : Plan) (r : Result Status Stop)
     → Moves {X = Plan} ask a b (Ok plan) → Finishes (effect_of plan) b.files f o o' r → Moves {X = Status} ask a (at_last b f) r
@@ -154,7 +182,12 @@ moves_end (gather ask) a b f o o' plan r moves part = tt
 moves_end (join ask) a b f o o' plan r moves part = tt
 moves_end (miner ask) a b f o o' plan r moves part = λ told.
     sent_end ask.me a.links b.links (sent_of ask a.files.contents a.links.coming) plan b.files f o o' r (moves told) part
-moves_end (trio ask) a b f o o' plan r moves part = (moves.0, ran_end ask a b f r moves.1)
+moves_end (trio ask) a b f o o' plan r moves part = (
+  moves.0,
+  λ found at t t'.
+      launch_end (words_for ask) a.children b.children (effect_of plan) b.files f o o' plan r (prepared_of found ask a.files.contents)
+      (moves.1 found at t t') part,
+)
 
 -- of words for which there was no memory
 pub moves_none : (ask : Ask) (s : Sources) → Moves {X = Status} ask s s (Err stops.Memory)
@@ -172,7 +205,7 @@ moves_none (gather ask) s = tt
 moves_none (join ask) s = tt
 moves_none (miner ask) s = λ told.
     none_fronts ask.me s.links s.links (sent_of ask s.files.contents s.links.coming) (same_sends_nothing ask.me s.links)
-moves_none (trio ask) s = (inl refl, tt)
+moves_none (trio ask) s = (inl refl, λ found at t t'. launch_none (words_for ask) s.children (prepared_of found ask s.files.contents))
 
 -- ---- told by the status
 

@@ -1,6 +1,7 @@
 -- What `trio` promises, from its courses.
 use Rattle.std.proofs.Common.{◌≡◌, ◌⊎◌, ℕ, ℤ, List, nat_eq, true, false, Some, Ok, Err, Result, refl, ap, subst, sym, ◌∙◌, inl, inr}
 use Rattle.std.proofs.lemmas.Bool.{false≢true}
+use Rattle.outside.specs.Spawner.{awaited}
 use Rattle.command_frame.specs.declared.object.Object.TheVariants as objects
 use Rattle.command_frame.specs.declared.status.Status.{Status}
 use Rattle.command_frame.specs.declared.status.Status.TheVariants as statuses
@@ -8,7 +9,7 @@ use Rattle.command_frame.specs.declared.stop.Stop.{Stop}
 use Rattle.command_frame.specs.declared.stop.Stop.TheVariants as stops
 use Rattle.command_frame.specs.Answer.{Answer, Cause, Course, Effect, Written, behind, cause_of, wholly}
 use Rattle.command_frame.specs.Moments.{AreSteady, AreTold, Moment, Reach}
-use Rattle.command_frame.specs.Status.{code_of, is_end}
+use Rattle.command_frame.specs.Status.{can_breach, code_of, is_end}
 use Rattle.command_frame.specs.Whole.{Acts, CarriedOut, CarriedSo, ChildrenRose, HasFailed, IsAnswered, IsDone, status_in}
 use Rattle.command_frame.proofs.Statuses.{breach_ends, clash, never, no_breach, no_refusal}
 use Rattle.command_words.specs.Ask.{TrioAsk, trio, words_of}
@@ -16,19 +17,19 @@ use Rattle.program_commands.specs.Judging.{Finding, FoundAt, its_program}
 use Rattle.program_commands.proofs.Refusals.{status_in_answer}
 use Rattle.proto_core.specs.declared.party.Number.{Number}
 use Rattle.trio_command.specs.Deciding.{trio_reach}
-use Rattle.trio_command.specs.Launching.{LaunchesFor}
-use Rattle.trio_command.specs.Trio.{Prepared, dealt, prepared_of, trio_of, undealt, words_for}
+use Rattle.trio.specs.Launches.{of_all}
+use Rattle.trio_command.specs.Launching.{AreRun, AreStarted, LaunchesBy}
+use Rattle.trio_command.specs.Trio.{Prepared, dealt, trio_of, undealt, words_for}
 use Rattle.run_engine.specs.Call.{Call}
 use Rattle.run_engine.specs.Commands.{statuses_in}
-use Rattle.run_engine.specs.Moves.{RanThem}
 use Rattle.run_engine.specs.Obeying.{Acted}
 use Rattle.run_engine.specs.Promises.{Gives, is_refusal}
 use Rattle.run_engine.specs.Told.{Outside, contents_in, outside_of}
-use Rattle.run_engine.specs.TrioPromises.{KeepsTrio, StartsMiners, TrioEffect, TrioRefused}
+use Rattle.run_engine.specs.TrioPromises.{KeepsTrio, StartsByStatus, StartsMiners, TrioEffect, TrioRefused}
 use Rattle.run_engine.specs.Words.{IsAnswer, answer_to, question_of, reach_in}
 use Rattle.run_engine.proofs.Runs.{carried_status, course_answers, is_answer, no_fault_end, reach_by, refused_if}
 use Rattle.run_engine.proofs.Tops.{no_file, no_memory}
-use Rattle.run_engine.proofs.Trios.{EndingCourse, HasCourse, IsPrepared, is_dealt, is_undealt, no_end_refused, trio_effect, trio_refused, trio_refused_by}
+use Rattle.run_engine.proofs.Trios.{EndingCourse, HasCourse, IsPrepared, is_dealt, is_undealt, no_end_refused, trio_effect, trio_refused, trio_refused_by, trio_unprepared}
 
 -- a fault that has the status of a refusal is one of other programs
 fault_child : (reach : Reach) (m m' : Moment) (s : Status) → is_refusal s ≡ true → HasFailed reach m m' s
@@ -130,9 +131,6 @@ module _ (words : List (List ℕ)) (m m' : Moment) (r : Result Status Stop) (did
   abbrev ends_with : Number → ℤ
   ends_with = statuses_in m m'
 
-  abbrev Launched : Result Prepared Cause → Type 0
-  Launched p = LaunchesFor (words_for ask) m.sources.children m'.sources.children p
-
   -- it has ended, or the output failed
   abbrev Ran : Status → Type 0
   Ran w = (is_end w ≡ true) ⊎ (w ≡ statuses.Write)
@@ -152,30 +150,86 @@ module _ (words : List (List ℕ)) (m m' : Moment) (r : Result Status Stop) (did
       let all_told : AreTold (reach_in words) m.sources = subst (λ (y : Reach). AreTold y m.sources) (sym (reach_by words (trio ask) asks)) told in
       never (is_end x.status) ends (no_end_refused ask (contents_in m) ends_with found at (cause_of x) (acts.1.0 all_told).0)
 
-  moved : (y : Result Status Stop) → r ≡ y → RanThem ask m.sources m'.sources y
-  moved y is = subst (λ (x : Result Status Stop). RanThem ask m.sources m'.sources x) is (did.moves (trio ask) asks).1
+  abbrev Launched : Result Status Stop → Result Prepared Cause → Type 0
+  Launched y p = LaunchesBy (words_for ask) m.sources.children m'.sources.children y p
 
-  launches : (found : Finding) → FoundAt (its_program ask.program) (contents_in m) found → (y : Result Status Stop) → r ≡ y → Ran (status_in y)
-      → Launched (prepared_of found ask (contents_in m))
-  launches found at (Ok s) is ran = moved (Ok s) is found at told.files (told.children refl)
-  launches found at (Err stops.Memory) is ran = no_end_at statuses.Memory refl refl ran
-  launches found at (Err stops.Usage) is ran = no_end_at statuses.Usage refl refl ran
-  launches found at (Err (stops.Refused x)) is (inl ends) = not_refused x found at is ends
-  launches found at (Err (stops.Refused x)) is (inr write) = no_refusal x.status statuses.Write x.refuses refl write
-  launches found at (Err (stops.Breached b)) is (inl ends) = breach_ends b.status b.breaches ends
-  launches found at (Err (stops.Breached b)) is (inr write) = no_breach b.status statuses.Write b.breaches refl write
-  launches found at (Err (stops.Failed (objects.File line))) is ran = no_end_at statuses.File refl refl ran
-  launches found at (Err (stops.Failed objects.Output)) is ran =
-      moved (Err (stops.Failed objects.Output)) is found at told.files (told.children refl)
-  launches found at (Err (stops.Failed objects.Links)) is ran = no_end_at statuses.Link refl refl ran
-  launches found at (Err (stops.Failed objects.Children)) is ran = no_end_at statuses.Child refl refl ran
+  launched : (wanted : Result Prepared Cause) → IsPrepared ask (contents_in m) ends_with wanted → Launched r wanted
+  launched wanted p = subst (Launched r) p.is ((did.moves (trio ask) asks).1 p.found p.at told.files (told.children refl))
 
-  prepared_so : (wanted : Result Prepared Cause) → IsPrepared ask (contents_in m) ends_with wanted → Ran (status_in r) → Launched wanted
-  prepared_so wanted p ran = subst Launched p.is (launches p.found p.at r refl ran)
+  abbrev Started : Type 0
+  Started = AreStarted (words_for ask) m.sources.children m'.sources.children
 
-  pub trio_started : (is_end (status_in r) ≡ true) ⊎ (status_in r ≡ statuses.Write)
-      → StartsMiners ask (contents_in m) m.sources.children m'.sources.children
-  trio_started ran = record {
-    dealt = λ writes d. prepared_so (Ok (dealt writes)) (is_dealt ask (contents_in m) ends_with writes d) ran;
-    undealt = λ need have u. prepared_so (Ok (undealt need have)) (is_undealt ask (contents_in m) ends_with need have u) ran;
+  abbrev AllRun : Type 0
+  AllRun = AreRun (words_for ask) m.sources.children m'.sources.children
+
+  run_started : AllRun → Started
+  run_started run = record { child = run.child; waits = of_all (λ i. awaited (run.child i)); calls = run.calls; waited = inl refl }
+
+  abbrev Starts : Status → Type 0
+  Starts s = StartsByStatus (words_for ask) m.sources.children m'.sources.children s
+
+  all_run : (s : Status) → AllRun → Starts s
+  all_run s run = record { ended = λ is. run; differ = λ is. run; child = λ is. inl (run_started run); file = λ is. inr run }
+
+  -- of other statuses nothing is said
+  other_stop : (s : Status) → is_end s ≡ false → nat_eq (code_of s) (code_of statuses.Write) ≡ false
+      → nat_eq (code_of s) (code_of statuses.Disagree) ≡ false → nat_eq (code_of s) (code_of statuses.Child) ≡ false
+      → nat_eq (code_of s) (code_of statuses.File) ≡ false → Starts s
+  other_stop s unended write disagree child file = record {
+    ended = λ is. no_end_at s unended write is;
+    differ = λ is. clash s statuses.Disagree disagree is;
+    child = λ is. clash s statuses.Child child is;
+    file = λ is. clash s statuses.File file is;
+  }
+
+  refused_ran : {X : Type 0} (x : _) (found : Finding) → FoundAt (its_program ask.program) (contents_in m) found → r ≡ Err (stops.Refused x)
+      → Ran x.status → X
+  refused_ran x found at is (inl ends) = not_refused x found at is ends
+  refused_ran x found at is (inr write) = no_refusal x.status statuses.Write x.refuses refl write
+
+  breach_ran : {X : Type 0} (w : Status) → can_breach w ≡ true → Ran w → X
+  breach_ran w breaches (inl ends) = breach_ends w breaches ends
+  breach_ran w breaches (inr write) = no_breach w statuses.Write breaches refl write
+
+  starts_by : (writes : List Written) → IsPrepared ask (contents_in m) ends_with (Ok (dealt writes)) → (y : Result Status Stop) → r ≡ y
+      → Launched y (Ok (dealt writes)) → Starts (status_in y)
+  starts_by writes p (Ok s) is l = all_run s l
+  starts_by writes p (Err stops.Memory) is l = other_stop statuses.Memory refl refl refl refl refl
+  starts_by writes p (Err stops.Usage) is l = other_stop statuses.Usage refl refl refl refl refl
+  starts_by writes p (Err (stops.Refused x)) is l = record {
+    ended = λ ran. refused_ran x p.found p.at is ran;
+    differ = λ w. no_refusal x.status statuses.Disagree x.refuses refl w;
+    child = λ w. no_refusal x.status statuses.Child x.refuses refl w;
+    file = λ w. no_refusal x.status statuses.File x.refuses refl w;
+  }
+  starts_by writes p (Err (stops.Breached b)) is l = record {
+    ended = λ ran. breach_ran b.status b.breaches ran;
+    differ = l.1;
+    child = λ w. inl l.0;
+    file = λ w. no_breach b.status statuses.File b.breaches refl w;
+  }
+  starts_by writes p (Err (stops.Failed (objects.File line))) is l = record {
+    ended = λ ran. no_end_at statuses.File refl refl ran;
+    differ = λ w. clash statuses.File statuses.Disagree refl w;
+    child = λ w. clash statuses.File statuses.Child refl w;
+    file = λ w. l;
+  }
+  starts_by writes p (Err (stops.Failed objects.Output)) is l = all_run statuses.Write l
+  starts_by writes p (Err (stops.Failed objects.Links)) is l = other_stop statuses.Link refl refl refl refl refl
+  starts_by writes p (Err (stops.Failed objects.Children)) is l = record {
+    ended = λ ran. no_end_at statuses.Child refl refl ran;
+    differ = λ w. clash statuses.Child statuses.Disagree refl w;
+    child = λ w. inr l;
+    file = λ w. clash statuses.Child statuses.File refl w;
+  }
+
+  pub trio_started : StartsMiners ask (contents_in m) m.sources.children m'.sources.children (status_in r)
+  trio_started = record {
+    dealt = λ writes d.
+        let p = is_dealt ask (contents_in m) ends_with writes d in
+        starts_by writes p r refl (launched (Ok (dealt writes)) p);
+    undealt = λ need have u. launched (Ok (undealt need have)) (is_undealt ask (contents_in m) ends_with need have u);
+    refused = λ status wanted refused first.
+        let no = trio_unprepared ask (contents_in m) status wanted refused first in
+        launched (Err no.cause) (record { found = no.prepared.found; at = no.prepared.at; is = no.prepared.is });
   }

@@ -14,13 +14,11 @@ use Rattle.reached_instances.specs.Reached.{IsReachedList}
 use Rattle.command_frame.specs.declared.plan.Plan.{Plan}
 use Rattle.command_frame.specs.declared.status.Status.{Status}
 use Rattle.command_frame.specs.declared.status.Status.TheVariants as statuses
-use Rattle.command_frame.specs.declared.object.Object.TheVariants as objects
 use Rattle.command_frame.specs.declared.stop.Stop.{Stop}
-use Rattle.command_frame.specs.declared.stop.Stop.TheVariants as stops
 use Rattle.command_frame.specs.Answer.{Answer, Cause, Course, Effect, Written, after_writes, at_once, bytes_at, missing, whole_of, ◌>>=◌}
 use Rattle.command_frame.specs.Moments.{Sources}
 use Rattle.command_frame.specs.Reads.{PlanNames}
-use Rattle.command_frame.specs.Status.{is_end}
+use Rattle.command_frame.specs.Status.{is_end, of_texts}
 use Rattle.command_words.specs.Ask.{TrioAsk, trio}
 use Rattle.input_share.specs.Dealing.{need_of}
 use Rattle.program_commands.specs.Compile.{compile_effect, compile_of}
@@ -56,12 +54,12 @@ use Rattle.trio_command.specs.Trio.{prepared_of, prepared_paths, trio_of, undeal
 use Rattle.typed_tree.specs.Programs.{TypedProgramTree}
 use Rattle.value_file.specs.declared.inputs.Entry.{Entry}
 use Rattle.value_file.specs.Input.{read_of as inputs_read_of}
-use Rattle.run_engine.specs.Moves.{Moves, RanThem}
+use Rattle.run_engine.specs.Moves.{Moves}
 use Rattle.run_engine.specs.Obeying.{CommandAnswers, Names, Planned}
 use Rattle.run_engine.specs.Promises.{is_refusal}
 use Rattle.run_engine.specs.Told.{outside_of, place_of, sources_of, statuses_since, told_of}
 use Rattle.run_engine.specs.TrioPromises.{AllEnded, HoldsTrio, IsDealt, IsUndealt, TextsRefused, TrioEffect, TrioRefused, for_child, for_input}
-use Rattle.run_engine.specs.TrioPromises.{for_program, for_tape}
+use Rattle.run_engine.specs.TrioPromises.{bad_text, for_program, for_tape, texts_differ}
 use Rattle.run_engine.specs.TrioPromises.{for_texts, run_joined, run_undealt, trio_writes}
 use Rattle.run_engine.specs.Words.{answer_to, later_of, question_of, reads_of, writes_of}
 use Rattle.run_engine.proofs.Joins.{texts_agree, texts_refused, texts_refused_by}
@@ -109,19 +107,8 @@ module _ (ask : TrioAsk) (l : LinksState) (f f' : FilesState) (c c' : SpawnerSta
     ];
   }
 
-  ran_so : (r : Result Plan Stop) → TrioPlanned ask f f' c c' r → RanThem ask s s' r
-  ran_so (Ok plan) p = λ found at t t'. p.launched found at t t'
-  ran_so (Err stops.Memory) p = tt
-  ran_so (Err stops.Usage) p = tt
-  ran_so (Err (stops.Refused x)) p = tt
-  ran_so (Err (stops.Breached b)) p = tt
-  ran_so (Err (stops.Failed (objects.File line))) p = tt
-  ran_so (Err (stops.Failed objects.Output)) p = absurd (p.anyhow l)
-  ran_so (Err (stops.Failed objects.Links)) p = tt
-  ran_so (Err (stops.Failed objects.Children)) p = tt
-
   moves_so : (r : Result Plan Stop) → TrioPlanned ask f f' c c' r → Moves (trio ask) s s' r
-  moves_so r p = (p.children, ran_so r p)
+  moves_so r p = (p.children, λ found at t t'. p.launched found at t t')
 
   pub trio_planned : (r : Result Plan Stop) → TrioPlanned ask f f' c c' r → Planned (trio ask) s s' r
   unfolding answer_to question_of writes_of
@@ -306,6 +293,43 @@ module _ (ask : TrioAsk) (files : Contents) (status : Number → ℤ) where
       → course_of ask files status (Ok (dealt writes)) ≡ record { first = writes; answer = Err cause }
   unfolding answer_of_miners
   child_course writes cause is = rw is refl
+
+  -- by a file that is read first, nothing is prepared
+  pub record IsUnprepared : Type 0 where
+    pub cause : Cause
+    pub prepared : IsPrepared (Err cause)
+
+  at_last_refused : {X : Type 0} (w : Status) → of_texts w ≡ true → (given : Status) → given ≡ w → of_texts given ≡ false → X
+  at_last_refused w texts given is first = absurd (true≢false (sym texts ∙ ap of_texts (sym is) ∙ first))
+
+  texts_of : (path : Number → List ℕ) (held : Contents) (given : Status) → TextsRefused path held given → of_texts given ≡ true
+  texts_of path held given (bad_text is bad) = ap of_texts is
+  texts_of path held given (texts_differ is lines hold found differ) = ap of_texts is
+
+  pub trio_unprepared : (given : Status) → TrioRefused ask files status given → of_texts given ≡ false → IsUnprepared
+  unfolding prepared_of code_writes compile_of compile_part inputs_at tape_file_at
+  trio_unprepared given (for_program refused) first =
+      let no = no_program ask.program files given refused in
+      record { cause = no.cause; prepared = record { found = no.found; at = no.at; is = rw no.none refl } }
+  trio_unprepared given (for_input is p h bytes err there bad) first = record {
+    cause = bad_input err;
+    prepared = record {
+      found = found_of ask.program files p h;
+      at = found_there ask.program files p h;
+      is = rw (program_there ask.program files p h h.within.list, read_there files ask.input bytes there, bad) refl;
+    };
+  }
+  trio_unprepared given (for_tape is p h entries inputs bytes place there bad) first = record {
+    cause = bad_tape place;
+    prepared = record {
+      found = found_of ask.program files p h;
+      at = found_there ask.program files p h;
+      is = rw (program_there ask.program files p h h.within.list, inputs, read_there files ask.tape bytes there, bad) refl;
+    };
+  }
+  trio_unprepared given (for_child is writes d i bad) first = at_last_refused statuses.Child refl given is first
+  trio_unprepared given (for_texts writes d all refused) first =
+      absurd (true≢false (sym (texts_of (out_path ask.to) (after_writes writes files) given refused) ∙ first))
 
   pub trio_refused : (given : Status) → TrioRefused ask files status given → RefusedCourse given
   unfolding prepared_of code_writes compile_of compile_part inputs_at tape_file_at

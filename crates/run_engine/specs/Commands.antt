@@ -2,9 +2,9 @@
 --
 -- Over steady objects that hold files as they must be its effect is there whole, or memory ran out. It is refused exactly for the first file that is
 -- there and not as it must be, or a fault is told.
-use Rattle.std.specs.Prelude.{◌≡◌, ◌⊎◌, ℕ, ℤ, List, true, Some}
+use Rattle.std.specs.Prelude.{◌≡◌, ℕ, ℤ, List, true, Some}
 use Rattle.command_frame.specs.declared.status.Status.{Status}
-use Rattle.command_frame.specs.declared.status.Status.TheVariants.{Schedule, Write}
+use Rattle.command_frame.specs.declared.status.Status.TheVariants.{Schedule}
 use Rattle.command_frame.specs.Moments.{AreTold, Moment}
 use Rattle.command_frame.specs.Status.{is_end}
 use Rattle.command_words.specs.Ask.{CheckAsk, CompileAsk, EvalAsk, RunAsk, DealAsk, MapAsk, SimulateAsk, TwinAsk, check, compile, eval, need}
@@ -114,8 +114,9 @@ pub record Commands (words : List (List ℕ)) (before after : Moment) (given : S
   -- start fails; where none fails it waits for each of them. It does nothing else with other programs.
   pub trio_starts_miners_only :
       (ask : TrioAsk) → words_of words ≡ Some (trio ask) → MayLaunch (words_for ask) before.sources.children after.sources.children
-  -- Where it has ended, or its output failed, it has started miners 1, 2 and 3 with the words of `miner`, all before it waited for any, and waited
-  -- for each; or none.
+  -- Where files are dealt, it has started miners 1, 2 and 3 with the words of `miner`, all before it waited for any, and waited for each: where it has
+  -- ended, its output failed, or two texts differ; and where a child or a text is the cause, unless a start or a wait failed. Where nothing can be
+  -- dealt, or the program or a file is refused, it has started none.
   pub trio_starts :
-      (ask : TrioAsk) → words_of words ≡ Some (trio ask) → AreTold trio_reach before.sources → (is_end given ≡ true) ⊎ (given ≡ Write)
-      → StartsMiners ask (contents_in before) before.sources.children after.sources.children
+      (ask : TrioAsk) → words_of words ≡ Some (trio ask) → AreTold trio_reach before.sources
+      → StartsMiners ask (contents_in before) before.sources.children after.sources.children given

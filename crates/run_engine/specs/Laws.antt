@@ -3,13 +3,19 @@ use Rattle.std.specs.Prelude.{◌≡◌, ℕ, List, Some}
 use Rattle.outside.specs.Files.{Contents}
 use Rattle.reached_instances.specs.Instances.{Instance}
 use Rattle.reached_instances.specs.Reached.{IsReachedList}
-use Rattle.command_words.specs.Ask.{CompileAsk, GatherAsk, MapAsk, SimulateAsk, TwinAsk, compile, gather, map_tape, simulate, twin, words_of}
+use Rattle.bytecode.specs.Raw.{RawCode}
+use Rattle.proto_core.specs.declared.party.Number.{Number}
+use Rattle.command_words.specs.Ask.{CompileAsk, GatherAsk, MapAsk, MinerAsk, SimulateAsk, TwinAsk, compile, gather, map_tape, simulate, twin, words_of}
 use Rattle.protocol_model.specs.Network.{Delivery}
 use Rattle.tape_file.specs.Tapes.{FourTapes}
 use Rattle.typed_tree.specs.Programs.{TypedProgramTree}
 use Rattle.value_file.specs.declared.inputs.Entry.{Entry}
 use Rattle.gather_command.specs.Held.{HoldsDealt, WritesOneDealing}
 use Rattle.gathered_shares.specs.Owners.{Lengths, Owner}
+use Rattle.honest_miners.specs.Laws.{ThreeServedMiners}
+use Rattle.honest_miners.specs.Miners.{WritesWithHonestPeers}
+use Rattle.honest_miners.specs.Three.{ThreeMinersAnswer}
+use Rattle.miner_command.specs.Files.{Given}
 use Rattle.miner_commands.specs.Premises.{HaveWords}
 use Rattle.program_commands.specs.Compile.{CodeMeansProgram}
 use Rattle.program_commands.specs.Held.{HoldsTyped}
@@ -17,14 +23,28 @@ use Rattle.program_views.specs.TapeMaps.{IsTwin, MapsCorrespond, twinned}
 use Rattle.workload.specs.Load.{load_program}
 use Rattle.workload_program.specs.LoadTree.{load_typed}
 use Rattle.workload_program.specs.Runnable.{IsRunnable}
+use Rattle.program_views.specs.Views.{openings, run_on}
+use Rattle.view_reader.specs.Opened.{opened_words}
+use Rattle.run_engine.specs.Chains.{MappedIsSimulated, TwinIsReadAgain}
 use Rattle.run_engine.specs.MapPromises.{HoldsMap}
-use Rattle.run_engine.specs.Served.{ThreeServedMiners}
 use Rattle.run_engine.specs.SimulatePromises.{HoldsOfRun, IsOfRun}
 use Rattle.run_engine.specs.TwinPromises.{AreTaken, HoldsTwin}
 
 pub record Laws (words : List (List ℕ)) (files : Contents) : Type 0 where
-  -- Three served miners send no more than the joint run sends, and where they end they end as evaluation does.
+  -- Three calls of `miner` whose files hold the code of an accepted program, the share files and own tapes of one dealing, to each of which has come a
+  -- front of the bytes that the others have sent: each has sent a front of the hellos and frames of the joint run, and refuses nothing; it writes its
+  -- part of what evaluation tells, with its end and cost, or its peers' bytes end too early. Where all has come each writes its text, and `join` puts the
+  -- three together to the text of the run.
+  pub three_miners_answer_the_run :
+      (program : TypedProgramTree) (entries : List Entry) (tapes : FourTapes) (budget : ℕ) (digest : List ℕ) (code : RawCode)
+      (asks : Number → MinerAsk) (files : Number → Contents) (coming : Number → ℕ → List ℕ)
+      → ThreeMinersAnswer program entries tapes budget digest code asks files coming
+  -- The same of the three nodes, with what each has opened and told by then; of one node alone; of messages instead of bytes; and of texts.
   pub three_served_miners : ThreeServedMiners
+  -- One such call whose peers send all that the joint run sends writes its part of what evaluation tells, whatever its peers have received.
+  pub miner_writes_with_honest_peers :
+      (ask : MinerAsk) (program : TypedProgramTree) (entries : List Entry) (tapes : FourTapes) (given : Given) (coming : ℕ → List ℕ)
+      → WritesWithHonestPeers program entries tapes ask files given coming
   -- What `compile` writes is verified code that does what the program does.
   pub compiled_code_means_program :
       (ask : CompileAsk) (program : TypedProgramTree) (reached : List Instance) → words_of words ≡ Some (compile ask)
@@ -50,5 +70,20 @@ pub record Laws (words : List (List ℕ)) (files : Contents) : Type 0 where
       (ask : TwinAsk) (program : TypedProgramTree) (first second : List Entry) (tapes : FourTapes) → words_of words ≡ Some (twin ask)
       → HoldsTwin ask files program first second tapes → AreTaken ask program first second tapes
       → IsTwin ask.miner program first second tapes (twinned ask.miner program first second tapes ask.budget) ask.budget
+  -- The words that a run opens are those of its `open` lines, one after another: who is told no more than them is told no more than what
+  -- everybody reads.
+  pub runs_open_what_they_tell :
+      (program : TypedProgramTree) (entries : List Entry) (lengths : List ℕ) (budget : ℕ)
+      → (run_on program entries lengths budget).opened ≡ opened_words (openings (run_on program entries lengths budget).events)
+  -- Whatever the files are later: where they hold what `map` writes, and the same program, `simulate` for the same miner and budget finds there the
+  -- public part, the opened words and the mapped tapes of the run, under every order of delivery; so it writes the miner's view of the run,
+  -- which is the view that `run` writes.
+  pub mapped_files_are_simulated :
+      (mapping : MapAsk) (program : TypedProgramTree) (entries : List Entry) (tapes : FourTapes) → words_of words ≡ Some (map_tape mapping)
+      → HoldsMap mapping files program entries tapes → MappedIsSimulated mapping program entries tapes
+  -- A file that holds what `twin` writes is read as the twin tapes: so a run on the second inputs with it has the views of `twins_see_the_same`.
+  pub twin_files_are_read_again :
+      (ask : TwinAsk) (program : TypedProgramTree) (first second : List Entry) (tapes : FourTapes) → words_of words ≡ Some (twin ask)
+      → HoldsTwin ask files program first second tapes → AreTaken ask program first second tapes → TwinIsReadAgain ask program first second tapes
   -- The text that every workload of `load` has is that of an accepted program within the limits, which is run as the typed tree of `loads`.
   pub load_program_is_runnable : IsRunnable load_program load_typed

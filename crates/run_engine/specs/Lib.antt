@@ -1,4 +1,5 @@
 pub mod Call
+pub mod Chains
 pub mod Commands
 pub mod Headline
 pub mod Laws
@@ -8,7 +9,6 @@ pub mod Moves
 pub mod Obeying
 pub mod Promises
 pub mod Runs
-pub mod Served
 pub mod SimulatePromises
 pub mod Told
 pub mod TrioPromises

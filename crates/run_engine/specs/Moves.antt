@@ -10,9 +10,9 @@ use Rattle.command_frame.specs.Reads.{BothTold}
 use Rattle.command_words.specs.Ask.{Ask, TrioAsk, miner, trio}
 use Rattle.miner_command.specs.Miner.{sent_of}
 use Rattle.miner_command.specs.Playing.{SentAll, SentFronts}
-use Rattle.node_run.specs.Nodes.{Outgoing}
+use Rattle.honest_miners.specs.Nodes.{Outgoing}
 use Rattle.program_commands.specs.Judging.{Finding, FoundAt, its_program}
-use Rattle.trio_command.specs.Launching.{LaunchesFor, MayLaunch}
+use Rattle.trio_command.specs.Launching.{LaunchesBy, MayLaunch}
 use Rattle.trio_command.specs.Trio.{prepared_of, words_for}
 
 -- where it goes on, and where files or a peer are refused, all of these bytes; else a front of them for each peer
@@ -25,20 +25,11 @@ MinerSent me old new out (Err (stops.Breached b)) = SentAll me old new out
 MinerSent me old new out (Err (stops.Failed object)) =
     OfObject (λ line. SentFronts me old new out) (SentAll me old new out) (SentFronts me old new out) ⊥ object
 
--- miners 1, 2 and 3 were run where their files could be dealt, and no child was started where not
-abbrev pub RanMiners : TrioAsk → (s s' : Sources) → Type 0
-RanMiners ask s s' =
-    (found : Finding) → FoundAt (its_program ask.program) s.files.contents found → s.files.told ≡ true → s.children.told ≡ true
-    → LaunchesFor (words_for ask) s.children s'.children (prepared_of found ask s.files.contents)
-
--- so it is where it has decided, also where the output failed then
+-- miners 1, 2 and 3 were run where their files could be dealt, as far as its result tells, and no child was started where not
 abbrev pub RanThem : {X : Type 0} → TrioAsk → (s s' : Sources) → Result X Stop → Type 0
-RanThem ask s s' (Ok x) = RanMiners ask s s'
-RanThem ask s s' (Err stops.Memory) = Unit {0}
-RanThem ask s s' (Err stops.Usage) = Unit {0}
-RanThem ask s s' (Err (stops.Refused r)) = Unit {0}
-RanThem ask s s' (Err (stops.Breached b)) = Unit {0}
-RanThem ask s s' (Err (stops.Failed object)) = OfObject (λ line. Unit {0}) (RanMiners ask s s') (Unit {0}) (Unit {0}) object
+RanThem ask s s' r =
+    (found : Finding) → FoundAt (its_program ask.program) s.files.contents found → s.files.told ≡ true → s.children.told ≡ true
+    → LaunchesBy (words_for ask) s.children s'.children r (prepared_of found ask s.files.contents)
 
 -- of a command that reaches no peers and no other programs nothing is said: these are as they were
 abbrev pub Moves : {X : Type 0} → Ask → (s s' : Sources) → Result X Stop → Type 0
