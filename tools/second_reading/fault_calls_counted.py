@@ -2,8 +2,11 @@
 """fault_calls_counted FOLDER: writes commands.rows and processes.rows, one row a command, made by the model of this folder, and prints the lines that
 `fault_rows` must print of them: how many calls of each object there are to fail.
 
-Counted by hand, from what is said of the commands: of files one call for each that is read and for each that is written; of a stream one for each 7 bytes
-of its text and for the rest; of links one that connects, and of each hello, of each frame that is sent, and of the head and the words of each that is read
+Counted by hand, from what is said of the commands: of files one call for each that is read and for each that is written, of a view two, one for its first
+line and one for what comes after it, which is short here; of a miner's own tape one for its size, and of its length and of the words of each gate that
+draws some one for each 7 bytes and for the rest; of a stream one for each 7 bytes of its text and for the rest; of links one that connects, and of each
+hello, of
+each frame that is sent, and of the head and the words of each that is read
 one for each 7 bytes and for the rest; of children six. With each call that fails the error stream has the line that tells it, unless it is the one that fails.
 """
 from __future__ import annotations
@@ -29,6 +32,11 @@ SEED = "00" * 32
 
 def calls_for(size: int) -> int:
     return -(-size // STEP)
+
+
+def write_calls(data: bytes | None) -> int:
+    """A view goes out as its first line and what comes after it."""
+    return 2 if data is not None and data.startswith(b"view ") else 1
 
 
 @dataclass
@@ -77,7 +85,7 @@ class FaultRows(Rows):
         """A row of a command that the model answers."""
         caller = Watched(found)
         answer = caller.call(words.split())
-        files = [path for path in caller.paths] + [path for path, _ in answer.written]
+        files = [path for path in caller.paths] + [path for path, data in answer.written for _ in range(write_calls(data))]
         counted = Counted(files, calls_for(len(answer.out)), err=calls_for(len(answer.err)))
         self.counted(title, counted, f"call {words}", *found_files(caller.paths, found), *answered(answer))
 
@@ -162,6 +170,12 @@ def link_calls(setting: Setting, miner: int) -> int:
     return count
 
 
+def tape_calls(setting: Setting, miner: int) -> list[str]:
+    """The path of a miner's own tape, once a call: its size, and 7 bytes of its length and of the words of each gate that draws."""
+    drawn = [gate.drawn()[miner - 1] for gate in setting.report.gates]
+    return [f"p.t{miner}"] * (1 + sum(-(-8 * count // STEP) for count in [1, *drawn]))
+
+
 def process_rows() -> FaultRows:
     """The commands of three miners that run as programs of their own."""
     rows = FaultRows("One row a command of those on miners' texts, links and children. Made by tools/second_reading/fault_calls_counted.py.")
@@ -171,7 +185,7 @@ def process_rows() -> FaultRows:
     rows.counted("join", Counted(["p.o1", "p.o2", "p.o3"], out), "call join p.o1 p.o2 p.o3", *texts(*good), *common_text(kept))
     setting = PRODUCT.setting(SIX_SEVEN, ZEROS)
     for miner in (1, 2, 3):
-        files = ["p.code", f"p.{miner}", f"p.t{miner}", f"p.o{miner}"]
+        files = ["p.code", f"p.{miner}", *tape_calls(setting, miner), f"p.o{miner}"]
         rows.counted(f"miner {miner}", Counted(files, links=link_calls(setting, miner)), miner_call(miner), *miner_files(setting, miner),
                      *honest(setting, miner), *was_sent(setting, miner), f"written p.o{miner}", *written(setting.text(miner)))
     made = [f"p.{name}" for name in ("code", "1", "2", "3", "t1", "t2", "t3")]

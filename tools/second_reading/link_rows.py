@@ -198,6 +198,7 @@ def file_rows(rows: MinerRows):
     rows.refused("the tape file of another length", 5, "Q1 place 0", me, *file("p.t2", ["u64 3 0 0 0"]))
     rows.refused("the tape file has 7 bytes", 5, "Q1 place 7", me, *file("p.t2", ["hex 04 00 00 00 00 00 00"]))
     rows.refused("the tape file has a word too few", 5, "Q1 place 32", me, *file("p.t2", ["u64 4 0 0 0"]))
+    rows.refused("the tape file is cut to its length", 5, "Q1 place 8", me, *file("p.t2", ["u64 4"]))
     rows.refused("the tape file has a byte too many", 5, "Q1 place 40", me, *file("p.t2", ["u64 4 0 0 0 0", "hex 00"]))
     rows.row("the text is written over a file that is read", f"{miner_call(me).replace('p.o2', 'p.t2')}", *was_sent(setting, me),
              "written p.t2", *written(setting.text(me)))
@@ -296,7 +297,36 @@ def fault_rows(rows: MinerRows):
     rows.refused("the first byte after both hellos cannot be read", 10, "link", me, f"fail links {1 + 4 * 10 + 5}", *sent)
     rows.refused("the same, one byte a call", 10, "link", me, "slow", f"fail links {1 + 4 * 68 + 29}", *sent)
     rows.refused("the first hello cannot be sent", 10, "link", me, "fail links 1")
+    hellos_in_turn(rows, setting, me)
+    rows.refused("no hello can be read: both were sent", 10, "link", me, f"fail links {1 + 2 * 10}", *greeted(setting, me))
     rows.row("one byte a call", "slow", *was_sent(setting, me), "written p.o2", *written(setting.text(me)))
+    for me in (1, 3):
+        rows.setting(f"miner {me} of a product, whose links fail", setting, me, None, *honest(setting, me))
+        hellos_in_turn(rows, setting, me)
+
+
+def hellos_in_turn(rows: MinerRows, setting: Setting, me: int):
+    """The next miner is greeted before the previous one."""
+    following = me % 3 + 1
+    hello = spelled(setting.hello(me, following).bytes())
+    rows.refused("the second hello cannot be sent: the next miner has its own", 10, "link", me, f"fail links {1 + 10}", f"sent {following}", *hello)
+
+
+def tape_fault_rows(rows: MinerRows):
+    """An own tape that can't be read. Of files the code is the first call, then the share file, the tape's size and its length, and then the words of each
+    gate that draws: those before the first wait are drawn before the peers are joined."""
+    setting, me = PRODUCT.setting(SIX_SEVEN, ZEROS), 2
+    rows.setting("miner 2 of a product, whose tape cannot be read", setting, me, None, *honest(setting, me))
+    for number, what in ((2, "its size"), (3, "its length"), (5, "the words of the product")):
+        rows.refused(f"{what} cannot be read", 9, "file p.t2", me, f"fail files {number}")
+    sent = was_sent(setting, me, {12: 1})
+    rows.refused("the words of the opening cannot be read", 9, "file p.t2", me, "fail files 9", *sent)
+    rows.refused("the same, one byte a call", 9, "file p.t2", me, "slow", "fail files 9", *sent)
+    rows.refused("the text cannot be written", 9, "file p.o2", me, "fail files 11", *was_sent(setting, me))
+    short = PRODUCT.setting(SIX_SEVEN, [[0] * 3, *ZEROS[1:]])
+    rows.setting("miner 2, whose dealer's tape is too short, and whose own cannot be read", short, me, None, *honest(short, me))
+    rows.refused("its length cannot be read", 9, "file p.t2", me, "fail files 3")
+    rows.row("its words are not read", "fail files 6", f"status {short.report.end.status}", *was_sent(short, me), f"written p.o{me}", *written(short.text(me)))
 
 
 def miner_rows() -> MinerRows:
@@ -307,6 +337,7 @@ def miner_rows() -> MinerRows:
     file_rows(rows)
     run_rows(rows)
     fault_rows(rows)
+    tape_fault_rows(rows)
     return rows
 
 
