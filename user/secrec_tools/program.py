@@ -18,6 +18,7 @@ CUT_OFF = 0.2
 KEPT = 1 << 16
 SUM = re.compile(r"[0-9a-f]{64}")
 CLEAR = "\r\x1b[K"
+ENDING_SIGNALS = (signal.SIGTERM, signal.SIGHUP, signal.SIGINT)
 
 
 class NoProgram(Exception):
@@ -147,15 +148,55 @@ def follow(pipe, stream: int | None, kept: bytearray, screen: Screen):
                     stream = None
 
 
-def call(words: list[str], out: str = "pass", err: str = "pass", watched: bool | None = None, fds=(), what: str = "", starts: bool = False) -> Ended:
+class Group:
+    """A program that starts others, and these, in a process group of their own: signals to this process are handed on to all of them."""
+
+    def __init__(self):
+        self.leader, self.early = 0, []
+        for number in ENDING_SIGNALS:
+            if signal.getsignal(number) is not signal.SIG_IGN:
+                signal.signal(number, self.hand_on)
+
+    def hand_on(self, number: int, _frame):
+        """Hands a signal on, or keeps it until there is a program."""
+        if self.leader:
+            self.send(number)
+        else:
+            self.early.append(number)
+
+    def send(self, number: int):
+        try:
+            os.killpg(self.leader, number)
+        except ProcessLookupError:
+            pass
+
+    def begin(self, leader: int):
+        self.leader = leader
+        for number in self.early:
+            self.send(number)
+
+    def end(self):
+        """Ends what the program has left behind when it has ended itself, as a miner whose peer could not be started."""
+        if hasattr(os, "waitid"):
+            # Not taken from the system yet, so that no other group can have this number.
+            os.waitid(os.P_PID, self.leader, os.WEXITED | os.WNOWAIT)
+            self.send(signal.SIGTERM)
+
+
+def call(
+    words: list[str], out: str = "pass", err: str = "pass", watched: bool | None = None, fds=(), what: str = "", starts: bool = False,
+    group: Group | None = None,
+) -> Ended:
     """Calls a program and waits for it. A stream is left to it (`leave`), handed on and kept (`pass`), or kept whole (`keep`). Where `watched`, progress is
     told on the error stream; else where that is a terminal. A signal that ends this process ends the program first, and what it started where it `starts`
-    programs of its own."""
+    programs of its own. A `group` hands signals on instead, and this process goes on until the program has ended."""
     watched = os.isatty(2) if watched is None else watched
     pipes = {name: subprocess.PIPE for name, way in (("stdout", out), ("stderr", err)) if way != "leave"}
     screen, ended, kept = Screen(), threading.Event(), (bytearray(), bytearray())
     began = time.monotonic()
-    child = subprocess.Popen(words, pass_fds=fds, start_new_session=starts, **pipes)
+    child = subprocess.Popen(words, pass_fds=fds, start_new_session=starts or group is not None, **pipes)
+    if group:
+        group.begin(child.pid)
     threads = []
     for pipe, way, stream in ((child.stdout, out, 1), (child.stderr, err, 2)):
         if pipe:
@@ -167,6 +208,8 @@ def call(words: list[str], out: str = "pass", err: str = "pass", watched: bool |
         thread.start()
     patience = None
     try:
+        if group:
+            group.end()
         _, code, usage = os.wait4(child.pid, 0)
     except BaseException:
         if starts:
@@ -192,7 +235,7 @@ def end_by(number: int, _frame):
 
 def end_on_signals():
     """From here on a signal ends this process in order."""
-    for number in (signal.SIGTERM, signal.SIGHUP, signal.SIGINT):
+    for number in ENDING_SIGNALS:
         signal.signal(number, end_by)
 
 
