@@ -5,7 +5,7 @@ use Rattle.bytecode.specs.declared.fault.DecodeErr.TheVariants as decoding
 use Rattle.bytecode.specs.declared.code.Code.{Code}
 use Rattle.bytecode.specs.declared.fault.Stopped.{Stopped}
 use Rattle.bytecode.specs.declared.fault.Stopped.TheVariants.{Refused, Memory}
-use Rattle.bytecode.specs.declared.heads.Head as heads
+use Rattle.bytecode.specs.declared.head.Head as heads
 use Rattle.bytecode.specs.InMemory.{raw_code, raw_head}
 use Rattle.bytecode.specs.Layouts.{BadTag, Trailing, Layout, Makes, Field, Read, read, behind}
 use Rattle.bytecode.specs.Raw.{RawFunction, RawCode}

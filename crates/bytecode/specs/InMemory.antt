@@ -7,7 +7,7 @@ use Rattle.bytecode.specs.declared.instruction.Instruction.{Instruction}
 use Rattle.bytecode.specs.declared.instruction.Instruction.TheVariants as instructions
 use Rattle.bytecode.specs.declared.code.CodeFunction.{CodeFunction}
 use Rattle.bytecode.specs.declared.code.Code.{Code}
-use Rattle.bytecode.specs.declared.heads.Head as heads
+use Rattle.bytecode.specs.declared.head.Head as heads
 use Rattle.bytecode.specs.Decoded.{Head}
 use Rattle.bytecode.specs.Raw.{Raw, Literal, Move, Store, Binary, Not, Cast, Classify, Fill, At, Put, Size, Cat, Sum, Bits, Declassify, Argument}
 use Rattle.bytecode.specs.Raw.{Publish, Assert, Branch, Jump, Call, Return, ReturnNone, RawFunction, RawCode}

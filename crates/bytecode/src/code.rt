@@ -1,3 +1,6 @@
+// Code in memory.
+ghost use Rattle.std.specs.Prelude.{◌≤◌, length};
+
 use crate::instruction::Instruction;
 use crate::kind::Kind;
 use sc_text::Name;
@@ -13,9 +16,10 @@ pub struct CodeFunction {
     pub parameters: u16,
     /// What the function gives back, if anything.
     pub gives: Option<Kind>,
-    /// The kinds of the registers.
+    /// The kinds of the registers, at most 65,535.
     pub registers: Vec<Kind>,
     pub body: Vec<Instruction>,
+    pub ghost few: { length registers.items ≤ 65535 },
 }
 
 // Written out, so that an early exit calls this once.

@@ -9,7 +9,8 @@ ghost use Rattle.bytecode.specs.inner.Reading.{Reads};
 
 use crate::code::{Code, CodeFunction, MAGIC, VERSION};
 use crate::fault::{DecodeErr, DecodeFault, FaultKind, Stopped};
-use crate::heads::{Head, all_heads};
+use crate::head::Head;
+use crate::heads::all_heads;
 use crate::lists::push;
 use crate::names::all_names;
 use crate::operands::body;

@@ -1,25 +1,17 @@
 // How what stands of functions before their bodies is read.
-ghost use Rattle.std.specs.Prelude.{map};
+ghost use Rattle.std.specs.Prelude.{◌≡◌, length, map, IfOk};
 ghost use Rattle.bytecode.specs.Decoded.{head_layout, heads_layout, kind_layout, repeated};
 ghost use Rattle.bytecode.specs.InMemory.{raw_head};
 ghost use Rattle.bytecode.specs.Layouts.{read};
 ghost use Rattle.bytecode.specs.inner.Reading.{Reads};
 
 use crate::fault::Stopped;
+use crate::head::Head;
 use crate::kind::{Kind, kind_of, return_of};
 use crate::lists::push;
 use crate::reader::Reader;
 use crate::test::Test;
 use std::alloc::Global;
-
-/// What is told of a function before all bodies.
-#[derive(Drop)]
-pub(crate) struct Head {
-    pub(crate) parameters: u16,
-    pub(crate) gives: Option<Kind>,
-    pub(crate) registers: Vec<Kind>,
-    pub(crate) instructions: u16,
-}
 
 fn next_kind(reader: &mut Reader<'_>) -> Result<Kind, Stopped>
     ensures { Reads (λ k. k) (read kind_layout reader.old) result reader.new }
@@ -29,7 +21,8 @@ fn next_kind(reader: &mut Reader<'_>) -> Result<Kind, Stopped>
 }
 
 fn kinds(alloc: Global, reader: &mut Reader<'_>, count: usize) -> Result<Vec<Kind>, Stopped>
-    ensures { Reads (λ v. v.items) (read (repeated kind_layout count) reader.old) result reader.new }
+    ensures reads { Reads (λ v. v.items) (read (repeated kind_layout count) reader.old) result reader.new }
+    ensures exact { IfOk result (λ v. length v.items ≡ count) }
 {
     let mut found = Vec::new(alloc);
     for place in 0..count {

@@ -108,8 +108,9 @@ clash false e f = cc
 pub refused : (r : Raw) → are_short r ≡ false → IsJust TooLarge (instruction_numbers r)
 refused r e = λ h. clash (are_short r) (fits_short r h) e
 
-pub large_parameters : (n : ℕ) (numbers : List Number) → is_short n ≡ false → IsJust TooLarge (short n ∷ numbers)
-large_parameters n numbers e = λ h. clash (is_short n) (fitting n h.0) e
+pub large_head : (f : RawFunction) (numbers : List Number) → is_short f.parameters && is_short (length f.registers) ≡ false
+    → IsJust TooLarge (head_numbers f ++ numbers)
+large_head f numbers e = λ h. clash (is_short f.parameters && is_short (length f.registers)) (two_fitting f.parameters (length f.registers) h.0 h.1.1.0) e
 
 -- ---- REFUSALS OF PARTS
 

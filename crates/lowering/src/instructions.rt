@@ -403,7 +403,7 @@ pub fn function(
     ensures refused { IfErr result (λ e. IsJust e
         (head_numbers (raw_of (texts names.now) (function_seen steps.now)) ++ body_numbers (raw_of (texts names.now) (function_seen steps.now)))) }
 {
-    if !is_short(steps.parameters) {
+    if !are_two_short(steps.parameters, steps.registers.len()) {
         return Err(LowerErr::TooLarge);
     }
     let registers = Vec::from_slice(alloc, &steps.registers)?;

@@ -1,7 +1,7 @@
 use Rattle.std.proofs.Common.{◌∙◌, ◌-◌, ◌+◌, map, ap, sym, Vec, Global}
 use Rattle.std.proofs.lemmas.List.{map-append}
 use Rattle.std.proofs.lemmas.Result.{err_from_is_err_and}
-use Rattle.bytecode.specs.declared.heads.Head.{Head}
+use Rattle.bytecode.specs.declared.head.Head.{Head}
 use Rattle.bytecode.specs.Decoded.{head_layout, heads_layout}
 use Rattle.bytecode.specs.InMemory.{raw_head}
 use Rattle.bytecode.specs.Layouts.{read}
