@@ -1,11 +1,12 @@
 //! Rows of the language that no whole call of the program shows, as lines: the tokens and trees that texts are read as, with the place
-//! of each node, the instances that are checked and reached, typed trees, runs with their gates, in the clear and blind, and tapes that a
-//! view is made of.
+//! of each node, the instances that are checked and reached, typed trees, runs with their gates, in the clear and blind, tapes that a
+//! view is made of, and how many registers code has.
 //!
 //! Each case is a line, made of what the calls answer; a run takes a few. A line costs no proof: the file `stdout` says what must be
 //! printed, worked out by hand. What whole calls show stands in the row files of the crate `rows`.
 #![tactic(auto)]
 
+mod codes;
 mod instances;
 mod mapping;
 mod runs;
@@ -29,6 +30,7 @@ fn told(alloc: Global) -> Result<String, AllocError> {
     values::tell(alloc, &mut lines);
     runs::tell(alloc, &mut lines);
     mapping::tell(alloc, &mut lines);
+    codes::tell(alloc, &mut lines);
     lines.whole()
 }
 
