@@ -76,10 +76,10 @@ module _ (code : RawCode) (entries : List Entry) (t : FourTapes) (budget : ℕ) 
   -- what comes of it from that net
   pub goes_on :
       (net : StreamNet) → with_tapes net (miners_of t) ≡ start → (given : Delivery) (result : Result NetRun CourseErr)
-      → GoesOn given net result (miners_of t) → IsNetRun offer dealing budget (miners_of t) report given result
+      → GoesOn given net result (miners_of t) → IsNetRun offer dealing (settled code) budget (miners_of t) report given result
   goes_on net is given (Ok ran) h =
       has_net_run offer dealing (settled code) budget (miners_of t) report own given (with_tapes ran.net (miners_of t)) ran
       (subst (λ (n : NetState). Delivers given n (with_tapes ran.net (miners_of t)) (Ok tt)) is h.delivers) refl h.may h.told h.delivered
   goes_on net is given (Err e) h =
-      is_refused offer dealing (settled code) budget (miners_of t) report own (HasNetRun offer dealing budget (miners_of t) report given) given h.0 e
+      is_refused offer dealing (settled code) budget (miners_of t) report own (HasNetRun offer dealing (settled code) budget (miners_of t) report given) given h.0 e
       (subst (λ (n : NetState). Delivers given n h.0 (Err e)) is h.1)

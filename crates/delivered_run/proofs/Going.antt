@@ -13,6 +13,7 @@ use Rattle.input_share.specs.declared.entry.ShareEntry.{ShareEntry}
 use Rattle.input_share.specs.declared.dealing.DealErr.{DealErr}
 use Rattle.input_share.specs.declared.dealing.DealErr.TheVariants as refusal
 use Rattle.input_share.specs.declared.dealing.Dealt as sharing
+use Rattle.verified_code.specs.Settled.{settled}
 use Rattle.clear_eval.specs.Offers.{offered}
 use Rattle.typed_tree.specs.Programs.{TypedProgramTree}
 use Rattle.language_model.specs.Reports.{Report}
@@ -115,9 +116,12 @@ module _ (job : Job) (words : List ℕ) (given : Delivery) (files : sharing.Deal
           report_so p accepted job.code.now code entries t sound suffice (are.of_words.miners One) (are.of_words.miners Two) (are.of_words.miners Three) job.budget
 
       ran_so : (r : Result NetRun CourseErr) → RunsDealt job files given r t
-          → IsNetRun (offered entries (lengths_of t)) (dealt_of entries t.dealer) job.budget (miners_of t) (eval_with p entries t job.budget) given r
+          → IsNetRun (offered entries (lengths_of t)) (dealt_of entries t.dealer) (settled job.code.now) job.budget (miners_of t)
+          (eval_with p entries t job.budget) given r
       ran_so r h =
-          subst (λ (x : Report). IsNetRun (offered entries (lengths_of t)) (dealt_of entries t.dealer) job.budget (miners_of t) x given r) means (h are_dealt)
+          subst
+          (λ (x : Report). IsNetRun (offered entries (lengths_of t)) (dealt_of entries t.dealer) (settled job.code.now) job.budget (miners_of t) x given r)
+          means (h are_dealt)
 
   module _ (a b : TapesState) where
     too_few : {P : Type 0} → length words < need_of entries → P
@@ -132,6 +136,8 @@ module _ (job : Job) (words : List ℕ) (given : Delivery) (files : sharing.Deal
                 drew = h.drew;
                 cause = tt;
                 holds = λ t of p accepted code sound are. record {
+                  code = settled job.code.now;
+                  of_program = (job.code.now, code, refl);
                   can = record { sound = sound; suffice = suffice t are; words = are.of_words.miners };
                   file = file_so t are;
                   ran = ran_so t are p accepted code sound (Ok end) (h.holds t of);
@@ -151,7 +157,8 @@ module _ (job : Job) (words : List ℕ) (given : Delivery) (files : sharing.Deal
                 cause = h.cause;
                 holds = λ t of p accepted code sound are.
                     same_err (dealt_of entries t.dealer) (eval_with p entries t job.budget) given
-                    (HasNetRun (offered entries (lengths_of t)) (dealt_of entries t.dealer) job.budget (miners_of t) (eval_with p entries t job.budget) given)
+                    (HasNetRun (offered entries (lengths_of t)) (dealt_of entries t.dealer) (settled job.code.now) job.budget (miners_of t)
+                    (eval_with p entries t job.budget) given)
                     (HasCourse p entries t job.budget given) e (ran_so t are p accepted code sound (Err e) (h.holds t of));
                 still = h.still;
               };

@@ -274,7 +274,7 @@ module _ (job : Job) (files : sharing.Dealt) (given : Delivery) where
         cause = cause_so a b why h.err;
         holds = λ t of are.
             lost_so NetRun (dealt_of job.inputs.now t.dealer) (code_report job.code.now job.inputs.now t job.budget) given
-            (HasNetRun (offered job.inputs.now (lengths_of t)) (dealt_of job.inputs.now t.dealer) job.budget (miners_of t)
+            (HasNetRun (offered job.inputs.now (lengths_of t)) (dealt_of job.inputs.now t.dealer) (settled job.code.now) job.budget (miners_of t)
             (code_report job.code.now job.inputs.now t job.budget) given) why;
         still = h.still;
       }

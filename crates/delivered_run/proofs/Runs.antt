@@ -136,12 +136,11 @@ module _ (o : Offered) (d : Dealt) (c : List Function) (budget : ℕ) (tapes : T
 
   -- ---- ANSWERS
 
-  at_its_end : (given : Delivery) (then : NetState) → Delivers given at_first then (Ok tt) → IsAtItsEnd o d budget tapes r given then
+  at_its_end : (given : Delivery) (then : NetState) → Delivers given at_first then (Ok tt) → IsAtItsEnd o d c budget tapes r given then
   at_its_end given then h =
       let links = delivered_for d r given in
       let all = came given then h in
       record {
-        code = c;
         own = run;
         going = going links then all;
         steps = budget_so links then all;
@@ -150,7 +149,7 @@ module _ (o : Offered) (d : Dealt) (c : List Function) (budget : ℕ) (tapes : T
       }
 
   pub has_net_run : (given : Delivery) (then : NetState) (ran : NetRun) → Delivers given at_first then (Ok tt) → with_tapes ran.net tapes ≡ then
-      → MayHave ran.net tapes → HasTold then ran.run.report → ran.run.delivered.items ≡ then.delivered → HasNetRun o d budget tapes r given ran
+      → MayHave ran.net tapes → HasTold then ran.run.report → ran.run.delivered.items ≡ then.delivered → HasNetRun o d c budget tapes r given ran
   has_net_run given then ran h stands may told delivered = record {
     run = record {
       accepted = accepted given then h;
@@ -158,7 +157,7 @@ module _ (o : Offered) (d : Dealt) (c : List Function) (budget : ℕ) (tapes : T
       delivered = delivered ∙ delivered_so (delivered_for d r given) then (came given then h);
     };
     may = may;
-    net = subst (IsAtItsEnd o d budget tapes r given) (sym stands) (at_its_end given then h);
+    net = subst (IsAtItsEnd o d c budget tapes r given) (sym stands) (at_its_end given then h);
   }
 
   refused_listed : (links : List Link) (answer : Answer) → net_walked at_first links ≡ answer → net_for d r (Listed links) ≡ answer

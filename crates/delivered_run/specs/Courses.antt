@@ -12,9 +12,12 @@ use Rattle.input_share.specs.ShareFile.{MinerFile}
 use Rattle.input_share.specs.declared.dealing.Dealt as sharing
 use Rattle.language_model.specs.Reports.{Offered, Report}
 use Rattle.clear_eval.specs.Offers.{offered}
+use Rattle.bytecode.specs.Raw.{RawCode}
+use Rattle.verified_code.specs.Settled.{settled}
 use Rattle.verified_code.specs.Steps.{Function}
 use Rattle.view_model.specs.TapeMaps.{miners_of}
 use Rattle.told_events.specs.Dealt.{Dealt}
+use Rattle.program_run.specs.Codes.{IsCodeOf}
 use Rattle.program_run.specs.Inputs.{dealt_of}
 use Rattle.told_events.specs.Runs.{messages}
 use Rattle.program_run.specs.Dealt.{CanBeDealt}
@@ -29,17 +32,16 @@ use Rattle.delivered_run.specs.declared.running.DeliveredRun.{DeliveredRun}
 use Rattle.delivered_run.specs.declared.running.NetRun.{NetRun}
 use Rattle.delivered_run.specs.Deliveries.{HasRun, HasRunOf, IsOr, IsOrRefused, delivered_for}
 
--- ---- three miners with code, by what was offered and dealt, and the report of the run in the clear
+-- ---- three miners with this code, by what was offered and dealt, and the report of the run in the clear
 
-module _ (o : Offered) (d : Dealt) (budget : ℕ) (tapes : Tapes) (r : Report) where
-  -- they run code as the report says, and each has done all of its part, with all messages of the run
+module _ (o : Offered) (d : Dealt) (c : List Function) (budget : ℕ) (tapes : Tapes) (r : Report) where
+  -- they run the code as the report says, and each has done all of its part, with all messages of the run
   pub record IsAtItsEnd (given : Delivery) (net : NetState) : Type 0 where
-    pub code : List Function
-    pub own : OwnRunAsReported o d code budget tapes r
+    pub own : OwnRunAsReported o d c budget tapes r
     pub going : net.lost ≡ false
     pub steps : net.budget ≡ budget
     pub delivered : net.delivered ≡ delivered_for d r given
-    pub node : (i : Number) → net_node net i ≡ run_of (own_nodes o d code budget tapes) (messages d r tapes) i
+    pub node : (i : Number) → net_node net i ≡ run_of (own_nodes o d c budget tapes) (messages d r tapes) i
 
   -- these are tapes that the net may have, with which it is so
   pub record HasNetRun (given : Delivery) (ran : NetRun) : Type 0 where
@@ -53,6 +55,10 @@ module _ (o : Offered) (d : Dealt) (budget : ℕ) (tapes : Tapes) (r : Report) w
 
 -- ---- of a program
 
+-- a function for each instance that the program reaches, as the miners run them
+abbrev pub IsSettledOf : TypedProgramTree → List Function → Type 0
+IsSettledOf p c = (raw : RawCode) × IsCodeOf p raw × (c ≡ settled raw)
+
 abbrev pub file_of : sharing.Dealt → Number → MinerFile
 file_of files i = by_number files.first files.second files.third i
 
@@ -62,11 +68,14 @@ run_told (course.Dealt files end) = end.run
 run_told (course.Undealt run) = run
 
 module _ (p : TypedProgramTree) (entries : List Entry) (t : FourTapes) (budget : ℕ) (given : Delivery) where
-  -- the inputs are dealt in these files, with which the miners have run
+  -- the inputs are dealt in these files, with which the miners have run the program's code
   pub record IsDealtRun (files : sharing.Dealt) (end : NetRun) : Type 0 where
+    pub code : List Function
+    pub of_program : IsSettledOf p code
     pub can : CanBeDealt entries t
     pub file : (i : Number) → file_of files i ≡ dealt i entries t.dealer (lengths_of t)
-    pub ran : HasNetRun (offered entries (lengths_of t)) (dealt_of entries t.dealer) budget (miners_of t) (eval_with p entries t budget) given end
+    pub ran :
+        HasNetRun (offered entries (lengths_of t)) (dealt_of entries t.dealer) code budget (miners_of t) (eval_with p entries t budget) given end
 
   -- the dealer's tape is too short
   pub record IsUndealtRun (run : DeliveredRun) : Type 0 where

@@ -159,7 +159,7 @@ pub record AreDealt (job : Job) (files : sharing.Dealt) (t : FourTapes) : Type 0
 abbrev pub RunsDealt : Job → sharing.Dealt → Delivery → (result : Result NetRun CourseErr) → FourTapes → Type 0
 RunsDealt job files given result t =
     AreDealt job files t
-    → IsNetRun (offered job.inputs.now (lengths_of t)) (dealt_of job.inputs.now t.dealer) job.budget (miners_of t)
+    → IsNetRun (offered job.inputs.now (lengths_of t)) (dealt_of job.inputs.now t.dealer) (settled job.code.now) job.budget (miners_of t)
     (code_report job.code.now job.inputs.now t job.budget) given result
 
 -- ---- the run

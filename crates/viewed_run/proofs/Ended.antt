@@ -77,10 +77,10 @@ module _ (p : TypedProgramTree) (entries : List Entry) (t : FourTapes) (budget :
   abbrev net : NetState
   net = with_tapes ended.net (miners_of t)
 
-  abbrev end : IsAtItsEnd (offered entries (lengths_of t)) d budget (miners_of t) r given net
+  abbrev end : IsAtItsEnd (offered entries (lengths_of t)) d h.code budget (miners_of t) r given net
   end = h.ran.net
 
-  abbrev run : OwnRunAsReported (offered entries (lengths_of t)) d (end).code budget (miners_of t) r
+  abbrev run : OwnRunAsReported (offered entries (lengths_of t)) d h.code budget (miners_of t) r
   run = (end).own
 
   left_so : (i : Number) → StopsAt (net_node net i).left (run).turns.last
