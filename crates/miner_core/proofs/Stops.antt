@@ -1,13 +1,16 @@
 -- Where a miner has ended, by what its engine holds.
-use Rattle.std.proofs.Common.{◌≡◌, ℕ, List, [], Option, Some, refl, sym, ◌∙◌, ap}
+use Rattle.std.proofs.Common.{◌≡◌, ◌-◌, ℕ, List, [], Option, Some, None, refl, sym, ◌∙◌, ap}
+use Rattle.sc_text.specs.declared.end.Ending.{Ending}
 use Rattle.proto_core.specs.declared.party.Number.{Number}
 use Rattle.proto_core.specs.declared.refused.BadMessage.{BadMessage}
 use Rattle.proto_core.specs.Strand.{Strand, Ends, Acts, Waits, then_do}
 use Rattle.gates.specs.Clear.{Values}
-use Rattle.value_steps.specs.Views.{stage_seen}
+use Rattle.shared_gates.specs.Model.{miner_of}
+use Rattle.value_steps.specs.Views.{stage_seen, drawn_seen}
 use Rattle.code_machine.specs.Views.{machine_seen}
-use Rattle.code_turns.specs.Places.{Place, place, telling_stage}
-use Rattle.driven_nodes.specs.Steps.{Stopped}
+use Rattle.code_turns.specs.Dealt.{drawn_by}
+use Rattle.code_turns.specs.Places.{Place, place}
+use Rattle.driven_nodes.specs.Steps.{Running, Stopped, Short}
 use Rattle.block_steps.specs.declared.links.Links.{Links}
 use Rattle.block_steps.specs.Outcomes.{Outcome, StandsAt}
 use Rattle.gate_node.specs.OwnGates.{Halted}
@@ -17,46 +20,81 @@ use Rattle.miner_core.specs.declared.engine.At.TheVariants as at
 use Rattle.miner_core.specs.declared.engine.Engine.{Engine}
 use Rattle.miner_core.specs.declared.rest.Rest.{Rest}
 use Rattle.miner_core.specs.declared.rest.Rest.TheVariants.{Through, Waits as AtWait, Stuck as AtStuck}
-use Rattle.code_machine.specs.Besides.{with_gates}
 use Rattle.own_code.specs.EarlierGates.{place_with_gates}
-use Rattle.own_code.specs.OwnCode.{Ended, Reached}
-use Rattle.miner_core.specs.Engines.{behind_node, ended_by, engine_left, forgetting, goes_on_at, IsOver, Rests}
-use Rattle.miner_core.specs.Story.{Story, Follows, AtStop}
+use Rattle.own_code.specs.OwnCode.{Ended, Reached, Unfit}
+use Rattle.miner_core.specs.Engines.{behind_node, ended_by, ending_at, engine_left, forgetting, goes_on_at, if_ended, IsOver, Rests}
+use Rattle.miner_core.specs.Story.{Story, Follows, at_stop_or, ending_in, cost_in, drawn_in}
+use Rattle.miner_core.specs.Story as story
 use Rattle.miner_core.proofs.Stories.{stuck_ends}
 
--- the engine's place, at its end, whatever its gates are
-pub record IsThere {P : Type 0} (e : Engine P) (a : At) (p : Place) : Type 0 where
-  pub stage : with_gates [] p.stage ≡ with_gates [] (telling_stage [] (stage_seen e.stage))
-  pub ended : p.ended ≡ ended_by a
+-- ---- what is read off a place, whatever its gates are
 
-module _ (i : Number) where
-  no_end :
-      (l : Links) (cause : Option BadMessage) (f : Halted → Strand Ended) (s : Strand Halted) → StandsAt i l cause s →
-      (x : Ended) → forgetting (then_do s f) ≡ Ends x → ⊥
-  no_end l cause f (Ends a) h x is = h
-  no_end l cause f (Acts a s) h x is = h
-  no_end l cause f (Waits k shape g) h x is = cc
+module _ {A : Type 0} (other : A) (f : Place → A) (ignores : (p : Place) → f (place_with_gates [] p) ≡ f p) where
+  -- the same where values were let go, and gates
+  forgetting_reads : (s : Strand Ended) → at_stop_or other f (forgetting s) ≡ at_stop_or other f s
+  forgetting_reads (Ends (Reached (Stopped p) values)) = ignores p
+  forgetting_reads (Ends (Reached (Running p) values)) = refl
+  forgetting_reads (Ends (Reached (Short p) values)) = refl
+  forgetting_reads (Ends Unfit) = refl
+  forgetting_reads (Acts a s) = refl
+  forgetting_reads (Waits l shape k) = refl
 
-module _ {P : Type 0} (i : Number) where
-  over_at : (e : Engine P) (a : At) (vs : Values) (tape : List ℕ) → IsOver i e a → (p : Place) (values : Values) →
-      forgetting (goes_on_at i e a vs tape) ≡ forgetting (Ends (Reached (Stopped p) values)) → IsThere e a p
-  over_at e at.Ready vs tape h p values is = absurd (running_on (ap (λ k. forgetting (goes_on_at i (record e { fuel = k }) at.Ready vs tape)) (sym h) ∙ is))
+  -- nothing is, where a message is awaited
+  waits_reads : (i : Number) (l : Links) (cause : Option BadMessage) (g : Halted → Strand Ended) (s : Strand Halted) → StandsAt i l cause s →
+      at_stop_or other f (then_do s g) ≡ other
+  waits_reads i l cause g (Ends a) h = absurd h
+  waits_reads i l cause g (Acts a s) h = absurd h
+  waits_reads i l cause g (Waits k shape c) h = refl
+
+  module _ {P : Type 0} (i : Number) where
+    -- read off the engine's place
+    abbrev pub read_off : Engine P → Option Ending → A
+    read_off e None = other
+    read_off e (Some ending) = f (place (Some ending) (machine_seen e.task.code e.machine) (stage_seen e.stage))
+
+    over_reads : (e : Engine P) (a : At) (values : Values) (tape : List ℕ) → IsOver i e a →
+        at_stop_or other f (goes_on_at i e a values tape) ≡ read_off e (ended_by a)
+    over_reads e at.Ready values tape h = ap (λ k. at_stop_or other f (goes_on_at i (record e { fuel = k }) at.Ready values tape)) h
+    over_reads e at.Again values tape h = absurd h
+    over_reads e (at.Acts t speech before) values tape h = absurd h
+    over_reads e (at.Over ending) values tape h = refl
+    over_reads e at.Short values tape h = refl
+
+    rest_reads : (e : Engine P) (r : Rest) → Rests i r e → at_stop_or other f (engine_left i e) ≡ read_off e (ending_at r e.at)
+    rest_reads e Through h =
+        ap (λ s. at_stop_or other f (then_do s (behind_node i e e.at))) h.node ∙ over_reads e e.at e.node.values e.node.tape.1 (h.over refl)
+    rest_reads e AtStuck h = ap (at_stop_or other f) (stuck_ends i e h)
+    rest_reads e (AtWait link cause) h = waits_reads i e.node.links cause (behind_node i e e.at) (node.engine_left i e.node) h.node.0
+
+    pub stop_is : (e : Engine P) (r : Rest) (s : Story) → Follows i e s → Rests i r e →
+        at_stop_or other f (story.node i s).left ≡ read_off e (ending_at r e.at)
+    stop_is e r s follows rests =
+        sym (forgetting_reads (story.node i s).left)
+        ∙ ap (λ (o : Outcome Ended). at_stop_or other f o.left) (sym follows.same)
+        ∙ forgetting_reads (engine_left i e)
+        ∙ rest_reads e r rests
+
+-- ---- how the run has ended, its cost, and the words that it has drawn
+
+module _ {P : Type 0} (i : Number) (e : Engine P) (r : Rest) (s : Story) (follows : Follows i e s) (rests : Rests i r e) where
+  pub ending_is : ending_in i s ≡ ending_at r e.at
+  ending_is = stop_is None (λ p. p.ended) (λ p. refl) i e r s follows rests ∙ same (ending_at r e.at)
     where
-      running_on : forgetting (goes_on_at i (record e { fuel = 0 }) at.Ready vs tape) ≡ forgetting (Ends (Reached (Stopped p) values)) → ⊥
-      running_on e = cc
-  over_at e at.Again vs tape h p values is = absurd h
-  over_at e (at.Acts t speech before) vs tape h p values is = absurd h
-  over_at e (at.Over ending) vs tape h p values is =
-      let here : place_with_gates [] p ≡ place_with_gates [] (place (Some ending) (machine_seen e.task.code e.machine) (stage_seen e.stage)) = cc in
-      record { stage = ap (λ q. q.stage) here; ended = ap (λ q. q.ended) here }
-  over_at e at.Short vs tape h p values is = absurd cc
+      same : (o : Option Ending) → read_off None (λ p. p.ended) (λ p. refl) i e o ≡ o
+      same None = refl
+      same (Some ending) = refl
 
-  stage_at : (e : Engine P) (s : Rest) → Rests i s e → (p : Place) (values : Values) →
-      forgetting (engine_left i e) ≡ forgetting (Ends (Reached (Stopped p) values)) → IsThere e e.at p
-  stage_at e Through h p values is =
-      over_at e e.at e.node.values e.node.tape.1 (h.over refl) p values (sym (ap (λ s. forgetting (then_do s (behind_node i e e.at))) h.node) ∙ is)
-  stage_at e AtStuck h p values is = let wrong = sym (ap forgetting (stuck_ends i e h)) ∙ is in absurd cc
-  stage_at e (AtWait link cause) h p values is = absurd (no_end i e.node.links cause (behind_node i e e.at) (node.engine_left i e.node) h.node.0 _ is)
+  pub cost_is : cost_in i s ≡ if_ended (ending_at r e.at) (s.budget - e.stage.left)
+  cost_is = stop_is 0 (λ p. s.budget - p.stage.left) (λ p. refl) i e r s follows rests ∙ same (ending_at r e.at)
+    where
+      same : (o : Option Ending) → read_off 0 (λ p. s.budget - p.stage.left) (λ p. refl) i e o ≡ if_ended o (s.budget - e.stage.left)
+      same None = refl
+      same (Some ending) = refl
 
-  pub stop_at : (e : Engine P) (rest : Rest) (s : Story) → Follows i e s → Rests i rest e → AtStop i s (IsThere e e.at)
-  stop_at e rest s f h p values is = stage_at e rest h p values (ap (λ (o : Outcome Ended). o.left) f.same ∙ ap forgetting is)
+  pub drawn_is : drawn_in i s ≡ if_ended (ending_at r e.at) (drawn_by (drawn_seen e.stage.drawn) (miner_of i))
+  drawn_is = stop_is 0 (λ p. drawn_by p.stage.drawn (miner_of i)) (λ p. refl) i e r s follows rests ∙ same (ending_at r e.at)
+    where
+      same : (o : Option Ending) → read_off 0 (λ p. drawn_by p.stage.drawn (miner_of i)) (λ p. refl) i e o
+          ≡ if_ended o (drawn_by (drawn_seen e.stage.drawn) (miner_of i))
+      same None = refl
+      same (Some ending) = refl

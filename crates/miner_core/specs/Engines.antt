@@ -204,13 +204,24 @@ led_to turned.On = at.Ready
 led_to (turned.Over ending) = at.Over ending
 led_to turned.Short = at.Short
 
--- how the run has ended, if it has
+-- how the run has ended, if it has, with its gates through
 abbrev pub ended_by : At → Option Ending
 ended_by at.Ready = None
 ended_by at.Again = None
 ended_by (at.Acts t speech before) = None
 ended_by (at.Over ending) = Some ending
 ended_by at.Short = None
+
+-- how the run has ended that rests so, if it has
+abbrev pub ending_at : Rest → At → Option Ending
+ending_at rest.Through a = ended_by a
+ending_at (rest.Waits link cause) a = None
+ending_at rest.Stuck a = None
+
+-- a number of a run that has ended; 0 while it has not
+abbrev pub if_ended : Option Ending → ℕ → ℕ
+if_ended None n = 0
+if_ended (Some ending) n = n
 
 -- how the run ends that has come so far, with its gates through
 abbrev pub end_by : At → End

@@ -1,17 +1,21 @@
 -- One miner, by what it was made with and what it received: all that it has done is a function of these.
-use Rattle.std.specs.Prelude.{◌≡◌, ℕ, Bool, true, false, if◌then◌else◌, List, [], ◌∷◌, ◌++◌, map, Some, Result, Ok, Err}
+use Rattle.std.specs.Prelude.{◌≡◌, ℕ, ◌-◌, Bool, true, false, if◌then◌else◌, List, [], ◌∷◌, ◌++◌, map, Option, Some, None, Result, Ok, Err}
+use Rattle.std.specs.List.{flat_map}
+use Rattle.sc_text.specs.declared.end.Ending.{Ending}
 use Rattle.proto_core.specs.declared.party.Number.{Number}
 use Rattle.proto_core.specs.declared.link.Link.{Link}
 use Rattle.proto_core.specs.Parties.{to_next, to_previous, from_previous}
-use Rattle.proto_core.specs.Strand.{Notice, same_link, Mail, Strand, Ends, Acts, Waits, Ran, run, on_link, opened_in, told_in}
+use Rattle.proto_core.specs.Strand.{Notice, Shown, Published, Handed, same_link, Mail, Strand, Ends, Acts, Waits, Ran, run, on_link, opened_in, told_in}
 use Rattle.proto_core.specs.Net.{mail_of}
 use Rattle.proto_core.specs.Standing.{Standing, AtItsEnd, Awaits, Refuses, standing_with, standing_of}
 use Rattle.gates.specs.Clear.{Values}
+use Rattle.shared_gates.specs.Model.{miner_of}
 use Rattle.language_model.specs.Effects.{World}
 use Rattle.verified_code.specs.Steps.{Function}
 use Rattle.code_machine.specs.Meaning.{fuel}
 use Rattle.driven_nodes.specs.Steps.{Running, Stopped, Short}
 use Rattle.code_turns.specs.Places.{Place, first_place}
+use Rattle.code_turns.specs.Dealt.{drawn_by}
 use Rattle.block_steps.specs.Outcomes.{Outcome, outcome, mail_left}
 use Rattle.miner_core.specs.declared.answer.End.{End}
 use Rattle.miner_core.specs.declared.answer.End.TheVariants as end
@@ -65,8 +69,38 @@ has_opened i s = opened_in (node i s).acts
 abbrev pub has_told : Number → Story → List Notice
 has_told i s = told_in (node i s).acts
 
+-- the words that were opened, by what it tells of a value: those of a truth value are 0 and 1
+abbrev pub shown_by : Notice → List ℕ
+shown_by (Shown form words) = words
+shown_by (Published name form words) = []
+shown_by (Handed name form words) = []
+
+abbrev pub has_shown : Number → Story → List ℕ
+has_shown i s = flat_map shown_by (has_told i s)
+
 abbrev pub stands_at : Number → Story → Standing
 stands_at i s = standing_of (node i s)
+
+-- ---- where it has ended
+
+-- what is read off the place at which the run has ended; else, also while it waits, this
+abbrev pub at_stop_or : {A : Type 0} → A → (Place → A) → Strand Ended → A
+at_stop_or other f (Ends (Reached (Stopped p) values)) = f p
+at_stop_or other f (Ends (Reached (Running p) values)) = other
+at_stop_or other f (Ends (Reached (Short p) values)) = other
+at_stop_or other f (Ends Unfit) = other
+at_stop_or other f (Acts a s) = other
+at_stop_or other f (Waits l shape k) = other
+
+-- how the run has ended, if it has; what it has cost, and how many words of the miner's tape it has drawn: 0 while it has not ended
+abbrev pub ending_in : Number → Story → Option Ending
+ending_in i s = at_stop_or None (λ p. p.ended) (node i s).left
+
+abbrev pub cost_in : Number → Story → ℕ
+cost_in i s = at_stop_or 0 (λ p. s.budget - p.stage.left) (node i s).left
+
+abbrev pub drawn_in : Number → Story → ℕ
+drawn_in i s = at_stop_or 0 (λ p. drawn_by p.stage.drawn (miner_of i)) (node i s).left
 
 -- what holds of the place at which it has ended, where that is one of the run
 abbrev pub AtStop : Number → Story → (Place → Type 0) → Type 0

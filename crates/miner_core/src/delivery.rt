@@ -3,7 +3,7 @@ ghost use Rattle.std.specs.Prelude.{◌≡◌, ◌++◌, ℕ, List, true, false,
 ghost use Rattle.outside.specs.Tapes.{TapesState};
 ghost use Rattle.block_steps.specs.Outcomes.{mail_left};
 ghost use Rattle.miner_core.specs.Drawing.{Draws, Delivers, IsAtItsEnd};
-ghost use Rattle.miner_core.specs.Engines.{engine_left, ended_by, end_by, with_words, IsSoundAlways, Rests};
+ghost use Rattle.miner_core.specs.Engines.{engine_left, ended_by, ending_at, end_by, with_words, IsSoundAlways, Rests};
 ghost use Rattle.miner_core.specs.Story.{Story, Follows, Leads, story_of, received, start_of, IsAnswerOf};
 ghost use Rattle.miner_core.specs.Streams.{settled, IsOfMessage};
 
@@ -105,13 +105,23 @@ impl<P: Party> Engine<P> {
         }
     }
 
-    /// How the run has ended, if it has.
-    pub fn ending(&self) -> Option<Ending>
+    /// How the run has ended, if it has, where all gates are through.
+    fn over(&self) -> Option<Ending>
         ensures { result ≡ ended_by self.now.at }
     {
         match &self.at {
             At::Over(ending) => Some(*ending),
             At::Ready | At::Again | At::Acts { .. } | At::Short => None,
+        }
+    }
+
+    /// How the run has ended that rests so, if it has.
+    pub fn ending(&self, rest: Rest) -> Option<Ending>
+        ensures { result ≡ ending_at rest self.now.at }
+    {
+        match rest {
+            Rest::Through => self.over(),
+            Rest::Waits(..) | Rest::Stuck => None,
         }
     }
 

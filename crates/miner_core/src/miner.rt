@@ -1,9 +1,8 @@
-ghost use Rattle.std.specs.Prelude.{◌≡◌, ◌-◌, [], map, true, false, None, IfOk, Err};
+ghost use Rattle.std.specs.Prelude.{◌≡◌, [], map, true, false, None, IfOk, Err};
 ghost use Rattle.proto_core.specs.Parties.{receiver_of};
 ghost use Rattle.proto_core.specs.Standing.{AtItsEnd};
-ghost use Rattle.code_turns.specs.Dealt.{drawn_by};
-ghost use Rattle.shared_gates.specs.Model.{miner_of};
-ghost use Rattle.miner_core.specs.Story.{sent_to_next, sent_to_previous, has_opened, has_told, stands_at, AtStop, IsAnswer, DeliverAnswers};
+ghost use Rattle.miner_core.specs.Story.{sent_to_next, sent_to_previous, has_shown, has_told, stands_at, ending_in, cost_in, drawn_in, IsAnswer};
+ghost use Rattle.miner_core.specs.Story.{DeliverAnswers};
 ghost use Rattle.miner_core.specs.Streams.{story_so_far};
 ghost use Rattle.miner_core.specs.Views.{task_world, task_code, notice_seen};
 ghost use Rattle.miner_core.specs.declared.answer.MinerErr.TheVariants.{Memory, NotAwaited};
@@ -112,23 +111,23 @@ impl<P: Party> Miner<P> {
         of_whole(self.inner.stands())
     }
 
-    /// How the run has ended, of a miner that has ended where the run does.
+    /// How the run has ended; `None` while it has not, as where the miner waits or has refused a message.
     pub fn ending(&self) -> Option<Ending>
-        ensures { self.now.lost ≡ false → AtStop P.me self.now (λ p. result ≡ p.ended) }
+        ensures { self.now.lost ≡ false → result ≡ ending_in P.me self.now }
     {
         self.inner.ending()
     }
 
-    /// What the run has cost, of such a miner.
+    /// What the run has cost; 0 while it has not ended.
     pub fn cost(&self) -> u64
-        ensures { self.now.lost ≡ false → AtStop P.me self.now (λ p. result ≡ self.now.budget - p.stage.left) }
+        ensures { self.now.lost ≡ false → result ≡ cost_in P.me self.now }
     {
         self.inner.cost()
     }
 
-    /// How many words of its tape the run has drawn, of such a miner.
+    /// How many words of its tape the run has drawn; 0 while it has not ended.
     pub fn drawn(&self) -> u64
-        ensures { self.now.lost ≡ false → AtStop P.me self.now (λ p. result ≡ drawn_by p.stage.drawn (miner_of P.me)) }
+        ensures { self.now.lost ≡ false → result ≡ drawn_in P.me self.now }
     {
         self.inner.drawn()
     }
@@ -147,11 +146,12 @@ impl<P: Party> Miner<P> {
         self.inner.sent_to_previous()
     }
 
-    /// The words that were opened, one after another.
-    pub fn opened(&self) -> &[u64]
-        ensures { self.now.lost ≡ false → result.now ≡ has_opened P.me self.now }
+    /// The words of the values that it has told as opened, one value after another; those of a truth value are 0 and 1.
+    pub fn opened(&self, alloc: Global) -> Result<Vec<u64>, AllocError>
+        ensures { IfOk result (λ words. self.now.lost ≡ false → words.items ≡ has_shown P.me self.now) }
     {
-        self.inner.opened()
+        let words = self.inner.opened(alloc)?;
+        Ok(words)
     }
 
     /// What it has told, in order.

@@ -1,6 +1,8 @@
 // What a miner tells.
 ghost use Rattle.std.specs.Prelude.{◌≡◌, ◌++◌, IfOk, OnOk, map};
+ghost use Rattle.std.specs.List.{flat_map};
 ghost use Rattle.code_turns.specs.Views.{speech_seen};
+ghost use Rattle.miner_core.specs.Story.{shown_by};
 ghost use Rattle.miner_core.specs.Views.{notice_seen, if_any, told_since};
 
 use code_turns::{Speech, Told, words_behind};
@@ -103,4 +105,37 @@ pub(crate) fn tell(
         notices.push(notice)?;
     }
     Ok(())
+}
+
+// The words that a notice shows, if it tells of an opening, as further ones.
+fn add_shown(words: &mut Vec<u64>, notice: &Notice) -> Result<(), AllocError>
+    ensures { OnOk result (words.new.items ≡ words.old.items ++ shown_by (notice_seen notice.now)) }
+{
+    match notice {
+        Notice::Shown {
+            shape: _,
+            words: shown,
+        } => words.extend_from_slice(shown),
+        Notice::Published {
+            name: _,
+            shape: _,
+            words: _,
+        } => Ok(()),
+        Notice::Handed {
+            name: _,
+            shape: _,
+            words: _,
+        } => Ok(()),
+    }
+}
+
+/// The words that were opened, one value after another, by what was told.
+pub(crate) fn shown_words(alloc: Global, notices: &[Notice]) -> Result<Vec<u64>, AllocError>
+    ensures { IfOk result (λ words. words.items ≡ flat_map shown_by (map notice_seen notices.now)) }
+{
+    let mut words = Vec::new(alloc);
+    for notice in notices {
+        add_shown(&mut words, notice)?;
+    }
+    Ok(words)
 }

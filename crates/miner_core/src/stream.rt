@@ -1,5 +1,5 @@
 // A miner that draws its tape from a source.
-ghost use Rattle.std.specs.Prelude.{◌≡◌, ◌-◌, [], map, true, None, Err, IfOk, IfSome};
+ghost use Rattle.std.specs.Prelude.{◌≡◌, [], map, true, None, Err, IfOk, IfSome};
 ghost use Rattle.outside.specs.Tapes.{TapesState};
 ghost use Rattle.proto_core.specs.Parties.{receiver_of};
 ghost use Rattle.proto_core.specs.Standing.{AtItsEnd};
@@ -7,7 +7,8 @@ ghost use Rattle.code_turns.specs.Dealt.{drawn_by};
 ghost use Rattle.value_steps.specs.Views.{drawn_seen};
 ghost use Rattle.shared_gates.specs.Model.{miner_of};
 ghost use Rattle.miner_core.specs.Drawing.{left_for, Draws};
-ghost use Rattle.miner_core.specs.Story.{sent_to_next, sent_to_previous, has_opened, has_told, stands_at, AtStop, IsAnswer};
+ghost use Rattle.miner_core.specs.Story.{sent_to_next, sent_to_previous, has_shown, has_told, stands_at, ending_in, cost_in, drawn_in, IsAnswer};
+ghost use Rattle.miner_core.specs.Engines.{if_ended};
 ghost use Rattle.miner_core.specs.Streams.{settled, ForEachTape, IsMade, Answers};
 ghost use Rattle.miner_core.specs.Views.{notice_seen};
 ghost use Rattle.miner_core.specs.declared.answer.StreamErr.TheVariants as error;
@@ -15,14 +16,14 @@ ghost use Rattle.miner_core.specs.declared.answer.StreamErr.TheVariants as error
 use crate::answer::{Lost, Step, StreamErr};
 use crate::drawing::words_left;
 use crate::engine::Engine;
-use crate::notice::Notice;
+use crate::notice::{Notice, shown_words};
 use crate::rest::Rest;
 use crate::task::Task;
 use gates::Values;
 use outside::TapeSource;
 use proto_core::{Link, Messages, Msg, Number, Party};
 use sc_text::Ending;
-use std::alloc::Global;
+use std::alloc::{AllocError, Global};
 use std::marker::Model;
 use value_steps::Drawn;
 
@@ -74,6 +75,16 @@ fn drawn_of(drawn: Drawn, miner: Number) -> u64
         Number::One => drawn.first,
         Number::Two => drawn.second,
         Number::Three => drawn.third,
+    }
+}
+
+// A number of a run that has ended; 0 while it has not.
+fn if_ended(ending: Option<Ending>, number: u64) -> u64
+    ensures { result ≡ if_ended ending number }
+{
+    match ending {
+        Some(_) => number,
+        None => 0,
     }
 }
 
@@ -168,25 +179,31 @@ impl<P: Party> StreamMiner<P> {
         self.engine.answer(self.rest)
     }
 
-    /// How the run has ended, of a miner that has ended where the run does.
+    /// How the run has ended; `None` while it has not, as where the miner waits or has refused a message.
     pub fn ending(&self) -> Option<Ending>
-        ensures { ForEachTape self.now (λ s. AtStop P.me s (λ p. result ≡ p.ended)) }
+        ensures { ForEachTape self.now (λ s. result ≡ ending_in P.me s) }
     {
-        self.engine.ending()
+        self.engine.ending(self.rest)
     }
 
-    /// What the run has cost, of such a miner.
+    /// What the run has cost; 0 while it has not ended.
     pub fn cost(&self) -> u64
-        ensures { ForEachTape self.now (λ s. AtStop P.me s (λ p. result ≡ self.now.story.budget - p.stage.left)) }
+        ensures { ForEachTape self.now (λ s. result ≡ cost_in P.me s) }
     {
-        self.budget.saturating_sub(self.engine.stage.left)
+        if_ended(
+            self.engine.ending(self.rest),
+            self.budget.saturating_sub(self.engine.stage.left),
+        )
     }
 
-    /// How many words of its tape the run has drawn, of such a miner.
+    /// How many words of its tape the run has drawn; 0 while it has not ended.
     pub fn drawn(&self) -> u64
-        ensures { ForEachTape self.now (λ s. AtStop P.me s (λ p. result ≡ drawn_by p.stage.drawn (miner_of P.me))) }
+        ensures { ForEachTape self.now (λ s. result ≡ drawn_in P.me s) }
     {
-        drawn_of(self.engine.stage.drawn, P::number())
+        if_ended(
+            self.engine.ending(self.rest),
+            drawn_of(self.engine.stage.drawn, P::number()),
+        )
     }
 
     /// The words of its tape that it has drawn, in order.
@@ -210,11 +227,12 @@ impl<P: Party> StreamMiner<P> {
         self.engine.node.links().to_previous()
     }
 
-    /// The words that were opened, one after another.
-    pub fn opened(&self) -> &[u64]
-        ensures { ForEachTape self.now (λ s. result.now ≡ has_opened P.me s) }
+    /// The words of the values that it has told as opened, one value after another; those of a truth value are 0 and 1.
+    pub fn opened(&self, alloc: Global) -> Result<Vec<u64>, AllocError>
+        ensures { IfOk result (λ words. ForEachTape self.now (λ s. words.items ≡ has_shown P.me s)) }
     {
-        self.engine.node.links().opened()
+        let words = shown_words(alloc, &self.engine.notices)?;
+        Ok(words)
     }
 
     /// What it has told, in order.

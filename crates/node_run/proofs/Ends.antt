@@ -8,7 +8,8 @@ use Rattle.proto_core.specs.Strand.{Act, Strand, Ends}
 use Rattle.driven_nodes.specs.Steps.{Running, Stopped, Short}
 use Rattle.own_code.specs.OwnCode.{Ended, Reached, Unfit}
 use Rattle.miner_core.specs.declared.answer.End.TheVariants as over
-use Rattle.miner_core.specs.Story.{Story, AtStop, IsEnd, HasEnded, node}
+use Rattle.miner_core.specs.Places.{Place}
+use Rattle.miner_core.specs.Story.{Story, at_stop_or, cost_in, IsEnd, HasEnded, node}
 use Rattle.miner_node.specs.Peers.{Sends}
 use Rattle.miner_node.specs.Serving.{bytes_to_next, bytes_to_previous}
 use Rattle.miner_node.specs.Serves.{HasServed}
@@ -21,11 +22,11 @@ none_left n = omega arith
 
 -- the run ends where the miner's does
 ends_there : (i : Number) (s : Story) (ending : Ending) (end : End) (e : Ended) → (node i s).left ≡ Ends e → IsEnd e (over.Over ending)
-    → end.how ≡ ending → AtStop i s (λ p. end.cost ≡ s.budget - p.stage.left) → end_in s.budget e ≡ Some end
+    → end.how ≡ ending → end.cost ≡ cost_in i s → end_in s.budget e ≡ Some end
 ends_there i s ending end (Reached (Stopped p) values) left is how cost =
     ap (λ (h : Option Ending). ended_at h (s.budget - p.stage.left)) is
     ∙ ap (λ (h : Ending). Some (record { how = h; cost = s.budget - p.stage.left })) (sym how)
-    ∙ ap (λ (c : ℕ). Some (record { how = end.how; cost = c })) (sym (cost p values left))
+    ∙ ap (λ (c : ℕ). Some (record { how = end.how; cost = c })) (sym (cost ∙ ap (at_stop_or 0 (λ (q : Place). s.budget - q.stage.left)) left))
 ends_there i s ending end (Reached (Running p) values) left is how cost = absurd is
 ends_there i s ending end (Reached (Short p) values) left is how cost = absurd is
 ends_there i s ending end Unfit left is how cost = absurd is

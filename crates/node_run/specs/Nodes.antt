@@ -18,7 +18,7 @@ use Rattle.wire.specs.declared.fields.Hello.{Hello}
 use Rattle.miner_core.specs.declared.answer.Lost.{Lost}
 use Rattle.miner_core.specs.declared.answer.Lost.TheVariants as lost
 use Rattle.miner_core.specs.Drawing.{left_for, IsTapeFault}
-use Rattle.miner_core.specs.Story.{Story, AtStop, node}
+use Rattle.miner_core.specs.Story.{Story, cost_in, node}
 use Rattle.miner_node.specs.declared.node_err.NodeErr.{NodeErr}
 use Rattle.miner_node.specs.declared.node_err.NodeErr.TheVariants.{Memory}
 use Rattle.miner_node.specs.declared.node_err.ServeErr.{ServeErr}
@@ -128,5 +128,5 @@ module _ (me : Number) (own : (tape : List ℕ) → Own) (old new : LinksState) 
 pub record HasTold (me : Number) (undealt : Option Ending) (s : Story) (ending : Ending) (told : NodeText) : Type 0 where
   pub undealt_so : IfSome undealt (λ how. told.end ≡ record { how = how; cost = 0 })
   pub ended : IfNone undealt (told.end.how ≡ ending)
-  pub cost : IfNone undealt (AtStop me s (λ p. told.end.cost ≡ s.budget - p.stage.left))
+  pub cost : IfNone undealt (told.end.cost ≡ cost_in me s)
   pub text : told.text.items ≡ node_text (node me s).acts told.end

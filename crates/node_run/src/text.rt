@@ -1,6 +1,6 @@
 // How a miner's part of a run has ended, and its text.
-ghost use Rattle.std.specs.Prelude.{◌≡◌, ◌-◌, None, IfOk, IfSome, IfNone};
-ghost use Rattle.miner_core.specs.Story.{AtStop, node};
+ghost use Rattle.std.specs.Prelude.{◌≡◌, None, IfOk, IfSome, IfNone};
+ghost use Rattle.miner_core.specs.Story.{cost_in, node};
 ghost use Rattle.miner_core.specs.Streams.{ForEachTape};
 ghost use Rattle.node_run.specs.Nodes.{node_text};
 
@@ -18,7 +18,7 @@ pub(crate) fn end_of<P: Party>(
 ) -> End
     ensures undealt { IfSome undealt (λ how. result ≡ record { how = how; cost = 0 }) }
     ensures ended { IfNone undealt (result.how ≡ ending) }
-    ensures cost { IfNone undealt (ForEachTape miner.now (λ s. AtStop P.me s (λ p. result.cost ≡ s.budget - p.stage.left))) }
+    ensures cost { IfNone undealt (ForEachTape miner.now (λ s. result.cost ≡ cost_in P.me s)) }
 {
     match undealt {
         Some(how) => End { how, cost: 0 },

@@ -122,58 +122,61 @@ fn tell_delivery<P: Party>(lines: &mut Lines, miner: &mut Miner<P>, link: Link, 
     tell_step(lines, step);
 }
 
-// What a miner has sent and opened, and what its run has cost.
-fn tell_done<P: Party>(lines: &mut Lines, miner: &Miner<P>) {
-    write!(
-        lines,
-        " sent {} and {}, opened {:?}\n",
-        miner.sent_to_next().len(),
-        miner.sent_to_previous().len(),
-        miner.opened()
-    );
+// What a miner has sent and opened.
+fn tell_done<P: Party>(alloc: Global, lines: &mut Lines, miner: &Miner<P>) {
+    match miner.opened(alloc) {
+        Ok(opened) => write!(
+            lines,
+            " sent {} and {}, opened {:?}\n",
+            miner.sent_to_next().len(),
+            miner.sent_to_previous().len(),
+            opened
+        ),
+        Err(_) => lines.run_short(),
+    }
 }
 
 // A message that is too long stays the oldest, and nothing more is sent.
-fn tell_long(lines: &mut Lines, miner: &mut Miner<P1>) {
+fn tell_long(alloc: Global, lines: &mut Lines, miner: &mut Miner<P1>) {
     lines.add("a long message:");
     tell_step(lines, miner.stands());
     tell_delivery(lines, miner, Link::Link31, &Msg::from_words(&[0, 0]));
     tell_delivery(lines, miner, Link::Link31, &Msg::from_words(&[0]));
     tell_delivery(lines, miner, Link::Link21, &Msg::from_words(&[0]));
-    tell_done(lines, miner);
+    tell_done(alloc, lines, miner);
 }
 
 // The second message is not yet awaited, and is kept. After the end no message is awaited.
-fn tell_end(lines: &mut Lines, miner: &mut Miner<P1>) {
+fn tell_end(alloc: Global, lines: &mut Lines, miner: &mut Miner<P1>) {
     lines.add("a run to its end:");
     tell_delivery(lines, miner, Link::Link31, &Msg::from_words(&[0]));
     tell_delivery(lines, miner, Link::Link21, &Msg::from_words(&[0]));
     tell_delivery(lines, miner, Link::Link31, &Msg::from_words(&[1]));
     tell_delivery(lines, miner, Link::Link31, &Msg::from_words(&[0]));
     tell_delivery(lines, miner, Link::Link21, &Msg::new());
-    tell_done(lines, miner);
+    tell_done(alloc, lines, miner);
 }
 
 // The second word has to be a bit.
-fn tell_no_bit(lines: &mut Lines, miner: &mut Miner<P2>) {
+fn tell_no_bit(alloc: Global, lines: &mut Lines, miner: &mut Miner<P2>) {
     lines.add("no bit:");
     tell_step(lines, miner.stands());
     tell_delivery(lines, miner, Link::Link12, &Msg::from_words(&[10, 2, 0]));
-    tell_done(lines, miner);
+    tell_done(alloc, lines, miner);
 }
 
 // The first miner of a sum, once for each of two lists of messages.
 fn tell_first(alloc: Global, lines: &mut Lines, is_long: bool) {
     match miner(alloc, SUM) {
-        Some(mut miner) if is_long => tell_long(lines, &mut miner),
-        Some(mut miner) => tell_end(lines, &mut miner),
+        Some(mut miner) if is_long => tell_long(alloc, lines, &mut miner),
+        Some(mut miner) => tell_end(alloc, lines, &mut miner),
         None => lines.add("no miner\n"),
     }
 }
 
 fn tell_second(alloc: Global, lines: &mut Lines) {
     match miner(alloc, NUMBER) {
-        Some(mut miner) => tell_no_bit(lines, &mut miner),
+        Some(mut miner) => tell_no_bit(alloc, lines, &mut miner),
         None => lines.add("no miner\n"),
     }
 }

@@ -15,7 +15,8 @@ use Rattle.input_share.specs.ShareFile.{MinerFile}
 use Rattle.gate_laws.specs.Dealt.{drawn_by}
 use Rattle.gate_node.specs.Nodes.{IsTapeOf}
 use Rattle.miner_core.specs.OwnCode.{Ended}
-use Rattle.miner_core.specs.Story.{AtStop, has_told, node}
+use Rattle.miner_core.specs.Places.{Place}
+use Rattle.miner_core.specs.Story.{at_stop_or, drawn_in, has_told, node}
 use Rattle.miner_core.specs.Streams.{StreamState, ForEachTape, with_tape}
 use Rattle.view_text.specs.View.{InputShare, Received, View}
 use Rattle.program_views.specs.Views.{input_shares, received}
@@ -53,11 +54,11 @@ front_so drawn ahead tape count of few = sym (ap (take count) of.begins ∙ take
 
 pub drew_so :
     (i : Number) (m : StreamState) (words : List ℕ) (count : ℕ) (front : List ℕ) → words ≡ m.story.tape
-    → ForEachTape m (λ s. AtStop i s (λ p. count ≡ drawn_by p.stage.drawn (miner_of i)))
+    → ForEachTape m (λ s. count ≡ drawn_in i s)
     → count ≤ length words → front ≡ take count words → ForEachTape m (λ s. Drew i s front)
 drew_so i m words count front are counted few is going tape of p s =
     is ∙ ap (take count) are ∙ front_so m.story.tape m.ahead tape count of (subst (λ (w : List ℕ). count ≤ length w) are few)
-    ∙ ap (λ n. take n tape) (counted going tape of p s.values s.at_end)
+    ∙ ap (λ n. take n tape) (counted going tape of ∙ ap (at_stop_or 0 (λ (q : Place). drawn_by q.stage.drawn (miner_of i))) s.at_end)
 
 -- ---- a view of what was found
 

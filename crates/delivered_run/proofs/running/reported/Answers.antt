@@ -1,10 +1,13 @@
 use Rattle.std.proofs.Common.{◌-◌, List, map, sym, ◌∙◌, ap}
+use Rattle.std.specs.Prelude.{None}
 use Rattle.proto_core.specs.declared.party.Number.{Number}
 use Rattle.proto_core.specs.Strand.{Notice, told_in}
 use Rattle.proto_core.specs.declared.party.Number.TheVariants.{One, Two, Three}
 use Rattle.told_events.specs.Telling.{told_beside}
 use Rattle.link_schedule.specs.Net.{net_node}
 use Rattle.link_schedule.specs.Streams.{with_tapes}
+use Rattle.miner_core.specs.Places.{Place}
+use Rattle.miner_core.specs.Story.{at_stop_or}
 use Rattle.miner_core.specs.Views.{notice_seen}
 use Rattle.delivered_run.proofs.Netting.{own_tape}
 use Rattle.delivered_run.proofs.running.reported.Goals as goal
@@ -31,6 +34,10 @@ returns-in-Some c = λ going tapes may.
           ∙ ap (λ ns. told_beside ns tells2 tells3) (c.notices.ensures m1.going (tapes One) t1 ∙ ap told_in one.acts)
           ∙ ap (λ ns. told_beside (tells One) ns tells3) (c.notices-2.ensures m2.going (tapes Two) t2 ∙ ap told_in two.acts)
           ∙ ap (told_beside (tells One) (tells Two)) (c.notices-3.ensures m3.going (tapes Three) t3 ∙ ap told_in three.acts);
-      how = λ p x. sym (c.ending.ensures m1.going (tapes One) t1 p x.values (one.left ∙ x.left)) ∙ c.in-Some.is;
-      cost = λ p x. c.cost-cost.ensures m1.going (tapes One) t1 p x.values (one.left ∙ x.left) ∙ ap (λ k. k - p.stage.left) one.budget;
+      how = λ p x.
+          sym (c.ending.ensures m1.going (tapes One) t1 ∙ ap (at_stop_or None (λ (q : Place). q.ended)) (one.left ∙ x.left)) ∙ c.in-Some.is;
+      cost = λ p x.
+          c.cost-cost.ensures m1.going (tapes One) t1
+          ∙ ap (at_stop_or 0 (λ (q : Place). c.miner1-first.result.now.story.budget - q.stage.left)) (one.left ∙ x.left)
+          ∙ ap (λ k. k - p.stage.left) one.budget;
     }

@@ -1,7 +1,5 @@
 use Rattle.std.proofs.Common.{◌≡◌, ◌∙◌, ap, subst}
-use Rattle.code_turns.specs.Dealt.{drawn_by}
-use Rattle.shared_gates.specs.Model.{miner_of}
-use Rattle.miner_core.specs.Story.{Story, AtStop}
+use Rattle.miner_core.specs.Story.{Story, drawn_in}
 use Rattle.miner_core.proofs.Streaming.{at_whole}
 use Rattle.miner_core.proofs.miner.Miner.drawn.Goals as goal
 
@@ -9,6 +7,5 @@ pub returns : goal.returns
 returns g c = λ going.
     let i = g.P.Party.me in
     let m = c.self.inside.inner in
-    subst (λ s. AtStop i s (λ p. c.drawn.result ≡ drawn_by p.stage.drawn (miner_of i))) c.self.view_is
-    (at_whole m (λ s. AtStop i s (λ p. c.drawn.result ≡ drawn_by p.stage.drawn (miner_of i))) c.self.invariant c.drawn.ensures (ap (λ (s : Story).
-    s.lost) c.self.view_is ∙ going))
+    subst (λ s. c.drawn.result ≡ drawn_in i s) c.self.view_is
+    (at_whole m (λ s. c.drawn.result ≡ drawn_in i s) c.self.invariant c.drawn.ensures (ap (λ (s : Story). s.lost) c.self.view_is ∙ going))

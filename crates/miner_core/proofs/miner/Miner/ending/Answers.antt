@@ -1,5 +1,5 @@
 use Rattle.std.proofs.Common.{◌≡◌, ◌∙◌, ap, subst}
-use Rattle.miner_core.specs.Story.{Story, AtStop}
+use Rattle.miner_core.specs.Story.{Story, ending_in}
 use Rattle.miner_core.proofs.Streaming.{at_whole}
 use Rattle.miner_core.proofs.miner.Miner.ending.Goals as goal
 
@@ -7,5 +7,5 @@ pub returns : goal.returns
 returns g c = λ going.
     let i = g.P.Party.me in
     let m = c.self.inside.inner in
-    subst (λ s. AtStop i s (λ p. c.ending.result ≡ p.ended)) c.self.view_is
-    (at_whole m (λ s. AtStop i s (λ p. c.ending.result ≡ p.ended)) c.self.invariant c.ending.ensures (ap (λ (s : Story). s.lost) c.self.view_is ∙ going))
+    subst (λ s. c.ending.result ≡ ending_in i s) c.self.view_is
+    (at_whole m (λ s. c.ending.result ≡ ending_in i s) c.self.invariant c.ending.ensures (ap (λ (s : Story). s.lost) c.self.view_is ∙ going))

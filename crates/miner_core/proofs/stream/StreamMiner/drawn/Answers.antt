@@ -3,9 +3,10 @@ use Rattle.code_turns.specs.Dealt.{drawn_by}
 use Rattle.shared_gates.specs.Model.{miner_of}
 use Rattle.value_steps.specs.Views.{drawn_seen}
 use Rattle.miner_core.specs.Drawing.{whole}
-use Rattle.miner_core.specs.Story.{AtStop, story_of}
+use Rattle.miner_core.specs.Engines.{if_ended}
+use Rattle.miner_core.specs.Story.{drawn_in, story_of}
 use Rattle.miner_core.specs.Streams.{ForEachTape}
-use Rattle.miner_core.proofs.Stops.{stop_at}
+use Rattle.miner_core.proofs.Stops.{drawn_is}
 use Rattle.miner_core.proofs.Streaming.{at_tape}
 use Rattle.miner_core.proofs.stream.StreamMiner.drawn.Goals as goal
 
@@ -13,10 +14,11 @@ pub returns : goal.returns
 returns g c =
     let i = g.P.Party.me in
     let m = c.self.inside in
-    let n = c.drawn_of.result in
-    subst (λ v. ForEachTape v (λ s. AtStop i s (λ p. n ≡ drawn_by p.stage.drawn (miner_of i)))) c.self.view_is
-    (at_tape i m.engine m.rest m.budget m.ahead m.lost (λ s. AtStop i s (λ p. n ≡ drawn_by p.stage.drawn (miner_of i))) c.self.invariant
-    (λ tape f rests p values is.
-    c.drawn_of.ensures ∙ ap (λ k. drawn_by (drawn_seen m.engine.stage.drawn) (miner_of k)) c.number.ensures
-    ∙ ap (λ s. drawn_by s.drawn (miner_of i))
-    (sym (stop_at i (whole m.engine tape) m.rest (record (story_of m.engine m.budget) { tape = tape }) f rests p values is).stage)))
+    let n = c.if_ended.result in
+    subst (λ v. ForEachTape v (λ s. n ≡ drawn_in i s)) c.self.view_is
+    (at_tape i m.engine m.rest m.budget m.ahead m.lost (λ s. n ≡ drawn_in i s) c.self.invariant
+    (λ tape f rests.
+    c.if_ended.ensures
+    ∙ ap (if_ended c.ending.result) (c.drawn_of.ensures ∙ ap (λ k. drawn_by (drawn_seen m.engine.stage.drawn) (miner_of k)) c.number.ensures)
+    ∙ ap (λ o. if_ended o (drawn_by (drawn_seen m.engine.stage.drawn) (miner_of i))) c.ending.ensures
+    ∙ sym (drawn_is i (whole m.engine tape) m.rest (record (story_of m.engine m.budget) { tape = tape }) f rests)))
