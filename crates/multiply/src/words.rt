@@ -2,7 +2,7 @@ ghost use Rattle.std.specs.Prelude.{◌≡◌, ◌*◌, ◌≤◌, length, IfOk}
 ghost use Rattle.multiply.specs.MulStrand.{masked, crossed, product};
 
 use crate::kernels::{add_crossed, add_part, take_part};
-use share_ring::ShareRing;
+use lane_kernel::LaneRing;
 use std::alloc::{AllocError, Global};
 use std::marker::Model;
 
@@ -31,7 +31,7 @@ impl Model for MulWords {
 impl MulWords {
     /// Begins to multiply `u` and `v` with drawn words: for n elements n that mask `u`, n that mask `v`, n that mask the
     /// product.
-    pub fn masked<R: ShareRing>(
+    pub fn masked<R: LaneRing>(
         alloc: Global,
         u: &[u64],
         v: &[u64],
@@ -75,7 +75,7 @@ impl MulWords {
     }
 
     /// Takes the previous miner's 3n masks.
-    pub fn cross<R: ShareRing>(&mut self, got: &[u64])
+    pub fn cross<R: LaneRing>(&mut self, got: &[u64])
         requires { length got.now ≡ 3 * length self.old.mask }
         ensures { self.new ≡ crossed R.ring (length self.old.mask) self.old got.now }
     {
@@ -85,7 +85,7 @@ impl MulWords {
     }
 
     /// Takes the previous miner's two masked factors, and answers the party's share of the product.
-    pub fn into_product<R: ShareRing>(mut self, got: &[u64]) -> Vec<u64>
+    pub fn into_product<R: LaneRing>(mut self, got: &[u64]) -> Vec<u64>
         requires { length got.now ≡ 2 * length self.mask }
         ensures { result.items ≡ product R.ring (length self.mask) self got.now }
     {

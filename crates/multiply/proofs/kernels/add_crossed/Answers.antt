@@ -1,8 +1,7 @@
-use Rattle.std.proofs.Common.{◌≡◌, ◌+◌, ◌<◌, ◌∙◌, ℕ, length, refl, sym, ap, ap₂, arith}
-use Rattle.proto_core.specs.Lists.{at}
-use Rattle.proto_core.proofs.Edits.{edited_none, at-edited, edited_more, edited_done}
+use Rattle.std.proofs.Common.{◌≤◌, ◌∙◌, length, refl, sym, arith}
+use Rattle.proto_core.proofs.Edits.{edited_none, edited_done}
 use Rattle.multiply.specs.ProductLaws.{cross-fields}
-use Rattle.multiply.proofs.Crossings.{crossed_at}
+use Rattle.multiply.proofs.Crossings.{crossed_at, crossed_more, length-some}
 use Rattle.multiply.proofs.kernels.add_crossed.Goals as goal
 
 pub loop-at-init : goal.loop-at-init
@@ -14,16 +13,15 @@ loop-at-init g c =
 
 pub loop-at-preserved : goal.loop-at-preserved
 loop-at-preserved g c =
-    let r = g.R.ShareRing.ring in
     let mask = c.args.share.now in
-    let f = crossed_at r c.args.u.now c.args.v.now c.args.previous.now mask (length mask) in
     let i = c.loop-at.at in
-    let within : i < length mask = omega arith in
-    let products = c.add-products.ensures ∙ ap₂ r.add (c.add.ensures ∙ ap₂ r.add c.mul-own.ensures c.mul-with_previous_v.ensures) c.mul-with_previous_u.ensures in
-    let word : at c.loop-at.share i ≡ at mask i = ap (λ ys. at ys i) c.loop-at.invariant.1 ∙ at-edited i f mask in
-    let made : c.add-in-loop-at.result ≡ f i = c.add-in-loop-at.ensures ∙ ap₂ r.add products word in (
-      omega arith,
-      edited_more i f mask c.loop-at.share _ c.add-in-loop-at.result within c.loop-at.invariant.1 made refl,
+    let e = c.min-end.result in
+    let forward : i ≤ e = omega (arith, c.min-end.ensures) in
+    let within : e ≤ length mask = omega (arith, c.min-end.ensures) in (
+      within,
+      crossed_more g.R.ShareRing.ring i e _ c.args.u.now c.args.v.now c.args.previous.now mask c.loop-at.share
+          (length-some i _ c.loop-at.share (omega arith)) forward within _ c.add_some_crossed.new.share (omega arith) c.loop-at.invariant.1
+          c.add_some_crossed.ensures,
     )
 
 pub returns : goal.returns
