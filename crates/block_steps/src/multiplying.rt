@@ -7,14 +7,14 @@ ghost use Rattle.block_steps.specs.Pendings.{ring_left, progress_left, StandsThe
 use crate::links::Links;
 use crate::progress::Progress;
 use crate::ring_block::RingBlock;
+use lane_kernel::LaneRing;
 use multiply::MulWords;
 use proto_core::{BadMessage, Party};
-use share_ring::ShareRing;
 use std::alloc::AllocError;
 
 /// Sends the masks.
 #[inline(never)]
-pub fn begin<R: ShareRing, P: Party>(
+pub fn begin<R: LaneRing, P: Party>(
     u: &[u64],
     v: &[u64],
     words: &[u64],
@@ -34,7 +34,7 @@ pub fn begin<R: ShareRing, P: Party>(
 
 /// Takes the previous miner's masks.
 #[inline(never)]
-pub fn masked<R: ShareRing, P: Party>(
+pub fn masked<R: LaneRing, P: Party>(
     mut state: MulWords,
     links: &mut Links,
 ) -> Result<Progress<RingBlock<R, P>>, AllocError>
@@ -64,7 +64,7 @@ pub fn masked<R: ShareRing, P: Party>(
 
 /// Takes the previous miner's factors.
 #[inline(never)]
-pub fn crossed<R: ShareRing, P: Party>(
+pub fn crossed<R: LaneRing, P: Party>(
     state: MulWords,
     links: &mut Links,
 ) -> Result<Progress<RingBlock<R, P>>, AllocError>

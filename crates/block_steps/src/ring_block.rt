@@ -5,10 +5,10 @@ ghost use Rattle.block_steps.specs.Pendings.{ring_left, progress_left, StandsThe
 use crate::links::Links;
 use crate::progress::Progress;
 use crate::{multiplying, opening, resharing};
+use lane_kernel::LaneRing;
 use multiply::MulWords;
 use proto_core::{Link, Party};
 use reshare::ShareWords;
-use share_ring::ShareRing;
 use std::alloc::AllocError;
 use std::marker::PhantomData;
 
@@ -31,7 +31,7 @@ pub enum RingBlock<R, P> {
     Resharing(ShareWords, PhantomData<(R, P)>),
 }
 
-impl<R: ShareRing, P: Party> RingBlock<R, P> {
+impl<R: LaneRing, P: Party> RingBlock<R, P> {
     /// As far as the oldest message leads. Fails where memory is wanting.
     pub fn step(self, links: &mut Links) -> Result<Progress<RingBlock<R, P>>, AllocError>
         ensures same { IfOk result (λ to. outcome_of P.me links.new (progress_left (ring_left R.ring P.me) to)
