@@ -1,14 +1,16 @@
 -- Steps of the loops that evaluate gates.
 use Rattle.std.proofs.Common.{◌≡◌, ℕ, zero, suc, ◌+◌, ◌-◌, ◌*◌, ◌/◌, ◌%◌, ◌^◌, ◌<◌, ◌≤◌, List, [], ◌∷◌, ◌++◌, length, map, take, drop, set, get_or}
-use Rattle.std.proofs.Common.{refl, sym, ◌∙◌, ap, arith, append_assoc, length-drop}
+use Rattle.std.proofs.Common.{refl, sym, ◌∙◌, ap, ap₂, arith, append_assoc, length-drop}
 use Rattle.std.specs.Prelude.{min}
 use Rattle.std.specs.List.{zip, flat_map, range_with_len}
 use Rattle.std.specs.Int.{bit_at}
 use Rattle.std.proofs.Math.Nat.{add-mul-mod_self_right}
-use Rattle.std.proofs.lemmas.List.{take_more, take_all, take_min, drop_min, set_past, length-map, append-nil}
+use Rattle.std.proofs.lemmas.List.{get_or-take, length-take-le, take_more, take_min, drop_min, set_past, length-map, append-nil}
 use Rattle.std.proofs.lemmas.List.FromFn.{map-range_with_len_more}
 use Rattle.std.proofs.lemmas.Slice.Zip.{length-zip}
 use Rattle.std.proofs.lemmas.Nat.{pow-add, pow_pos, shr_below}
+use Rattle.proto_core.proofs.Each.{each-is}
+use Rattle.lane_kernel.specs.Lanewise.{placewise}
 use Rattle.gates.specs.Clear.{each_two, bits_of}
 use Rattle.gates.proofs.Columns.{word}
 
@@ -21,16 +23,13 @@ word-each_two f (x ∷ xs) (y ∷ ys) (suc i) h k = word-each_two f xs ys i (ome
 word-each_two f [] ys i h k = absurd (omega arith)
 word-each_two f (x ∷ xs) [] i h k = absurd (omega arith)
 
-pub take_each_two_more : (f : ℕ → ℕ → ℕ) (xs ys : List ℕ) (i : ℕ) → i < length xs → i < length ys
-    → take (i + 1) (each_two f xs ys) ≡ take i (each_two f xs ys) ++ f (get_or xs i 0) (get_or ys i 0) ∷ []
-take_each_two_more f xs ys i h k =
-    let within : i < length (each_two f xs ys) = omega (arith, length-each_two f xs ys) in
-    take_more (each_two f xs ys) i 0 within ∙ ap (λ w. take i (each_two f xs ys) ++ w ∷ []) (word-each_two f xs ys i h k)
-
-pub take_each_two_all : (f : ℕ → ℕ → ℕ) (xs ys : List ℕ) (n : ℕ) → min (length xs) (length ys) ≤ n → take n (each_two f xs ys) ≡ each_two f xs ys
-take_each_two_all f xs ys n le = take_all n (each_two f xs ys) (omega (arith, length-each_two f xs ys))
-
-pub ruleset each_two_steps = (take_each_two_more, take_each_two_all)
+-- what a kernel makes of the words that both lists have
+pub each_two_by_kernel : (f : ℕ → ℕ → ℕ) (xs ys : List ℕ) (n : ℕ) → n ≡ min (length xs) (length ys) → placewise f (take n xs) (take n ys) ≡ each_two f xs ys
+each_two_by_kernel f xs ys n e =
+    let long : length (take n xs) ≡ n = length-take-le n xs (omega arith) in
+    each-is (length (take n xs)) _ (each_two f xs ys) (length-each_two f xs ys ∙ sym e ∙ sym long)
+    (λ k h.
+    ap₂ f (get_or-take n xs k 0 (omega arith)) (get_or-take n ys k 0 (omega arith)) ∙ sym (word-each_two f xs ys k (omega arith) (omega arith)))
 
 -- ---- shifts by 64 and more
 

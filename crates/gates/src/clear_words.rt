@@ -5,25 +5,21 @@ ghost use Rattle.std.specs.Int.{w64, bit_not};
 ghost use Rattle.gates.specs.Clear.{bits_of, each_two, first_word};
 
 use crate::words::Words;
-use share_ring::ShareRing;
+use lane_kernel::LaneRing;
 use std::alloc::{AllocError, Global};
 
 /// The sums of the two words at each index, in a ring.
-#[tactic(auto, using(crate::proofs::WordSteps::each_two_steps))]
-pub(crate) fn sums<R: ShareRing>(alloc: Global, xs: &[u64], ys: &[u64]) -> Result<Words, AllocError>
+pub(crate) fn sums<R: LaneRing>(alloc: Global, xs: &[u64], ys: &[u64]) -> Result<Words, AllocError>
     ensures { IfOk result (λ words. words ≡ each_two R.ring.add xs.now ys.now) }
 {
     let count = xs.len().min(ys.len());
-    let mut words = Vec::with_capacity(alloc, count)?;
-    for at in 0..count {
-        words.push(R::add(xs[at], ys[at]))?;
-    }
+    let mut words = Vec::from_slice(alloc, &xs[..count])?;
+    R::add_into(&mut words, &ys[..count]);
     Ok(Words::new(words))
 }
 
 /// The differences of the two words at each index, in a ring.
-#[tactic(auto, using(crate::proofs::WordSteps::each_two_steps))]
-pub(crate) fn differences<R: ShareRing>(
+pub(crate) fn differences<R: LaneRing>(
     alloc: Global,
     xs: &[u64],
     ys: &[u64],
@@ -31,16 +27,13 @@ pub(crate) fn differences<R: ShareRing>(
     ensures { IfOk result (λ words. words ≡ each_two R.ring.sub xs.now ys.now) }
 {
     let count = xs.len().min(ys.len());
-    let mut words = Vec::with_capacity(alloc, count)?;
-    for at in 0..count {
-        words.push(R::sub(xs[at], ys[at]))?;
-    }
+    let mut words = Vec::from_slice(alloc, &xs[..count])?;
+    R::sub_into(&mut words, &ys[..count]);
     Ok(Words::new(words))
 }
 
 /// The products of the two words at each index, in a ring.
-#[tactic(auto, using(crate::proofs::WordSteps::each_two_steps))]
-pub(crate) fn products<R: ShareRing>(
+pub(crate) fn products<R: LaneRing>(
     alloc: Global,
     xs: &[u64],
     ys: &[u64],
@@ -48,10 +41,8 @@ pub(crate) fn products<R: ShareRing>(
     ensures { IfOk result (λ words. words ≡ each_two R.ring.mul xs.now ys.now) }
 {
     let count = xs.len().min(ys.len());
-    let mut words = Vec::with_capacity(alloc, count)?;
-    for at in 0..count {
-        words.push(R::mul(xs[at], ys[at]))?;
-    }
+    let mut words = Vec::from_slice(alloc, &xs[..count])?;
+    R::mul_into(&mut words, &ys[..count]);
     Ok(Words::new(words))
 }
 
