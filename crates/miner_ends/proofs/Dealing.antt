@@ -1,13 +1,12 @@
 -- A dealing of what everybody may know: each miner has zeros for the private inputs.
 use Rattle.std.proofs.Common.{◌≡◌, ℕ, zero, suc, ◌+◌, ◌<◌, ◌≤◌, ◌^◌, Bool, true, false, List, [], ◌∷◌, length, refl, sym, ap, ◌∙◌, subst, arith, inl, inr}
-use Rattle.std.specs.Prelude.{if◌then◌else◌, map}
-use Rattle.proto_core.specs.declared.party.Number.{Number}
+use Rattle.std.specs.Prelude.{if◌then◌else◌}
 use Rattle.proto_core.specs.Lists.{at}
 use Rattle.protocol_model.specs.Gates.{sizes_of}
 use Rattle.gates.specs.declared.ring_kind.RingKind.{RingKind}
 use Rattle.gates.specs.declared.ring_kind.RingKind.TheVariants.{Arithmetic, Boolean}
 use Rattle.gates.specs.Clear.{Values, value, ring_of}
-use Rattle.shared_gates.specs.Shares.{Kind, Shared, kind_at, sum_of, AreShares, Holds, AllHeld}
+use Rattle.shared_gates.specs.Shares.{Kind, Shared, kind_at, sum_of, AreShares, Holds}
 use Rattle.language_model.specs.Effects.{GivenInput}
 use Rattle.language_model.specs.Evaluation.{behind}
 use Rattle.language_model.specs.Values.{ring_for}

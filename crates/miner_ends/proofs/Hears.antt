@@ -13,7 +13,7 @@ use Rattle.sc_text.specs.declared.event.Event.TheVariants as event
 use Rattle.gates.specs.declared.gate.Gate.{Gate}
 use Rattle.typed_tree.specs.declared.kinds.Shape.{Shape}
 use Rattle.language_model.specs.Effects.{Words, World, Stage, RunStop, Ended, Short, Run, Effect, ◌>>=◌, carry, done, end, charge, test, fits, draw}
-use Rattle.language_model.specs.Effects.{drawn_yet, take_words, gate, next_number, put_gates, emit, next_answers, show}
+use Rattle.language_model.specs.Effects.{drawn_yet, gate, next_number, put_gates, emit, next_answers}
 use Rattle.language_model.specs.Values.{Value}
 use Rattle.language_model.specs.Evaluation.{Frame, Flow, turns, repeats}
 use Rattle.language_model.proofs.Loops.{IsFlow, turns_flow, repeats_flow}

@@ -1,5 +1,5 @@
 -- A step that wants words has opened a value last, and goes on where it is told as many words as this value has.
-use Rattle.std.proofs.Common.{◌≡◌, ◌⊎◌, ℕ, ◌+◌, ◌≤◌, List, [], ◌∷◌, ◌++◌, Bool, true, false, cond, Option, Some, Ok, Err, inl, inr, refl, sym, ◌∙◌, ap, subst, arith, append_assoc}
+use Rattle.std.proofs.Common.{◌≡◌, ℕ, ◌+◌, ◌≤◌, List, [], ◌∷◌, ◌++◌, Bool, true, false, cond, Option, Ok, Err, refl, sym, ◌∙◌, ap, subst, arith, append_assoc}
 use Rattle.std.specs.Prelude.{length, nat_le, take, drop}
 use Rattle.std.proofs.lemmas.Bool.{le-leb}
 use Rattle.std.proofs.lemmas.List.{drop_all}
@@ -7,23 +7,21 @@ use Rattle.sc_text.specs.declared.event.Event.TheVariants as event
 use Rattle.gates.specs.declared.ring_kind.RingKind.{RingKind}
 use Rattle.gates.specs.declared.gate.Gate.{Gate}
 use Rattle.gates.specs.declared.gate.Gate.TheVariants.{Open}
-use Rattle.gates.specs.Counts.{size_of, Miner}
+use Rattle.gates.specs.Counts.{size_of}
 use Rattle.protocol_model.specs.Gates.{sizes_of}
 use Rattle.shared_gates.specs.Shares.{Kind}
 use Rattle.shared_gates.specs.Model.{sizes_after}
-use Rattle.language_model.specs.Effects.{World, Source, Clear, Answers, Stage, RunStop, Ended, Short, Run, Effect, ◌>>=◌, carry, done, draw, gate, answer, emit, show}
+use Rattle.language_model.specs.Effects.{World, Answers, Stage, RunStop, Short, Run, Effect, ◌>>=◌, carry, done, draw, gate, answer, emit, show}
 use Rattle.language_model.specs.Effects.{words_each}
 use Rattle.language_model.specs.Values.{Secrecy, Plain, Private, Value, plain, size, ring_for, elements_of}
 use Rattle.language_model.specs.Operations.{charged, no_traps, number_of, read_answer, revealed, opened_from, declassified}
 use Rattle.blind_evaluation.specs.Courses.{IsEnded}
-use Rattle.verified_code.specs.Steps.{Step, Declassify, Function}
 use Rattle.gate_laws.specs.Dealt.{Dealt, drawn_by}
-use Rattle.gate_laws.specs.Facts.{IsProper, none_of, Fact, AllStand, facts_of, run_at, IsAt, Comes, ComesAt, Suits}
+use Rattle.gate_laws.specs.Facts.{IsProper, none_of, AllStand, facts_of, run_at, IsAt, Comes, ComesAt, Suits}
 use Rattle.gate_laws.proofs.Effects.{Any, suits_bind, draw_suits}
 use Rattle.gate_laws.proofs.Gains.{fact}
 use Rattle.gate_laws.proofs.Parts.{plain_charge, number_suits, tell_same}
 use Rattle.gate_laws.proofs.Singles.{stands_size}
-use Rattle.code_places.specs.Places.{telling_stage}
 use Rattle.code_places.proofs.Quiet.{KeptAt, Quiet, quiet_bind, quiet_done, quiet_draw}
 use Rattle.code_places.proofs.QuietRows.{untrapped_quiet, number_quiet}
 

@@ -1,5 +1,5 @@
 -- What gates end with that suit, on a tape that suffices for them, whatever messages come.
-use Rattle.std.proofs.Common.{◌≡◌, ℕ, zero, suc, ◌+◌, ◌-◌, ◌<◌, ◌≤◌, ◌^◌, Bool, true, false, ◌&&◌, nat_le, if◌then◌else◌, List, [], ◌∷◌, ◌++◌, length, take, drop}
+use Rattle.std.proofs.Common.{◌≡◌, ℕ, ◌+◌, ◌-◌, ◌<◌, ◌≤◌, ◌^◌, Bool, true, false, ◌&&◌, nat_le, if◌then◌else◌, List, [], ◌∷◌, ◌++◌, length, take, drop}
 use Rattle.std.proofs.Common.{refl, sym, ◌∙◌, ap, subst, arith, length-drop, length-append}
 use Rattle.std.specs.Prelude.{Option, Some, None, map}
 use Rattle.std.proofs.lemmas.Bool.{le-leb}
@@ -8,7 +8,7 @@ use Rattle.std.proofs.lemmas.Nat.{mod_below}
 use Rattle.proto_core.specs.declared.party.Number.{Number}
 use Rattle.proto_core.specs.Lists.{AreWords}
 use Rattle.proto_core.specs.Resharing.{sum_of_three}
-use Rattle.proto_core.specs.Strand.{Mail, Strand, Ends, Acts, Waits, Ran, Shape, accepts, came, run, taken, then_do}
+use Rattle.proto_core.specs.Strand.{Mail, Strand, Ends, Acts, Waits, Ran, accepts, came, run, taken, then_do}
 use Rattle.proto_core.proofs.Each.{AreWords-each}
 use Rattle.proto_core.proofs.Parts.{AreWords-append}
 use Rattle.protocol_model.specs.Gates as model
@@ -24,7 +24,7 @@ use Rattle.gates.specs.Clear.{Values, ring_of}
 use Rattle.blocked_protocol.specs.Blocked.{blocked, blocks_strand, joined}
 use Rattle.blocked_protocol.specs.Opening.{open_protocol}
 use Rattle.shared_gates.specs.LocalGates.{local_share}
-use Rattle.shared_gates.specs.Model.{sizes_made, SizesSuit, AllSizesSuit, run_gate, run_gates, sizes_after}
+use Rattle.shared_gates.specs.Model.{sizes_made, SizesSuit, AllSizesSuit, run_gates, sizes_after}
 use Rattle.shared_gates.proofs.Models.{local-size}
 use Rattle.joint_run.specs.declared.exchange.Exchange.{Exchange}
 use Rattle.joint_run.specs.declared.exchange.Exchange.TheVariants.{Product, Splitting, Conversion, Opening, Resharing}

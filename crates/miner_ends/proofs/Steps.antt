@@ -1,12 +1,11 @@
 -- What a step does, told none or so many words.
-use Rattle.std.proofs.Common.{◌≡◌, ◌⊎◌, ℕ, ◌≤◌, List, [], ◌++◌, Some, Ok, Err, true, inl, inr, refl, sym, ◌∙◌, ap, subst, arith}
+use Rattle.std.proofs.Common.{◌≡◌, ◌⊎◌, ℕ, ◌≤◌, List, [], Ok, Err, true, inl, inr, sym, ◌∙◌, ap, subst, arith}
 use Rattle.std.specs.Prelude.{length}
-use Rattle.gates.specs.declared.gate.Gate.TheVariants.{Open}
 use Rattle.shared_gates.specs.Shares.{Kind}
-use Rattle.language_model.specs.Effects.{World, Answers, Stage, Short, Run, Effect, ◌>>=◌, carry, done}
-use Rattle.language_model.specs.Values.{Value, Private, size}
+use Rattle.language_model.specs.Effects.{World, Answers, Stage, Short, Run, carry, done}
+use Rattle.language_model.specs.Values.{size}
 use Rattle.language_model.specs.Operations.{declassified}
-use Rattle.verified_code.specs.Steps.{Step, Declassify, Function}
+use Rattle.verified_code.specs.Steps.{Function}
 use Rattle.gate_laws.specs.Dealt.{Dealt}
 use Rattle.gate_laws.specs.Facts.{none_of, run_at, IsAt}
 use Rattle.gate_laws.specs.Machine.{Machine, next, step}
@@ -14,7 +13,7 @@ use Rattle.gate_laws.specs.Machines.{MachineStands}
 use Rattle.code_places.specs.Places.{next_step}
 use Rattle.code_places.proofs.Quiet.{KeptAt, Quiet}
 use Rattle.code_places.proofs.QuietSteps.{IsOpening, quiet_or_opening}
-use Rattle.miner_ends.proofs.Openings.{WantsNone, LeavesNone, OpensLast, OpensSized, quiet_wants, quiet_leaves, enough_wants, few_left, none_left, short_so}
+use Rattle.miner_ends.proofs.Openings.{WantsNone, LeavesNone, OpensLast, OpensSized, quiet_leaves, enough_wants, few_left, none_left, short_so}
 use Rattle.miner_ends.proofs.Openings.{opens_sized}
 
 module _ (w : World) (c : List Function) (m : Machine) (source : w.source ≡ Answers) where
