@@ -1,0 +1,169 @@
+-- No run of code counts more words than there are on the tapes of its world.
+use Rattle.std.proofs.Common.{◌≡◌, ◌≤◌, ℕ, zero, suc, Bool, true, false, cond, List, [], ◌∷◌, Option, Some, None, Ok, Err, refl, sym, ap, subst, arith}
+use Rattle.std.specs.Prelude.{nat_le}
+use Rattle.std.specs.List.{slice_get}
+use Rattle.std.proofs.lemmas.Bool.{leb-true}
+use Rattle.proto_core.specs.declared.party.Number.{Number}
+use Rattle.proto_core.specs.Strand.{Notice, Shape, accepts, Mail, taken, Strand, Ends, Acts, Waits, Ran, run, came}
+use Rattle.gates.specs.Clear.{Values}
+use Rattle.language_model.specs.Effects.{World, Stage, RunStop, Ended, Short, Run, words_each}
+use Rattle.language_model.specs.Reports.{Report, dealing, beginning, not_dealt}
+use Rattle.language_model.specs.Tapes.{AtMost, HasWords}
+use Rattle.language_model.proofs.Onward.{Went, stage_of}
+use Rattle.verified_code.specs.Steps.{Step, Function}
+use Rattle.code_model.specs.Machine.{Machine, step, start, exec, further}
+use Rattle.code_model.specs.Meaning.{fuel, report_at, stopped_or, mean_in}
+use Rattle.code_runs.proofs.Onwards.{step_onward}
+use Rattle.driven_nodes.specs.Driven.{telling}
+use Rattle.driven_nodes.specs.Steps.{On, Over, Wants, Stand, Running, Stopped, Short, place_of, stand_of, last_of}
+use Rattle.driven_nodes.specs.Steps as steps
+use Rattle.code_places.specs.Places.{Place, telling_stage, stopped, went, next_step, notices_between, step_told}
+use Rattle.gate_node.specs.OwnGates.{Halted, Whole, Stuck, own_gates}
+use Rattle.gate_node.proofs.Always.{EndsAlways, always-then}
+use Rattle.own_code.specs.OwnCode.{Reached, Unfit, From, gates_between, led_by, go_on, tell_and_go_on, behind_gates, own_code}
+use Rattle.own_code.specs.OwnCode as own
+
+-- ---- what a run ends with
+
+always_any : {A : Type 0} (s : Strand A) → EndsAlways (λ a. Unit {0}) s
+always_any (Ends a) = tt
+always_any (Acts act s) = always_any s
+always_any (Waits l shape k) = λ m. always_any (k m)
+
+module _ {A : Type 0} (P : A → Type 0) where
+  always_telling : (notices : List Notice) (s : Strand A) → EndsAlways P s → EndsAlways P (telling notices s)
+  always_telling [] s h = h
+  always_telling (n ∷ ns) s h = always_telling ns s h
+
+  pub always_run : (s : Strand A) (mail : Mail) → EndsAlways P s → EndsAlways P (run s mail).left
+  always_run (Ends a) mail h = h
+  always_run (Acts act s) mail h = always_run s mail h
+  always_run (Waits l shape k) mail h = by_mail (mail l) (λ m. always_run (k m) (taken l mail) (h m))
+    where
+      still : Ran A
+      still = record { acts = []; left = Waits l shape k; unread = mail }
+
+      by_mail :
+          (ms : List (List ℕ)) → ((m : List ℕ) → EndsAlways P (run (k m) (taken l mail)).left) →
+          EndsAlways P (came ms shape still (λ m. run (k m) (taken l mail))).left
+      by_mail [] more = h
+      by_mail (m ∷ ms) more = by_shape (accepts shape m)
+        where
+          by_shape : (b : Bool) → EndsAlways P (cond b (run (k m) (taken l mail)) still).left
+          by_shape true = more m
+          by_shape false = h
+
+-- ---- one step
+
+none_is_least : (n : ℕ) → 0 ≤ n
+none_is_least n = omega arith
+
+module _ (w : World) where
+  abbrev pub Fits : Stage → Type 0
+  Fits s = AtMost s.drawn w.lengths
+
+  pub beginning_fits : (budget : ℕ) (answers : List ℕ) → Fits (beginning budget answers)
+  beginning_fits budget answers = (none_is_least w.lengths.first, none_is_least w.lengths.second, none_is_least w.lengths.third)
+
+  module _ (c : List Function) where
+    step_fits : (o : Option Step) (m : Machine) (s : Stage) → Fits s → Fits (stage_of (step w c o m s))
+    step_fits o m s h = ((step_onward w c m o).from s).tapes h
+
+    -- ---- a report
+
+    abbrev FitsIf : Option (RunStop × Stage) → Type 0
+    FitsIf None = Unit {0}
+    FitsIf (Some x) = Fits x.1
+
+    further_fits : (r : Run Machine) (on : Machine → Stage → Option (RunStop × Stage)) → Fits (stage_of r) →
+        ((m : Machine) (s : Stage) → Fits s → FitsIf (on m s)) → FitsIf (further r on)
+    further_fits (Ok x) on h more = more x.0 x.1 h
+    further_fits (Err e) on h more = h
+
+    exec_fits : (k : ℕ) (m : Machine) (s : Stage) → Fits s → FitsIf (exec w c k m s)
+    unfolding exec
+    exec_fits zero m s h = tt
+    exec_fits (suc k) m s h =
+        further_fits (step w c (slice_get m.steps m.pc) m s) (exec w c k) (step_fits (slice_get m.steps m.pc) m s h) (λ n t. exec_fits k n t)
+
+    stopped_fits : (s : Stage) (o : Option (RunStop × Stage)) → Fits s → FitsIf o → Fits (stopped_or s o).1
+    stopped_fits s None h k = h
+    stopped_fits s (Some x) h k = k
+
+    pub report_fits : (budget : ℕ) (answers : List ℕ) → HasWords w (mean_in w c budget answers)
+    report_fits budget answers = go (nat_le (dealing w) w.dealer) refl
+      where
+        first : Stage
+        first = beginning budget answers
+
+        last : RunStop × Stage
+        last = stopped_or first (exec w c (fuel c budget) (start c) first)
+
+        go : (b : Bool) → nat_le (dealing w) w.dealer ≡ b → HasWords w (cond b (report_at w budget last) (not_dealt w))
+        go true e =
+            record {
+              dealt = leb-true _ _ e;
+              drawn = stopped_fits first (exec w c (fuel c budget) (start c) first) (beginning_fits budget answers)
+                  (exec_fits (fuel c budget) (start c) first (beginning_fits budget answers));
+            }
+        go false e = record { dealt = none_is_least w.dealer; drawn = beginning_fits budget answers }
+
+    -- ---- a miner
+
+    stopped_drawn : (m : Machine) (u : Stage) (stop : RunStop) → (place_of (stopped m u stop)).stage.drawn ≡ u.drawn
+    stopped_drawn m u (Ended e) = refl
+    stopped_drawn m u Short = refl
+
+    went_drawn : (m : Machine) (r : Run Machine) → (place_of (went m r)).stage.drawn ≡ (stage_of r).drawn
+    went_drawn m (Ok x) = refl
+    went_drawn m (Err e) = stopped_drawn m e.1 e.0
+
+    told_fits : (p : Place) (told : List ℕ) → Fits p.stage → Fits (place_of (step_told w c p told)).stage
+    told_fits p told h =
+        let s : Stage = telling_stage told p.stage in
+        subst (λ d. AtMost d w.lengths) (sym (went_drawn p.machine (step w c (next_step p.machine) p.machine s)))
+        (step_fits (next_step p.machine) p.machine s h)
+
+    abbrev FitsAt : Stand Place → Type 0
+    FitsAt (Running p) = Fits p.stage
+    FitsAt (Stopped p) = Fits p.stage
+    FitsAt (steps.Short p) = Fits p.stage
+
+    abbrev pub EndFits : own.Ended → Type 0
+    EndFits (Reached stand values) = FitsAt stand
+    EndFits Unfit = Unit {0}
+
+    led_fits : (p : Place) (x : steps.Went Place) (values : Values) → Fits p.stage → Fits (place_of x).stage → FitsAt (stand_of (led_by w c values p x))
+    led_fits p (On q) values h k = k
+    led_fits p (Over q) values h k = k
+    led_fits p (Wants q) values h k = led (step_told w c p (last_of values)) (told_fits p (last_of values) h)
+      where
+        led : (y : steps.Went Place) → Fits (place_of y).stage → FitsAt (stand_of y)
+        led (On r) h = h
+        led (Over r) h = h
+        led (Wants r) h = h
+
+    module _ (i : Number) (dealt : Values) where
+      stand_fits :
+          (on : From Place) → ((q : Place) (values : Values) (tape : List ℕ) → Fits q.stage → EndsAlways EndFits (on q values tape)) →
+          (stand : Stand Place) (values : Values) (tape : List ℕ) → FitsAt stand → EndsAlways EndFits (go_on on stand values tape)
+      stand_fits on more (Running q) values tape h = more q values tape h
+      stand_fits on more (Stopped q) values tape h = h
+      stand_fits on more (steps.Short q) values tape h = h
+
+      pub code_fits : (k : ℕ) (p : Place) (values : Values) (tape : List ℕ) → Fits p.stage → EndsAlways EndFits (own_code w c i dealt k p values tape)
+      code_fits zero p values tape h = h
+      code_fits (suc k) p values tape h =
+          always-then (λ halted. Unit {0}) EndFits (own_gates i dealt (gates_between p (place_of x)) values tape)
+          (behind_gates w c (own_code w c i dealt k) p x) (always_any _) (λ halted u. behind halted)
+        where
+          x : steps.Went Place
+          x = step_told w c p []
+
+          behind : (halted : Halted) → EndsAlways EndFits (behind_gates w c (own_code w c i dealt k) p x halted)
+          behind Stuck = tt
+          behind (Whole all rest) =
+              always_telling EndFits (notices_between p (place_of (led_by w c all p x)) all)
+              (go_on (own_code w c i dealt k) (stand_of (led_by w c all p x)) all rest)
+              (stand_fits (own_code w c i dealt k) (λ q. code_fits k q) (stand_of (led_by w c all p x)) all rest
+              (led_fits p x all h (told_fits p [] h)))
