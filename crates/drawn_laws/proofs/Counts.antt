@@ -4,7 +4,6 @@ use Rattle.std.specs.Prelude.{nat_le}
 use Rattle.std.specs.List.{slice_get}
 use Rattle.std.proofs.lemmas.Bool.{leb-true}
 use Rattle.proto_core.specs.declared.party.Number.{Number}
-use Rattle.proto_core.specs.Strand.{Notice, Shape, accepts, Mail, taken, Strand, Ends, Acts, Waits, Ran, run, came}
 use Rattle.gates.specs.Clear.{Values}
 use Rattle.language_model.specs.Effects.{World, Stage, RunStop, Ended, Short, Run, words_each}
 use Rattle.language_model.specs.Reports.{Report, dealing, beginning, not_dealt}
@@ -14,7 +13,6 @@ use Rattle.verified_code.specs.Steps.{Step, Function}
 use Rattle.code_model.specs.Machine.{Machine, step, start, exec, further}
 use Rattle.code_model.specs.Meaning.{fuel, report_at, stopped_or, mean_in}
 use Rattle.code_runs.proofs.Onwards.{step_onward}
-use Rattle.driven_nodes.specs.Driven.{telling}
 use Rattle.driven_nodes.specs.Steps.{On, Over, Wants, Stand, Running, Stopped, Short, place_of, stand_of, last_of}
 use Rattle.driven_nodes.specs.Steps as steps
 use Rattle.code_places.specs.Places.{Place, telling_stage, stopped, went, next_step, notices_between, step_told}
@@ -22,36 +20,7 @@ use Rattle.gate_node.specs.OwnGates.{Halted, Whole, Stuck, own_gates}
 use Rattle.gate_node.proofs.Always.{EndsAlways, always-then}
 use Rattle.own_code.specs.OwnCode.{Reached, Unfit, From, gates_between, led_by, go_on, tell_and_go_on, behind_gates, own_code}
 use Rattle.own_code.specs.OwnCode as own
-
--- ---- what a run ends with
-
-always_any : {A : Type 0} (s : Strand A) → EndsAlways (λ a. Unit {0}) s
-always_any (Ends a) = tt
-always_any (Acts act s) = always_any s
-always_any (Waits l shape k) = λ m. always_any (k m)
-
-module _ {A : Type 0} (P : A → Type 0) where
-  always_telling : (notices : List Notice) (s : Strand A) → EndsAlways P s → EndsAlways P (telling notices s)
-  always_telling [] s h = h
-  always_telling (n ∷ ns) s h = always_telling ns s h
-
-  pub always_run : (s : Strand A) (mail : Mail) → EndsAlways P s → EndsAlways P (run s mail).left
-  always_run (Ends a) mail h = h
-  always_run (Acts act s) mail h = always_run s mail h
-  always_run (Waits l shape k) mail h = by_mail (mail l) (λ m. always_run (k m) (taken l mail) (h m))
-    where
-      still : Ran A
-      still = record { acts = []; left = Waits l shape k; unread = mail }
-
-      by_mail :
-          (ms : List (List ℕ)) → ((m : List ℕ) → EndsAlways P (run (k m) (taken l mail)).left) →
-          EndsAlways P (came ms shape still (λ m. run (k m) (taken l mail))).left
-      by_mail [] more = h
-      by_mail (m ∷ ms) more = by_shape (accepts shape m)
-        where
-          by_shape : (b : Bool) → EndsAlways P (cond b (run (k m) (taken l mail)) still).left
-          by_shape true = more m
-          by_shape false = h
+use Rattle.drawn_laws.proofs.Ended.{always_any, always_telling}
 
 -- ---- one step
 

@@ -6,20 +6,26 @@ use Rattle.proto_core.specs.declared.link.Link.{Link}
 use Rattle.proto_core.specs.Strand.{Ends, run}
 use Rattle.proto_core.specs.Net.{into, nothing, run_of}
 use Rattle.protocol_model.specs.Runs.{Tapes}
-use Rattle.shared_gates.specs.Model.{miner_of}
+use Rattle.protocol_model.specs.Gates.{sizes_of}
+use Rattle.gates.specs.Counts.{words_of_all}
+use Rattle.shared_gates.specs.Model.{miner_of, sizes_after}
+use Rattle.shared_gates.proofs.Drawn.{drawn-counted}
+use Rattle.driven_nodes.specs.Steps.{Stopped}
 use Rattle.language_model.specs.Effects.{Words}
 use Rattle.language_model.specs.Tapes.{AtMost}
 use Rattle.gate_node.proofs.Always.{EndsAlways}
 use Rattle.code_runs.specs.Dealt.{drawn_by}
 use Rattle.miner_core.specs.Meaning.{fuel}
-use Rattle.miner_core.specs.OwnCode.{Ended, Unfit}
+use Rattle.miner_core.specs.OwnCode.{Ended, Reached, Unfit}
 use Rattle.miner_core.specs.Places.{first_place}
 use Rattle.miner_core.specs.Story.{Story, AtStop, mail_in, node, strand_in}
 use Rattle.drawn_laws.specs.Alike.{RunAlike}
-use Rattle.drawn_laws.specs.Laws.{DrawsOfItsTape, DoesTheSame, DoTheSame, HaveSame, ReadsWhatItDraws, ReadWhatTheyDraw, came_on, drawn_of, drawn_with, nodes_on}
+use Rattle.drawn_laws.specs.Laws.{DrawsOfItsTape, DoesTheSame, DoTheSame, HaveSame, ReadsWhatItDraws, ReadWhatTheyDraw, came_on, drawn_of, drawn_so_far, drawn_with, nodes_on}
 use Rattle.drawn_laws.specs.Laws.{on_tape}
 use Rattle.drawn_laws.proofs.Alike.{alike_stands}
-use Rattle.drawn_laws.proofs.Counts.{EndFits, always_run, beginning_fits, code_fits}
+use Rattle.drawn_laws.proofs.Counts.{EndFits, beginning_fits, code_fits}
+use Rattle.drawn_laws.proofs.Ended.{always_run}
+use Rattle.drawn_laws.proofs.Needs.{HasDrawn, code_comes}
 use Rattle.drawn_laws.proofs.Nets.{come_same, read_same}
 use Rattle.drawn_laws.proofs.Nodes.{code_reads}
 use Rattle.drawn_laws.proofs.Reading.{Counting, ReadsOnly, ReadsSame, Taping}
@@ -35,6 +41,14 @@ module _ (i : Number) (s : Story) where
       always_run (EndFits s.world s.code) (strand_in i s) (mail_in i s)
       (code_fits s.world s.code i s.dealt (fuel s.code s.budget) (first_place s.code s.budget) [] s.tape (beginning_fits s.world s.budget []))
 
+  exact : AtStop i s (λ p. drawn_so_far i s ≡ words_of_all (sizes_after (sizes_of s.dealt) [] p.stage.gates) (miner_of i) p.stage.gates)
+  exact p values e =
+      let h : HasDrawn s.world s.code i s.dealt p.stage.gates (0 + drawn_so_far i s) =
+      (code_comes s.world s.code i s.dealt (fuel s.code s.budget) (first_place s.code s.budget) [] 0 refl (record { suit = tt; count = refl })).from s.tape
+      (mail_in i s) (Reached (Stopped p) values) e in
+      let n : drawn_so_far i s ≡ 0 + drawn_so_far i s = omega arith in
+      n ∙ h.count ∙ drawn-counted (λ k. s.dealt) (sizes_of s.dealt) [] p.stage.gates i h.suit
+
   counted : AtStop i s (λ p. AtMost p.stage.drawn s.world.lengths)
   counted p values e = subst (EndsAlways (EndFits s.world s.code)) e fits
 
@@ -49,6 +63,7 @@ module _ (i : Number) (s : Story) where
         within = reads.within s.tape (mail_in i s);
         grows = λ more. reads.grows s.tape (mail_in i s) more;
         least = λ k less. reads.least s.tape (mail_in i s) k less;
+        exact = exact;
         counted = counted;
         own = λ long p values e.
             subst (λ n. drawn_by p.stage.drawn (miner_of i) ≤ n) long (of_each p.stage.drawn s.world.lengths (counted p values e) i);

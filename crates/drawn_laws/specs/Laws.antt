@@ -5,7 +5,9 @@ use Rattle.proto_core.specs.declared.link.Link.{Link}
 use Rattle.proto_core.specs.Strand.{Mail, Strand, Ends}
 use Rattle.proto_core.specs.Net.{added, all_delivered, into, nothing, run_of}
 use Rattle.protocol_model.specs.Runs.{Tapes}
-use Rattle.shared_gates.specs.Model.{miner_of}
+use Rattle.protocol_model.specs.Gates.{sizes_of}
+use Rattle.gates.specs.Counts.{words_of_all}
+use Rattle.shared_gates.specs.Model.{miner_of, sizes_after}
 use Rattle.language_model.specs.Effects.{World}
 use Rattle.language_model.specs.Tapes.{AtMost, HasWords}
 use Rattle.verified_code.specs.Steps.{Function}
@@ -23,8 +25,8 @@ abbrev pub drawn_with : Number → Story → Mail → ℕ
 drawn_with i s mail = drawn_by_code s.world s.code i s.dealt (fuel s.code s.budget) (first_place s.code s.budget) [] s.tape mail
 
 -- so many it has drawn, with those that came to it
-abbrev pub words_drawn : Number → Story → ℕ
-words_drawn i s = drawn_with i s (mail_in i s)
+abbrev pub drawn_so_far : Number → Story → ℕ
+drawn_so_far i s = drawn_with i s (mail_in i s)
 
 abbrev pub on_tape : Story → (tape : List ℕ) → Story
 on_tape s tape = record s { tape = tape }
@@ -32,12 +34,14 @@ on_tape s tape = record s { tape = tape }
 -- ---- never more than there are
 
 pub record DrawsOfItsTape (i : Number) (s : Story) : Type 0 where
-  pub within : words_drawn i s ≤ length s.tape
+  pub within : drawn_so_far i s ≤ length s.tape
   -- further messages take none back
-  pub grows : (more : Mail) → words_drawn i s ≤ drawn_with i s (added (mail_in i s) more)
+  pub grows : (more : Mail) → drawn_so_far i s ≤ drawn_with i s (added (mail_in i s) more)
   -- where its tape has fewer, a gate finds too few
-  pub least : (k : ℕ) → k < words_drawn i s → (node i (on_tape s (take k s.tape))).left ≡ Ends Unfit
-  -- where its run has ended, this has counted no more words of any tape than the miner was told that there are
+  pub least : (k : ℕ) → k < drawn_so_far i s → (node i (on_tape s (take k s.tape))).left ≡ Ends Unfit
+  -- where its run has ended, these are the words that the gates draw which were made up to there
+  pub exact : AtStop i s (λ p. drawn_so_far i s ≡ words_of_all (sizes_after (sizes_of s.dealt) [] p.stage.gates) (miner_of i) p.stage.gates)
+  -- and it has counted no more words of any tape than the miner was told that there are
   pub counted : AtStop i s (λ p. AtMost p.stage.drawn s.world.lengths)
   pub own : drawn_by s.world.lengths (miner_of i) ≡ length s.tape → AtStop i s (λ p. drawn_by p.stage.drawn (miner_of i) ≤ length s.tape)
 
@@ -55,10 +59,10 @@ pub record HaveSame (count : ℕ) (tape other : List ℕ) : Type 0 where
 pub record DoesTheSame (i : Number) (s other : Story) : Type 0 where
   pub alike : RunAlike (node i other) (node i s)
   pub stands : stands_at i other ≡ stands_at i s
-  pub drawn : words_drawn i other ≡ words_drawn i s
+  pub drawn : drawn_so_far i other ≡ drawn_so_far i s
 
 abbrev pub ReadsWhatItDraws : Number → Story → (tape : List ℕ) → Type 0
-ReadsWhatItDraws i s tape = HaveSame (words_drawn i s) s.tape tape → DoesTheSame i s (on_tape s tape)
+ReadsWhatItDraws i s tape = HaveSame (drawn_so_far i s) s.tape tape → DoesTheSame i s (on_tape s tape)
 
 -- ---- three, each made as its story says but for its tape, whose messages are delivered in the order of these links
 

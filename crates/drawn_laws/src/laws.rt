@@ -9,8 +9,8 @@ ghost use Rattle.miner_core.specs.Story.{Story};
 ghost use Rattle.drawn_laws.specs.Laws.{CodeKeepsToItsTapes, DrawsOfItsTape, ReadsWhatItDraws, ReadWhatTheyDraw};
 
 /// Law: at every state a miner has drawn at most as many words as its tape has, whatever code, shares, tape and budget it was made with, and
-/// whatever messages came to it. With a tape that has fewer its run ends where a gate finds too few. Where its run has ended, this has counted
-/// no more words of any miner's tape than the miner was told that there are.
+/// whatever messages came to it. With a tape that has fewer its run ends where a gate finds too few. Where its run has ended, these are the
+/// words that its gates draw, and it has counted no more words of any miner's tape than the miner was told that there are.
 ///
 /// The report of a run of any code counts no more words of the dealer's tape and of each miner's than there are.
 pub fn miners_draw_of_their_tapes()
