@@ -4,6 +4,7 @@ use Rattle.std.specs.Prelude.{nat_le}
 use Rattle.std.specs.List.{slice_get}
 use Rattle.std.proofs.lemmas.Bool.{leb-true}
 use Rattle.proto_core.specs.declared.party.Number.{Number}
+use Rattle.proto_core.specs.Strand.{Strand}
 use Rattle.gates.specs.Clear.{Values}
 use Rattle.language_model.specs.Effects.{World, Stage, RunStop, Ended, Short, Run, words_each}
 use Rattle.language_model.specs.Reports.{Report, dealing, beginning, not_dealt}
@@ -112,27 +113,29 @@ module _ (w : World) where
         led (Over r) h = h
         led (Wants r) h = h
 
-    module _ (i : Number) (dealt : Values) where
-      stand_fits :
-          (on : From Place) → ((q : Place) (values : Values) (tape : List ℕ) → Fits q.stage → EndsAlways EndFits (on q values tape)) →
-          (stand : Stand Place) (values : Values) (tape : List ℕ) → FitsAt stand → EndsAlways EndFits (go_on on stand values tape)
-      stand_fits on more (Running q) values tape h = more q values tape h
-      stand_fits on more (Stopped q) values tape h = h
-      stand_fits on more (steps.Short q) values tape h = h
+    -- what is done from any place that fits ends at one
+    abbrev CodeFits : From Place → Type 0
+    CodeFits on = (p : Place) (values : Values) (tape : List ℕ) → Fits p.stage → EndsAlways EndFits (on p values tape)
 
-      pub code_fits : (k : ℕ) (p : Place) (values : Values) (tape : List ℕ) → Fits p.stage → EndsAlways EndFits (own_code w c i dealt k p values tape)
-      code_fits zero p values tape h = h
-      code_fits (suc k) p values tape h =
-          always-then (λ halted. Unit {0}) EndFits (own_gates i dealt (gates_between p (place_of x)) values tape)
-          (behind_gates w c (own_code w c i dealt k) p x) (always_any _) (λ halted u. behind halted)
-        where
-          x : steps.Went Place
-          x = step_told w c p []
+    stand_fits :
+        (on : From Place) → CodeFits on → (stand : Stand Place) (values : Values) (tape : List ℕ) → FitsAt stand →
+        EndsAlways EndFits (go_on on stand values tape)
+    stand_fits on more (Running q) values tape h = more q values tape h
+    stand_fits on more (Stopped q) values tape h = h
+    stand_fits on more (steps.Short q) values tape h = h
 
-          behind : (halted : Halted) → EndsAlways EndFits (behind_gates w c (own_code w c i dealt k) p x halted)
-          behind Stuck = tt
-          behind (Whole all rest) =
-              always_telling EndFits (notices_between p (place_of (led_by w c all p x)) all)
-              (go_on (own_code w c i dealt k) (stand_of (led_by w c all p x)) all rest)
-              (stand_fits (own_code w c i dealt k) (λ q. code_fits k q) (stand_of (led_by w c all p x)) all rest
-              (led_fits p x all h (told_fits p [] h)))
+    behind_fits :
+        (on : From Place) → CodeFits on → (p : Place) → Fits p.stage → (halted : Halted) →
+        EndsAlways EndFits (behind_gates w c on p (step_told w c p []) halted)
+    behind_fits on more p h Stuck = tt
+    behind_fits on more p h (Whole all rest) =
+        let x : steps.Went Place = step_told w c p [] in
+        always_telling EndFits (notices_between p (place_of (led_by w c all p x)) all) (go_on on (stand_of (led_by w c all p x)) all rest)
+        (stand_fits on more (stand_of (led_by w c all p x)) all rest (led_fits p x all h (told_fits p [] h)))
+
+    pub code_fits : (i : Number) (dealt : Values) (k : ℕ) → CodeFits (own_code w c i dealt k)
+    code_fits i dealt zero p values tape h = h
+    code_fits i dealt (suc k) p values tape h =
+        let gates : Strand Halted = own_gates i dealt (gates_between p (place_of (step_told w c p []))) values tape in
+        always-then (λ halted. Unit {0}) EndFits gates (behind_gates w c (own_code w c i dealt k) p (step_told w c p [])) (always_any gates)
+        (λ halted u. behind_fits (own_code w c i dealt k) (code_fits i dealt k) p h halted)

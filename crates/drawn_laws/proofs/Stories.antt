@@ -1,5 +1,5 @@
 -- The words that a miner draws, by its story.
-use Rattle.std.proofs.Common.{◌≡◌, ◌≤◌, ◌∙◌, ℕ, List, [], length, refl, sym, ap, subst, arith}
+use Rattle.std.proofs.Common.{◌≡◌, ◌≤◌, ◌+◌, ◌∙◌, ℕ, List, [], length, refl, sym, ap, subst, arith}
 use Rattle.proto_core.specs.declared.party.Number.{Number}
 use Rattle.proto_core.specs.declared.party.Number.TheVariants.{One, Two, Three}
 use Rattle.proto_core.specs.declared.link.Link.{Link}
@@ -77,10 +77,10 @@ module _ (i : Number) (s : Story) where
 -- ---- three
 
 module _ (stories : Number → Story) (links : List Link) (tapes others : Tapes) where
-  taping : Number → Taping Ended
+  abbrev taping : Number → Taping Ended
   taping i tape = strand_in i (on_tape (stories i) tape)
 
-  counting : Number → Counting
+  abbrev counting : Number → Counting
   counting i tape mail = drawn_with i (on_tape (stories i) tape) mail
 
   pub read_what_they_draw : ReadWhatTheyDraw stories links tapes others
