@@ -1,7 +1,6 @@
 -- Runs of strands that go on alike.
-use Rattle.std.proofs.Common.{◌≡◌, ◌≤◌, ◌<◌, ◌+◌, ℕ, Bool, true, false, List, [], ◌∷◌, refl, sym, ◌∙◌, ap, subst, arith}
-use Rattle.proto_core.specs.declared.link.Link.{Link}
-use Rattle.proto_core.specs.Strand.{Notice, Shape, accepts, Mail, taken, Act, Told, Strand, Ends, Acts, Waits, Ran, run, then_do}
+use Rattle.std.proofs.Common.{◌≡◌, ◌≤◌, ◌<◌, ℕ, Bool, true, false, List, [], ◌∷◌, refl, sym, ◌∙◌, ap, subst, arith}
+use Rattle.proto_core.specs.Strand.{Notice, accepts, Mail, taken, Told, Strand, Ends, Acts, Waits, Ran, run, then_do}
 use Rattle.proto_core.specs.Net.{added}
 use Rattle.proto_core.specs.Standing.{standing_of, standing_with}
 use Rattle.proto_core.proofs.Strands.{standing, run-none, run-took, run-refused, run-added, run-then_do}

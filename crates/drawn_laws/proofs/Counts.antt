@@ -1,15 +1,15 @@
 -- No run of code counts more words than there are on the tapes of its world.
-use Rattle.std.proofs.Common.{◌≡◌, ◌≤◌, ℕ, zero, suc, Bool, true, false, cond, List, [], ◌∷◌, Option, Some, None, Ok, Err, refl, sym, ap, subst, arith}
+use Rattle.std.proofs.Common.{◌≡◌, ◌≤◌, ℕ, zero, suc, Bool, true, false, cond, List, [], Option, Some, None, Ok, Err, refl, sym, subst, arith}
 use Rattle.std.specs.Prelude.{nat_le}
 use Rattle.std.specs.List.{slice_get}
 use Rattle.std.proofs.lemmas.Bool.{leb-true}
 use Rattle.proto_core.specs.declared.party.Number.{Number}
 use Rattle.proto_core.specs.Strand.{Strand}
 use Rattle.gates.specs.Clear.{Values}
-use Rattle.language_model.specs.Effects.{World, Stage, RunStop, Ended, Short, Run, words_each}
-use Rattle.language_model.specs.Reports.{Report, dealing, beginning, not_dealt}
+use Rattle.language_model.specs.Effects.{World, Stage, RunStop, Ended, Short, Run}
+use Rattle.language_model.specs.Reports.{dealing, beginning, not_dealt}
 use Rattle.language_model.specs.Tapes.{AtMost, HasWords}
-use Rattle.language_model.proofs.Onward.{Went, stage_of}
+use Rattle.language_model.proofs.Onward.{stage_of}
 use Rattle.verified_code.specs.Steps.{Step, Function}
 use Rattle.code_model.specs.Machine.{Machine, step, start, exec, further}
 use Rattle.code_model.specs.Meaning.{fuel, report_at, stopped_or, mean_in}

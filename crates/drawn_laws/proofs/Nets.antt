@@ -1,14 +1,13 @@
 -- Three miners of whom each does the same do the same together.
-use Rattle.std.proofs.Common.{◌≡◌, ◌≤◌, ℕ, Bool, true, false, if◌then◌else◌, List, [], ◌∷◌, ◌++◌, length, drop, refl, ◌∙◌, ap, subst}
+use Rattle.std.proofs.Common.{◌≡◌, ◌≤◌, ℕ, true, false, if◌then◌else◌, List, [], ◌∷◌, ◌++◌, length, drop, refl, ◌∙◌, ap, subst}
 use Rattle.proto_core.specs.declared.party.Number.{Number}
 use Rattle.proto_core.specs.declared.link.Link.{Link}
 use Rattle.proto_core.specs.Parties.{sender_of}
-use Rattle.proto_core.specs.Strand.{Mail, Strand, Begins, next_after, on_link, run, same_link}
-use Rattle.proto_core.specs.Net.{MailBegins, added, all_delivered, delivered, into, posted, run_of, under_way}
+use Rattle.proto_core.specs.Strand.{Mail, Strand, Begins, next_after, on_link, same_link}
+use Rattle.proto_core.specs.Net.{MailBegins, all_delivered, delivered, into, posted, run_of, under_way}
 use Rattle.proto_core.proofs.Beginnings.{begins-append, begins-self, begins-trans}
 use Rattle.proto_core.proofs.Nets.{into-more}
 use Rattle.proto_core.proofs.Strands.{added-rest}
-use Rattle.drawn_laws.specs.Alike.{RunAlike}
 use Rattle.drawn_laws.proofs.Reading.{Counting, ReadsOnly, ReadsSame, SameFront, Taping, front_less}
 
 -- ---- what comes

@@ -18,7 +18,7 @@ use Rattle.language_model.specs.Effects.{World}
 use Rattle.verified_code.specs.Steps.{Function}
 use Rattle.driven_nodes.specs.Steps.{Stand, Running, Stopped, Short, Went, place_of, stand_of}
 use Rattle.code_places.specs.Places.{Place, notices_between, step_told}
-use Rattle.own_code.specs.OwnCode.{Ended, Reached, Unfit, From, gates_between, led_by, go_on, own_code, behind_gates}
+use Rattle.own_code.specs.OwnCode.{Reached, Unfit, From, gates_between, led_by, go_on, own_code, behind_gates}
 use Rattle.drawn_laws.specs.Alike.{RunAlike}
 use Rattle.drawn_laws.specs.Drawn.{Count, drawn_behind, own_part, drawn_by_gates, drawn_from, drawn_by_code}
 use Rattle.drawn_laws.proofs.Alike.{run_self}
@@ -117,12 +117,11 @@ module _ (i : Number) (dealt : Values) {B : Type 0} (unfit : B) (go : Halted →
         (can t ≡ b) × SameAs b b s t mail
     same s t mail long false cannot e = (still_not fits draws (length s) (length t) cannot long, (run_self (run (go Stuck) mail), refl))
     same s t mail long true can e =
-        let r = reading.part_same unfit draws part front (gates_taping gates) (drawn_by_gates i dealt gates later) rest s t mail long e in
-        (
+        let r = reading.part_same unfit draws part front (gates_taping gates) (drawn_by_gates i dealt gates later) rest s t mail long e in (
           can_with s t can (front_less draws (count_by true s mail) t s (omega arith) e),
           (
             subst (λ x. RunAlike (run x mail) (run (by_test true s) mail)) (sym (regrouped t))
-            (subst (λ x. RunAlike (run (in_parts t) mail) (run x mail)) (sym (regrouped s)) r.0),
+                (subst (λ x. RunAlike (run (in_parts t) mail) (run x mail)) (sym (regrouped s)) r.0),
             r.1,
           ),
         )

@@ -1,9 +1,8 @@
 -- The words that a miner draws, by its story.
-use Rattle.std.proofs.Common.{◌≡◌, ◌≤◌, ◌+◌, ◌∙◌, ℕ, List, [], length, refl, sym, ap, subst, arith}
+use Rattle.std.proofs.Common.{◌≡◌, ◌≤◌, ◌+◌, ◌∙◌, ℕ, List, [], refl, sym, ap, subst, arith}
 use Rattle.proto_core.specs.declared.party.Number.{Number}
 use Rattle.proto_core.specs.declared.party.Number.TheVariants.{One, Two, Three}
 use Rattle.proto_core.specs.declared.link.Link.{Link}
-use Rattle.proto_core.specs.Strand.{Ends, run}
 use Rattle.proto_core.specs.Net.{into, nothing, run_of}
 use Rattle.protocol_model.specs.Runs.{Tapes}
 use Rattle.protocol_model.specs.Gates.{sizes_of}
@@ -20,7 +19,7 @@ use Rattle.miner_core.specs.OwnCode.{Ended, Reached, Unfit}
 use Rattle.miner_core.specs.Places.{first_place}
 use Rattle.miner_core.specs.Story.{Story, AtStop, mail_in, node, strand_in}
 use Rattle.drawn_laws.specs.Alike.{RunAlike}
-use Rattle.drawn_laws.specs.Laws.{DrawsOfItsTape, DoesTheSame, DoTheSame, HaveSame, ReadsWhatItDraws, ReadWhatTheyDraw, came_on, drawn_of, drawn_so_far, drawn_with, nodes_on}
+use Rattle.drawn_laws.specs.Laws.{DrawsOfItsTape, ReadsWhatItDraws, ReadWhatTheyDraw, came_on, drawn_so_far, drawn_with, nodes_on}
 use Rattle.drawn_laws.specs.Laws.{on_tape}
 use Rattle.drawn_laws.proofs.Alike.{alike_stands}
 use Rattle.drawn_laws.proofs.Counts.{EndFits, beginning_fits, code_fits}
