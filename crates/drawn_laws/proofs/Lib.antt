@@ -6,3 +6,4 @@ pub mod Ended
 pub mod Counts
 pub mod Needs
 pub mod Stories
+pub mod Shared

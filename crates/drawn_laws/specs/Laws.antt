@@ -9,10 +9,13 @@ use Rattle.protocol_model.specs.Gates.{sizes_of}
 use Rattle.gates.specs.Counts.{words_of_all}
 use Rattle.shared_gates.specs.Model.{miner_of, sizes_after}
 use Rattle.language_model.specs.Effects.{World}
+use Rattle.language_model.specs.Reports.{Offered}
 use Rattle.language_model.specs.Tapes.{AtMost, HasWords}
 use Rattle.verified_code.specs.Steps.{Function}
-use Rattle.code_model.specs.Meaning.{mean_in}
-use Rattle.code_runs.specs.Dealt.{drawn_by}
+use Rattle.code_model.specs.Meaning.{mean, mean_in}
+use Rattle.code_runs.specs.Dealt.{Dealt, drawn_by}
+use Rattle.code_runs.specs.Laws.{MayRunShared}
+use Rattle.code_runs.specs.Runs.{StopsAs}
 use Rattle.miner_core.specs.Meaning.{fuel}
 use Rattle.miner_core.specs.Places.{first_place}
 use Rattle.miner_core.specs.OwnCode.{Ended, Unfit}
@@ -48,6 +51,12 @@ pub record DrawsOfItsTape (i : Number) (s : Story) : Type 0 where
 -- a run of code needs no more words of the dealer's tape and the miners' than these have
 abbrev pub CodeKeepsToItsTapes : World → List Function → (budget : ℕ) → (answers : List ℕ) → Type 0
 CodeKeepsToItsTapes w c budget answers = HasWords w (mean_in w c budget answers)
+
+-- where it is one of three that run code which may run shared, and stands where this stops, the run counts what it has drawn
+abbrev pub CountsWhatItDrew : Offered → Dealt → List Function → (budget : ℕ) → Tapes → Number → Story → Type 0
+CountsWhatItDrew o d c budget tapes i s =
+    MayRunShared o d c tapes → s.dealt ≡ d.shares i →
+    AtStop i s (λ p. StopsAs (mean c o budget) budget p → drawn_by p.stage.drawn (miner_of i) ≡ drawn_so_far i s)
 
 -- ---- no others are read
 
