@@ -4,6 +4,7 @@ pub mod Growing
 pub mod Lines
 pub mod Naming
 pub mod ReadStops
+pub mod Said
 pub mod Statuses
 pub mod Wholes
 pub mod Writes

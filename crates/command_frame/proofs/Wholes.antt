@@ -1,13 +1,14 @@
 -- What a whole command does, told of its status alone.
-use Rattle.std.proofs.Common.{◌≡◌, ◌≢◌, ◌⊎◌, ℕ, List, true, false, Option, None, Ok, Err, Result, refl, ap, subst, sym, ◌∙◌, inl, inr, string_bytes}
+use Rattle.std.proofs.Common.{◌≡◌, ◌≢◌, ◌⊎◌, ℕ, List, Bool, true, false, Option, None, Ok, Err, Result, refl, ap, subst, sym, ◌∙◌, inl, inr, string_bytes}
 use Rattle.std.proofs.Common.{◌++◌, ◌∷◌, Contains}
 use Rattle.std.proofs.lemmas.Bool.{false≢true}
 use Rattle.std.proofs.lemmas.List.{map-append}
 use Rattle.std.proofs.lemmas.List.Elements.{Contains-append_left}
-use Rattle.std.specs.Prelude.{IsOkAnd, IsSome, IfErr}
+use Rattle.std.specs.Prelude.{IsOkAnd, IsSome, IfErr, IfOk, codes}
 use Rattle.outside.specs.Causes.{Rose}
 use Rattle.outside.specs.Files.{Contents, SameFiles, file_at}
 use Rattle.outside.specs.Sink.{SinkState, SameSink}
+use Rattle.sc_text.specs.declared.fault.Fault.TheVariants as faults
 use Rattle.sc_text.specs.Fault.{file_line}
 use Rattle.command_frame.specs.declared.object.Object.TheVariants as objects
 use Rattle.command_frame.specs.declared.status.Status.{Status}
@@ -19,13 +20,16 @@ use Rattle.command_frame.specs.Answer.{usage, wholly, writes_in}
 use Rattle.command_frame.specs.Decides.{AfterWrites, RefusesFor}
 use Rattle.command_frame.specs.Finish.{OnlyAmong, PutLine, StopsMidway}
 use Rattle.command_frame.specs.Moments.{AreSteady, AreTold, Moment, Reach}
-use Rattle.command_frame.specs.Objects.{link_line, write_line}
+use Rattle.command_frame.specs.Objects.{child_line, link_line, write_line}
 use Rattle.command_frame.specs.Reads.{cut_off}
+use Rattle.command_frame.specs.Said.{IsErrorLine}
 use Rattle.command_frame.specs.Status.{can_refuse, is_end}
 use Rattle.command_frame.specs.Stops.{memory_line}
 use Rattle.command_frame.specs.Whole.{Acts, ActsAnyhow, CarriedOut, CarriedSo, ChildrenRose, CutsText, EndsAnyhow, EndsAs, FileFaulted, FileTold, HasFailed, IsAnswered}
-use Rattle.command_frame.specs.Whole.{IsCut, IsDone, IsMissed, IsTold, LeavesFiles, LinksRose, OnlyWritten, OutFaulted, Paths, PutsNothing, RunsShort, Says, StopsAtFile, status_in}
+use Rattle.command_frame.specs.Whole.{IsCut, IsDone, IsMissed, IsTold, LeavesFiles, LinksRose, OnlyWritten, OutFaulted, Paths, PutsNothing, RunsShort, Says, SaysError, StopsAtFile}
+use Rattle.command_frame.specs.Whole.{status_in}
 use Rattle.command_frame.proofs.Finishing.{midway_among}
+use Rattle.command_frame.proofs.Said.{any_is_error, fault_is_error, file_is_error}
 use Rattle.command_frame.proofs.Statuses.{breach_ends, clash, never, no_breach, no_end, no_refusal}
 use Rattle.command_frame.proofs.Writes.{others_after}
 
@@ -431,14 +435,38 @@ module _ {A : Type 0} (ask : Option A) (reach : Reach) (m m' : Moment) where
   child_breached (Err (stops.Failed objects.Links)) a is = clash statuses.Link statuses.Child refl is
   child_breached (Err (stops.Failed objects.Children)) a is = inr a.1.0
 
-  pub refused_prints_nothing : (r : Result Status Stop) → Did r → is_end (status_in r) ≡ false → status_in r ≢ statuses.Write
-      → status_in r ≢ statuses.Memory → PutsNothing m m'
-  refused_prints_nothing (Ok s) a unended write memory = never (is_end s) a.1 unended
-  refused_prints_nothing (Err stops.Memory) a unended write memory = absurd (memory refl)
-  refused_prints_nothing (Err stops.Usage) a unended write memory = a.1
-  refused_prints_nothing (Err (stops.Refused r)) a unended write memory = a.1
-  refused_prints_nothing (Err (stops.Breached b)) a unended write memory = a.1.1
-  refused_prints_nothing (Err (stops.Failed (objects.File line))) a unended write memory = a.1.1
-  refused_prints_nothing (Err (stops.Failed objects.Output)) a unended write memory = absurd (write refl)
-  refused_prints_nothing (Err (stops.Failed objects.Links)) a unended write memory = a.1.1
-  refused_prints_nothing (Err (stops.Failed objects.Children)) a unended write memory = a.1.1
+  -- ---- a command that doesn't come to one of its ends
+
+  abbrev EndsAmong : (Status → Bool) → Result Status Stop → Type 0
+  EndsAmong ends r = IfOk r (λ s. ends s ≡ true)
+
+  pub refused_prints_nothing : (ends : Status → Bool) (r : Result Status Stop) → Did r → EndsAmong ends r → ends (status_in r) ≡ false
+      → status_in r ≢ statuses.Write → status_in r ≢ statuses.Memory → PutsNothing m m'
+  refused_prints_nothing ends (Ok s) a ended unended write memory = never (ends s) ended unended
+  refused_prints_nothing ends (Err stops.Memory) a ended unended write memory = absurd (memory refl)
+  refused_prints_nothing ends (Err stops.Usage) a ended unended write memory = a.1
+  refused_prints_nothing ends (Err (stops.Refused r)) a ended unended write memory = a.1
+  refused_prints_nothing ends (Err (stops.Breached b)) a ended unended write memory = a.1.1
+  refused_prints_nothing ends (Err (stops.Failed (objects.File line))) a ended unended write memory = a.1.1
+  refused_prints_nothing ends (Err (stops.Failed objects.Output)) a ended unended write memory = absurd (write refl)
+  refused_prints_nothing ends (Err (stops.Failed objects.Links)) a ended unended write memory = a.1.1
+  refused_prints_nothing ends (Err (stops.Failed objects.Children)) a ended unended write memory = a.1.1
+
+  module _ (paths : Paths) (Courses : Course → Type 0) where
+    file_says_error : (line : List ℕ) → FileFaulted paths reach Courses m.sources m'.sources line → PutLine line m.err m'.err → SaysError m.err m'.err
+    file_says_error line faulted says =
+        let (path, is) = faulted_line ask paths reach Courses m m' line faulted in
+        (line, subst IsErrorLine (sym is) (file_is_error path), says)
+
+    pub stops_say_error : (ends : Status → Bool) (r : Result Status Stop) → EndsAmong ends r
+        → IfErr r (StopsAtFile paths reach Courses m.sources m'.sources) → Says r m.err m'.err → ends (status_in r) ≡ false → SaysError m.err m'.err
+    stops_say_error ends (Ok s) ended stops says unended = never (ends s) ended unended
+    stops_say_error ends (Err stops.Memory) ended stops says unended = (memory_line, fault_is_error faults.Memory, says)
+    stops_say_error ends (Err stops.Usage) ended stops says unended = (usage.line, fault_is_error faults.Usage, says)
+    stops_say_error ends (Err (stops.Refused r)) ended stops says unended = (string_bytes r.line, r.says, says)
+    stops_say_error ends (Err (stops.Breached b)) ended stops says unended = (string_bytes b.line, b.says, says)
+    stops_say_error ends (Err (stops.Failed (objects.File line))) ended stops says unended =
+        file_says_error (string_bytes line) (stops.named line refl) says
+    stops_say_error ends (Err (stops.Failed objects.Output)) ended stops says unended = (write_line, fault_is_error faults.Write, says)
+    stops_say_error ends (Err (stops.Failed objects.Links)) ended stops says unended = (link_line, any_is_error (codes "link"), says)
+    stops_say_error ends (Err (stops.Failed objects.Children)) ended stops says unended = (child_line, any_is_error (codes "child"), says)

@@ -4,6 +4,7 @@ pub mod Finish
 pub mod Moments
 pub mod Objects
 pub mod Reads
+pub mod Said
 pub mod Status
 pub mod Stops
 pub mod Whole

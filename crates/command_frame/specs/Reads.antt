@@ -1,5 +1,5 @@
 -- What a function that reads files answered, and one that reads what comes from peers, too.
-use Rattle.std.specs.Prelude.{ℕ, ◌≡◌, List, Bool, true, Result, Ok, Err, MatchResult, Contains, string_bytes}
+use Rattle.std.specs.Prelude.{ℕ, ◌≡◌, List, Bool, true, Result, Ok, Err, IfOk, MatchResult, Contains, string_bytes}
 use Rattle.outside.specs.Causes.{Rose}
 use Rattle.outside.specs.Files.{FilesState}
 use Rattle.outside.specs.Links.{LinksState}
@@ -13,6 +13,7 @@ use Rattle.command_frame.specs.declared.stop.Stop.{Stop}
 use Rattle.command_frame.specs.declared.stop.Stop.TheVariants as stops
 use Rattle.command_frame.specs.Answer.{Cause, breach_of, cause_of, paths_in, writes_of}
 use Rattle.command_frame.specs.Objects.{OfFile, OfObject, link_line}
+use Rattle.command_frame.specs.Status.{is_done}
 
 -- the count of faults rose, and that of a steady store only where the file is missing
 pub record Faulted {Y : Type 0} (old new : FilesState) (line : List ℕ) (decided : Result Y Cause) : Type 0 where
@@ -101,3 +102,9 @@ pub record PlanNames (paths : List (List ℕ)) (plan : Plan) : Type 0 where
 -- a command reads the first of these paths and writes the second, and no others
 abbrev pub KeepsTo : List (List ℕ) → List (List ℕ) → Result Plan Stop → Type 0
 KeepsTo reads written result = MatchResult result (PlanNames written) (StopNames reads)
+
+-- ---- ends
+
+-- a command that isn't refused is done
+abbrev pub EndsDone : {E : Type 0} → Result Plan E → Type 0
+EndsDone result = IfOk result (λ plan. is_done plan.status ≡ true)

@@ -45,6 +45,11 @@ is_end OpenedShort = false
 is_end Write = false
 is_end Memory = false
 
+-- a command that runs no program has one end
+abbrev pub is_done : Status → Bool
+is_done Done = true
+is_done _ = false
+
 -- a refusal of what files hold may have this status, by its cause; a dealer's tape that is too short is a refusal, a run's is an end
 abbrev pub can_refuse : Status → Bool
 can_refuse Done = false

@@ -17,6 +17,7 @@ use Rattle.command_frame.specs.Finish.{BreaksOff, PutLine, PutPrefix, ShortOfMem
 use Rattle.command_frame.specs.Moments.{AreTold, Moment, Reach, Sources}
 use Rattle.command_frame.specs.Objects.{OfObject, TellsFault}
 use Rattle.command_frame.specs.Reads.{IsLineOf}
+use Rattle.command_frame.specs.Said.{IsErrorLine}
 use Rattle.command_frame.specs.Status.{is_end}
 use Rattle.command_frame.specs.Stops.{status_of, line_of}
 
@@ -169,6 +170,10 @@ SaysAll (Err stop) e e' = Appends e e' (line_of stop)
 abbrev pub status_in : Result Status Stop → Status
 status_in (Ok status) = status
 status_in (Err stop) = status_of stop
+
+-- a line that begins with `error: `, or a prefix of it where the error stream gave up
+abbrev pub SaysError : SinkState → SinkState → Type 0
+SaysError e e' = (line : List ℕ) × IsErrorLine line × PutLine line e e'
 
 -- ---- what the caller of the program is told
 

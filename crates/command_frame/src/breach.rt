@@ -1,4 +1,5 @@
-ghost use Rattle.std.specs.Prelude.{◌≡◌, true};
+ghost use Rattle.std.specs.Prelude.{◌≡◌, true, string_bytes};
+ghost use Rattle.command_frame.specs.Said.{IsErrorLine};
 ghost use Rattle.command_frame.specs.Status.{can_breach};
 
 use crate::Status;
@@ -9,4 +10,5 @@ pub struct Breach {
     pub status: Status,
     pub line: String,
     pub ghost breaches: { can_breach status ≡ true },
+    pub ghost says: { IsErrorLine (string_bytes line) },
 }

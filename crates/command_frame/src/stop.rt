@@ -1,4 +1,5 @@
 ghost use Rattle.std.specs.Prelude.{◌≡◌, true, IfOk, IfErr, string_bytes};
+ghost use Rattle.command_frame.specs.Said.{IsErrorLine};
 ghost use Rattle.command_frame.specs.Status.{can_breach, can_refuse};
 ghost use Rattle.command_frame.specs.Stops.{status_of, line_of, IsBreachFor, IsFileStop, IsRefusalFor};
 ghost use Rattle.command_frame.specs.declared.stop.Stop.TheVariants.{Memory};
@@ -88,7 +89,8 @@ pub fn file_stop(alloc: Global, path: &str) -> Stop
 
 /// The stop of a refusal with this status and this line; `Memory` where the line could not be made.
 pub fn refused(status: Status, line: Result<String, AllocError>) -> Stop
-    requires { can_refuse status ≡ true }
+    requires refuses { can_refuse status ≡ true }
+    requires says { IfOk line (λ text. IsErrorLine (string_bytes text)) }
     ensures refusal { IfOk line (λ text. IsRefusalFor (record { status = status; line = string_bytes text }) result) }
     ensures memory { IfErr line (λ e. result ≡ Memory) }
 {
@@ -100,7 +102,8 @@ pub fn refused(status: Status, line: Result<String, AllocError>) -> Stop
 
 /// The stop of what another miner did, with this status and this line; `Memory` where the line could not be made.
 pub fn breached(status: Status, line: Result<String, AllocError>) -> Stop
-    requires { can_breach status ≡ true }
+    requires breaches { can_breach status ≡ true }
+    requires says { IfOk line (λ text. IsErrorLine (string_bytes text)) }
     ensures breach { IfOk line (λ text. IsBreachFor (record { status = status; line = string_bytes text }) result) }
     ensures memory { IfErr line (λ e. result ≡ Memory) }
 {
