@@ -1,7 +1,7 @@
 // What `gather` does.
 ghost use Rattle.std.specs.Prelude.{◌≡◌, IfOk, IfErr, string_bytes};
 ghost use Rattle.command_frame.specs.Answer.{effect_of};
-ghost use Rattle.command_frame.specs.Reads.{OnlyRead, Gives, KeepsTo, PlanNames, StopsReading};
+ghost use Rattle.command_frame.specs.Reads.{EndsDone, OnlyRead, Gives, KeepsTo, PlanNames, StopsReading};
 ghost use Rattle.command_words.specs.Views.{gather_ask};
 ghost use Rattle.gather_command.specs.Gather.{gather_effect, gather_of, gather_paths, gathered_paths, lens_line, name_line, IsGatherStop};
 
@@ -46,6 +46,7 @@ fn gather_stop(alloc: Global, refusal: &GatherErr) -> Stop
 fn gathered_plan(alloc: Global, to: &String, file: &ShareFile) -> Result<Plan, AllocError>
     ensures effect { IfOk result (λ plan. effect_of plan ≡ gather_effect (string_bytes to.now) file.now) }
     ensures names { IfOk result (PlanNames (gathered_paths (string_bytes to.now))) }
+    ensures ends { EndsDone result }
 {
     let mut writes = Vec::new(alloc);
     writes.push(PlannedWrite {
@@ -72,6 +73,7 @@ pub fn plan_gather<F: Files>(
         (gather_of (gather_ask words.now) (F.state files.old).contents) }
     ensures anyhow { IfErr result (StopsReading (F.state files.old) (F.state files.new)) }
     ensures names { KeepsTo (gather_paths (gather_ask words.now)) (gathered_paths (gather_ask words.now).to) result }
+    ensures ends { EndsDone result }
 {
     let first = read_share_file(alloc, files, words.miner, &words.first)?;
     let more = read_shares(alloc, files, words.miner, &words.more)?;

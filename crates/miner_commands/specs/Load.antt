@@ -13,7 +13,6 @@ use Rattle.language_model.specs.Reports.{Report}
 use Rattle.viewed_run.specs.Deliveries.{delivered_of}
 use Rattle.viewed_run.specs.DeliveredRun.{DeliveredRun}
 use Rattle.command_frame.specs.Answer.{Answer, Effect}
-use Rattle.command_frame.specs.declared.status.Status.{Status}
 use Rattle.command_words.specs.Ask.{LoadAsk}
 use Rattle.program_commands.specs.Ends.{ending_status}
 use Rattle.program_commands.specs.Eval.{end_status, eval_text}
@@ -61,6 +60,3 @@ loaded_effect ran =
 -- it is never refused
 unfoldable pub load_of : LoadAsk → Answer
 load_of ask = Ok (load_effect ask.number)
-
-abbrev pub IsNeverRefused : Status → Type 0
-IsNeverRefused status = ⊥

@@ -1,7 +1,7 @@
 // The command `check`.
 ghost use Rattle.std.specs.Prelude.{◌≡◌, [], true, IfOk, IfErr};
 ghost use Rattle.command_frame.specs.Answer.{effect_of};
-ghost use Rattle.command_frame.specs.Reads.{OnlyRead, Gives, KeepsTo, StopsReading};
+ghost use Rattle.command_frame.specs.Reads.{EndsDone, OnlyRead, Gives, KeepsTo, StopsReading};
 ghost use Rattle.command_words.specs.Views.{check_ask};
 ghost use Rattle.program_commands.specs.Check.{check_of, check_paths, check_text};
 ghost use Rattle.program_commands.specs.Judging.{Finding, FoundAt, HasFinding, its_program, Tells};
@@ -33,6 +33,7 @@ pub fn plan_check<F: Files>(alloc: Global, files: &mut F, words: &CheckWords) ->
     ensures found { (F.state files.old).told ≡ true → Tells (F.state files.old) result →
         HasFinding (its_program (check_ask words.now).program) (F.state files.old).contents }
     ensures names { KeepsTo (check_paths (check_ask words.now)) [] result }
+    ensures ends { EndsDone result }
 {
     let _program = read_typed(alloc, files, &words.program)?;
     Ok(Plan {

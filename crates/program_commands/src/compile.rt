@@ -1,7 +1,7 @@
 // The command `compile`.
 ghost use Rattle.std.specs.Prelude.{◌≡◌, ◌∷◌, [], true, length, IfOk, IfErr, string_bytes};
 ghost use Rattle.command_frame.specs.Answer.{effect_of};
-ghost use Rattle.command_frame.specs.Reads.{OnlyRead, Gives, KeepsTo, PlanNames, StopsReading};
+ghost use Rattle.command_frame.specs.Reads.{EndsDone, OnlyRead, Gives, KeepsTo, PlanNames, StopsReading};
 ghost use Rattle.command_words.specs.Views.{compile_ask};
 ghost use Rattle.bytecode.specs.InMemory.{raw_code};
 ghost use Rattle.program_commands.specs.Compile.{compile_of, compile_paths, compiled_paths, functions_text, written_effect};
@@ -34,6 +34,7 @@ fn functions_line(alloc: Global, count: u64) -> Result<String, AllocError>
 fn code_plan(alloc: Global, code: &Code, path: &str) -> Result<Plan, AllocError>
     ensures effect { IfOk result (λ plan. effect_of plan ≡ written_effect path.now (raw_code code.now)) }
     ensures names { IfOk result (PlanNames (path.now ∷ [])) }
+    ensures ends { EndsDone result }
 {
     let line = functions_line(alloc, functions(code))?;
     let content = Content::Bytes(encode(alloc, code)?);
@@ -62,6 +63,7 @@ pub fn plan_compile<F: Files>(
     ensures found { (F.state files.old).told ≡ true → Tells (F.state files.old) result →
         HasFinding (its_program (compile_ask words.now).program) (F.state files.old).contents }
     ensures names { KeepsTo (compile_paths (compile_ask words.now)) (compiled_paths (compile_ask words.now)) result }
+    ensures ends { EndsDone result }
 {
     let program = read_typed(alloc, files, &words.program)?;
     let code = compile_program(alloc, &program)?;

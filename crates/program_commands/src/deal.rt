@@ -1,7 +1,7 @@
 // The command `deal`.
 ghost use Rattle.std.specs.Prelude.{◌≡◌, ◌∷◌, ◌++◌, [], IfOk, IfErr, OnOk, string_bytes, codes};
 ghost use Rattle.command_frame.specs.Answer.{effect_of, writes_of};
-ghost use Rattle.command_frame.specs.Reads.{OnlyRead, Gives, KeepsTo, StopsReading};
+ghost use Rattle.command_frame.specs.Reads.{EndsDone, OnlyRead, Gives, KeepsTo, StopsReading};
 ghost use Rattle.command_frame.specs.Stops.{IsRefusalFor};
 ghost use Rattle.command_words.specs.Views.{deal_ask};
 ghost use Rattle.input_share.specs.Written.{file_bytes};
@@ -88,6 +88,7 @@ pub fn plan_deal<F: Files>(alloc: Global, files: &mut F, words: &DealWords) -> R
         (deal_of (deal_ask words.now) (F.state files.old).contents) }
     ensures anyhow { IfErr result (StopsReading (F.state files.old) (F.state files.new)) }
     ensures names { KeepsTo (deal_paths (deal_ask words.now)) (written_paths (deal_ask words.now).to) result }
+    ensures ends { EndsDone result }
 {
     let inputs = read_inputs(alloc, files, &words.input)?;
     let tapes = read_tape_file(alloc, files, &words.tape)?;

@@ -16,12 +16,12 @@ use Rattle.command_frame.specs.Whole.{Acts, ActsAnyhow, CarriedOut, CarriedSo, P
 use Rattle.command_frame.proofs.Statuses.{clash, no_breach, no_end, no_refusal}
 use Rattle.command_frame.proofs.Wholes.{carried_out, child_breached, complete, end_says_nothing, file_counted, file_missed, file_told, link_said}
 use Rattle.command_frame.proofs.Wholes.{links_counted}
-use Rattle.command_frame.proofs.Wholes.{links_cut_off, memory_leaves, memory_said, only_answered, peer_breached, refused_prints_nothing, texts_breached}
-use Rattle.command_frame.proofs.Wholes.{usage_of_unnamed, usage_said, usage_unnamed, write_counted, write_cuts, write_said}
+use Rattle.command_frame.proofs.Wholes.{links_cut_off, memory_leaves, memory_said, only_answered, peer_breached, refused_prints_nothing, stops_say_error}
+use Rattle.command_frame.proofs.Wholes.{texts_breached, usage_of_unnamed, usage_said, usage_unnamed, write_counted, write_cuts, write_said}
 use Rattle.run_engine.specs.Call.{Call}
 use Rattle.run_engine.specs.Obeying.{Acted, WordsAnswer}
 use Rattle.run_engine.specs.Told.{Outside, outside_of}
-use Rattle.run_engine.specs.Words.{paths_in, reach_in}
+use Rattle.run_engine.specs.Words.{ends_in, paths_in, reach_in}
 use Rattle.run_engine.proofs.Runs.{has_answer, no_command}
 use Rattle.run_engine.proofs.Tops.{printed_so, telling}
 
@@ -103,7 +103,9 @@ module _ (words : List (List ℕ)) (m m' : Moment) (r : Result Status Stop) (did
     memory_cuts_text = memory_puts (words_of words) reach m m' r did.anyhow;
     memory_leaves = λ answer a is. memory_leaves (words_of words) reach answer m m' r (did.acts answer a) is;
     end_says_nothing = end_says_nothing m.err m'.err r said;
-    refused_prints_nothing = refused_prints_nothing (words_of words) reach m m' r did.anyhow;
+    refused_prints_nothing = refused_prints_nothing (words_of words) reach m m' (ends_in words) r did.anyhow did.ended;
+    stops_say_error =
+        stops_say_error (words_of words) reach m m' (paths_in words) (WordsAnswer words m.sources m'.sources) (ends_in words) r did.ended did.stops said;
     files_only_as_answered = λ answer a.
         only_answered (words_of words) reach answer m m' (paths_in words) (WordsAnswer words m.sources m'.sources) a r (did.acts answer a) did.stops did.only;
     files_only_as_named = did.only;

@@ -14,7 +14,8 @@ use Rattle.program_commands.proofs.Judged.{found_nothing}
 use Rattle.program_commands.proofs.Refusals.{status_in_answer}
 use Rattle.run_engine.specs.Call.{Call}
 use Rattle.run_engine.specs.Commands.{Asks}
-use Rattle.run_engine.specs.Promises.{Keeps, is_done}
+use Rattle.command_frame.specs.Status.{is_done}
+use Rattle.run_engine.specs.Promises.{Keeps}
 use Rattle.run_engine.specs.Told.{Outside, contents_in, outside_of}
 use Rattle.run_engine.specs.Words.{answer_to, question_of}
 use Rattle.run_engine.proofs.Promises.{IsEndingAnswer, as_refusal, keeps, told_alone}

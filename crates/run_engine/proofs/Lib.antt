@@ -7,6 +7,7 @@ pub mod Headline
 pub mod JoinedKept
 pub mod Joins
 pub mod Kept
+pub mod Loading
 pub mod Loads
 pub mod MapRefusals
 pub mod Miners

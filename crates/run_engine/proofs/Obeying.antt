@@ -1,11 +1,11 @@
 -- What a command did, from what its steps did.
-use Rattle.std.proofs.Common.{◌≡◌, List, ℕ, true, Some, None, Ok, Err, Result, subst, sym, inl, inr, ◌∙◌}
-use Rattle.std.specs.Prelude.{IfErr}
+use Rattle.std.proofs.Common.{◌≡◌, List, ℕ, true, Some, None, Ok, Err, Result, refl, subst, sym, inl, inr, ◌∙◌}
+use Rattle.std.specs.Prelude.{Bool, IfErr, IfOk}
 use Rattle.std.specs.Result.{IsErrAnd}
 use Rattle.outside.specs.Causes.{Rose}
 use Rattle.outside.specs.Files.{FilesState}
 use Rattle.outside.specs.Sink.{SinkState}
-use Rattle.command_words.specs.Ask.{Ask, words_of}
+use Rattle.command_words.specs.Ask.{Ask, load, words_of}
 use Rattle.command_frame.specs.declared.plan.Plan.{Plan}
 use Rattle.command_frame.specs.declared.status.Status.{Status}
 use Rattle.command_frame.specs.declared.stop.Stop.{Stop}
@@ -14,6 +14,7 @@ use Rattle.command_frame.specs.Answer.{Answer, Course, at_once, effect_of, paths
 use Rattle.command_frame.specs.Decides.{Decides, StopsDecidingAnyhow}
 use Rattle.command_frame.specs.Finish.{Finishes, OnlyAmong}
 use Rattle.command_frame.specs.Moments.{Moment, Reach, Sources}
+use Rattle.command_frame.specs.Status.{is_end}
 use Rattle.command_frame.specs.Reads.{Gives, GivesOfPeers, GivesOfTexts, KeepsTo, OnlyRead, StopsReading, StopsReadingAmong}
 use Rattle.command_frame.specs.Whole.{Acts, ActsAnyhow, Paths, StopsAtFile}
 use Rattle.command_frame.proofs.Deciding.{among_anyhow, decides_peers, decides_reading, decides_texts, nothing_written, reading_anyhow, reading_stops}
@@ -23,11 +24,12 @@ use Rattle.command_frame.proofs.Wholes.{acts_anyhow, acts_as, stops_so}
 use Rattle.program_commands.specs.Judging.{Finding, FoundAt, HasFinding, Tells}
 use Rattle.program_commands.proofs.Judged.{found_nothing}
 use Rattle.run_engine.specs.Moves.{Moves}
-use Rattle.run_engine.specs.Obeying.{Acted, CommandAnswers, Names, Obeyed, Planned, WordsAnswer}
+use Rattle.run_engine.specs.Obeying.{Acted, CommandAnswers, DecidesLoad, DoesLoad, Names, Obeyed, Planned, WordsAnswer}
 use Rattle.run_engine.specs.Told.{Told, outside_of, told_of}
-use Rattle.run_engine.specs.Words.{answer_to, paths_in, paths_of, question_of, reach_in, reach_of, reads_of, writes_of, written_by}
+use Rattle.run_engine.specs.Words.{answer_to, ends_in, ends_of, paths_in, paths_of, question_of, reach_in, reach_of, reads_of, writes_of, written_by}
+use Rattle.run_engine.proofs.Loading.{load_end, load_stop}
 use Rattle.run_engine.proofs.Moved.{moves_end, moves_none, moves_stop}
-use Rattle.run_engine.proofs.Runs.{course_answers, found_by, found_of_usage, paths_by, reach_by}
+use Rattle.run_engine.proofs.Runs.{course_answers, ends_by, found_by, found_of_usage, paths_by, reach_by}
 use Rattle.run_engine.proofs.Tops.{found_so, is_named}
 
 -- ---- a command that reads files alone
@@ -35,6 +37,11 @@ use Rattle.run_engine.proofs.Tops.{found_so, is_named}
 -- it decides at once
 abbrev pub IsAtOnce : Ask → Type 0
 IsAtOnce ask = (told : Told) → answer_to ask told ≡ at_once (answer_to ask told).answer
+
+-- each plan has an end of some command
+pub ended_anyhow : (r : Result Plan Stop) → IfOk r (λ plan. is_end plan.status ≡ true)
+ended_anyhow (Ok plan) = plan.ends
+ended_anyhow (Err stop) = tt
 
 anyhow_reading : (ask : Ask) (s s' : Sources) (r : Result Plan Stop) → IfErr r (StopsReading s.files s'.files)
     → IfErr r (StopsDecidingAnyhow (reach_of ask) s s')
@@ -51,8 +58,8 @@ pub planned : (ask : Ask) (s s' : Sources) (r : Result Plan Stop) → IsAtOnce a
     → ((found : Finding) → FoundAt (question_of ask) s.files.contents found
     → Gives effect_of s.files s'.files r (answer_to ask (told_of (outside_of s s') found)).answer)
     → (s.files.told ≡ true → Tells s.files r → HasFinding (question_of ask) s.files.contents) → KeepsTo (reads_of ask) (writes_of ask) r
-    → Moves ask s s' r → Planned ask s s' r
-planned ask s s' r once read anyhow answer found keeps moves = record {
+    → Moves ask s s' r → IfOk r (λ plan. ends_of ask plan.status ≡ true) → DecidesLoad ask r → Planned ask s s' r
+planned ask s s' r once read anyhow answer found keeps moves ended loads = record {
   only = nothing_written (writes_of ask) s.files s'.files read;
   anyhow = anyhow_reading ask s s' r anyhow;
   answer = λ f at.
@@ -61,13 +68,16 @@ planned ask s s' r once read anyhow answer found keeps moves = record {
   found = found;
   names = names_reading ask s s' r read keeps;
   moves = moves;
+  ended = ended;
+  loads = loads;
 }
 
 -- ---- a command that also stops for what other miners did
 
 module _ (ask : Ask) (s s' : Sources) (r : Result Plan Stop) (once : IsAtOnce ask) (read : OnlyRead s.files s'.files)
     (found : s.files.told ≡ true → Tells s.files r → HasFinding (question_of ask) s.files.contents)
-    (keeps : KeepsTo (reads_of ask) (writes_of ask) r) (moves : Moves ask s s' r) where
+    (keeps : KeepsTo (reads_of ask) (writes_of ask) r) (moves : Moves ask s s' r) (ended : IfOk r (λ plan. ends_of ask plan.status ≡ true))
+    (loads : DecidesLoad ask r) where
   abbrev answer_in : Finding → Answer
   answer_in found = (answer_to ask (told_of (outside_of s s') found)).answer
 
@@ -81,6 +91,8 @@ module _ (ask : Ask) (s s' : Sources) (r : Result Plan Stop) (once : IsAtOnce as
     found = found;
     names = names_reading ask s s' r read keeps;
     moves = moves;
+    ended = ended;
+    loads = loads;
   }
 
   anyhow_among : (Lost : Type 0) → (Lost → ((reach_of ask).links ≡ true) × Rose s.links.faults s'.links.faults) → (given : Result Plan Stop)
@@ -121,6 +133,8 @@ module _ (ask : Ask) (a b : Sources) where
       found = p.found;
       out = inl (same_sink o);
       moves = moves_stop ask a b stop p.moves;
+      ended = tt;
+      loads = load_stop ask stop o p.loads;
     }
 
     pub obeyed_stop : (stop : Stop) (r : Result Status Stop) → IsErrAnd r (λ given. given ≡ stop) → Planned ask a b (Err stop)
@@ -136,6 +150,10 @@ module _ (ask : Ask) (a b : Sources) where
     finish_stops (Err stop) finishes =
         writing_stops (paths_of ask) (reach_of ask) (CommandAnswers ask a b) plan a b f o o' p.names (decided (Ok plan) p) stop finishes
 
+    ended_so : (r : Result Status Stop) → Finishes (effect_of plan) b.files f o o' r → IfOk r (λ s. ends_of ask s ≡ true)
+    ended_so (Ok s) finishes = subst (λ (x : Status). ends_of ask x ≡ true) (sym finishes.0) p.ended
+    ended_so (Err stop) finishes = tt
+
     pub obeyed_end : (r : Result Status Stop) → OnlyAmong (paths_of_writes (effect_of plan).writes) b.files f
         → Finishes (effect_of plan) b.files f o o' r → Obeyed ask (moment a o e) (moment (at_last b f) o' e') r
     obeyed_end r among finishes = record {
@@ -147,6 +165,8 @@ module _ (ask : Ask) (a b : Sources) where
       found = λ t tells. p.found t tt;
       out = inr (λ t. p.found t tt);
       moves = moves_end ask a b f o o' plan r p.moves finishes;
+      ended = ended_so r finishes;
+      loads = load_end ask plan b.files f o o' r p.loads finishes;
     }
 
 -- ---- what the words ask for
@@ -179,6 +199,8 @@ module _ (words : List (List ℕ)) (ask : Ask) (m m' : Moment) (e : words_of wor
     found = λ t tells. found_by words ask m.sources.files.contents e (b.found t tells);
     out = found_so words ask m m' e b.out;
     moves = λ other is. subst (λ (x : Ask). Moves x m.sources m'.sources r) (same_ask words ask other e is) b.moves;
+    ended = subst (λ (ends : Status → Bool). IfOk r (λ s. ends s ≡ true)) (sym (ends_by words ask e)) b.ended;
+    loads = λ other is. subst (λ (x : Ask). DoesLoad x m.out m'.out r) (same_ask words ask (load other) e is) b.loads;
   }
 
 no_file_usage : (paths : Paths) (reach : Reach) (Courses : Course → Type 0) (s s' : Sources) → StopsAtFile paths reach Courses s s' stops.Usage
@@ -197,6 +219,8 @@ module _ (words : List (List ℕ)) (s : Sources) (o e e' : SinkState) where
     found = λ t tells. found_of_usage words s.files.contents none (found_nothing s.files.contents);
     out = inl (same_sink o);
     moves = λ ask is. absurd (let wrong : None ≡ Some ask = sym none ∙ is in cc);
+    ended = tt;
+    loads = λ ask is. absurd (let wrong : None ≡ Some (load ask) = sym none ∙ is in cc);
   }
 
   pub acted_memory : Acted words (moment s o e) (moment s o e') (Err stops.Memory)
@@ -208,4 +232,6 @@ module _ (words : List (List ℕ)) (s : Sources) (o e e' : SinkState) where
     found = λ t tells. absurd tells;
     out = inl (same_sink o);
     moves = λ ask is. moves_none ask s;
+    ended = tt;
+    loads = λ ask is. inr (inr (refl, inl (same_sink o)));
   }

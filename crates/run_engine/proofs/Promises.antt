@@ -4,14 +4,13 @@ use Rattle.std.proofs.lemmas.Bool.{false≢true}
 use Rattle.command_frame.specs.declared.status.Status.{Status}
 use Rattle.command_frame.specs.Answer.{Answer, Course, Effect, at_once}
 use Rattle.command_frame.specs.Moments.{AreSteady, AreTold, Moment, Reach, Sources, files_alone}
-use Rattle.command_frame.specs.Status.{can_refuse, is_end}
+use Rattle.command_frame.specs.Status.{can_refuse, is_done, is_end}
 use Rattle.command_frame.specs.Whole.{CarriedOut, HasFailed, IsDone}
-use Rattle.command_words.specs.Ask.{Ask, CheckAsk, CompileAsk, DealAsk, EvalAsk, LoadAsk, RunAsk, check, compile, deal, eval, load, need, run, words_of}
+use Rattle.command_words.specs.Ask.{Ask, CheckAsk, CompileAsk, DealAsk, EvalAsk, RunAsk, check, compile, deal, eval, need, run, words_of}
 use Rattle.program_commands.specs.Eval.{end_of, eval_text, need_text, report_for}
-use Rattle.miner_commands.specs.Load.{IsNeverRefused, load_report}
 use Rattle.run_engine.specs.Call.{Call}
 use Rattle.run_engine.specs.Commands.{Asks}
-use Rattle.run_engine.specs.Promises.{CheckEffect, CompileEffect, DealEffect, EvalEffect, LoadEffect, RunEffect, Gives, Keeps, KeepsOf, is_done, is_refusal}
+use Rattle.run_engine.specs.Promises.{CheckEffect, CompileEffect, DealEffect, EvalEffect, RunEffect, Gives, Keeps, KeepsOf, is_refusal}
 use Rattle.miner_commands.specs.Run.{run_report}
 use Rattle.program_commands.specs.Held.{DealRefused, EvalRefused, ProgramRefused}
 use Rattle.run_engine.specs.Runs.{RunRefused}
@@ -20,7 +19,6 @@ use Rattle.run_engine.specs.Words.{IsAnswer, answer_to, reach_in, reach_of}
 use Rattle.run_engine.proofs.Deals.{deal_answered_so, deal_refused_only}
 use Rattle.run_engine.proofs.Evals.{eval_answered, eval_answered_so, eval_refused_so, need_answered}
 use Rattle.program_commands.proofs.Judged.{found_nothing}
-use Rattle.run_engine.proofs.Loads.{load_answered, load_never_refused}
 use Rattle.run_engine.proofs.Obeying.{IsAtOnce}
 use Rattle.program_commands.proofs.Refusals.{Refuses, end_is, status_in_answer}
 use Rattle.run_engine.proofs.RunRefusals.{run_answered, run_answered_so, run_refused_only}
@@ -110,24 +108,24 @@ module _ (words : List (List ℕ)) (m m' : Moment) (s : Status) (call : Call wor
   refuses answer refusal unended = record { refusal = refusal; no_end = unended }
 
   pub check_keeps : (ask : CheckAsk) → Asks words m (check ask)
-      (Keeps (CheckEffect ask (contents_in m)) (ProgramRefused ask.program (contents_in m)) is_end m m' s)
+      (Keeps (CheckEffect ask (contents_in m)) (ProgramRefused ask.program (contents_in m)) is_done m m' s)
   unfolding answer_to
   check_keeps ask asks t =
       keeps words m m' s call (check ask) asks (λ told. refl) (told_alone m.sources t) can_refuse (as_refusal s) refl
-      (CheckEffect ask (contents_in m)) (ProgramRefused ask.program (contents_in m)) is_end
+      (CheckEffect ask (contents_in m)) (ProgramRefused ask.program (contents_in m)) is_done
       (λ effect w. subst (IsEndingAnswer words outside) (sym w.2) (record { answer = check_answered words ask outside w.0 asks w.1; ends = refl }))
-      (λ answer a r u. check_refused_so words ask outside asks answer a (refuses answer r u))
+      (λ answer a r u. check_refused_so words ask outside asks answer a r)
       (λ status refused. check_answered_so words ask outside status asks refused)
 
   pub compile_keeps : (ask : CompileAsk) → Asks words m (compile ask)
-      (Keeps (CompileEffect ask (contents_in m)) (ProgramRefused ask.program (contents_in m)) is_end m m' s)
+      (Keeps (CompileEffect ask (contents_in m)) (ProgramRefused ask.program (contents_in m)) is_done m m' s)
   unfolding answer_to
   compile_keeps ask asks t =
       keeps words m m' s call (compile ask) asks (λ told. refl) (told_alone m.sources t) can_refuse (as_refusal s) refl
-      (CompileEffect ask (contents_in m)) (ProgramRefused ask.program (contents_in m)) is_end
+      (CompileEffect ask (contents_in m)) (ProgramRefused ask.program (contents_in m)) is_done
       (λ effect w. subst (IsEndingAnswer words outside) (sym w.4)
       (record { answer = compile_answered words ask outside w.0 w.1 asks w.2 w.3; ends = refl }))
-      (λ answer a r u. compile_refused_so words ask outside asks answer a (refuses answer r u))
+      (λ answer a r u. compile_refused_so words ask outside asks answer a r)
       (λ status refused. compile_answered_so words ask outside status asks refused)
 
   pub eval_keeps : (ask : EvalAsk) → Asks words m (eval ask)
@@ -173,14 +171,3 @@ module _ (words : List (List ℕ)) (m m' : Moment) (s : Status) (call : Call wor
       (record { answer = deal_answered words ask w.0 w.1 outside asks w.2 w.3 (found_nothing (contents_in m)); ends = refl }))
       (λ answer a r u. deal_refused_only words ask outside asks answer a r)
       (λ status refused. deal_answered_so words ask outside status asks refused)
-
-  pub load_keeps : (ask : LoadAsk) → Asks words m (load ask)
-      (Keeps (LoadEffect ask) IsNeverRefused is_end m m' s)
-  unfolding answer_to
-  load_keeps ask asks t =
-      keeps words m m' s call (load ask) asks (λ told. refl) (told_alone m.sources t) can_refuse (as_refusal s) refl
-      (LoadEffect ask) IsNeverRefused is_end
-      (λ effect w. subst (IsEndingAnswer words outside) (sym w)
-      (record { answer = load_answered words ask outside asks (found_nothing (contents_in m)); ends = end_is (end_of (load_report ask.number)).how }))
-      (λ answer a r u. load_never_refused words ask outside asks answer a (refuses answer r u))
-      (λ status refused. absurd refused)

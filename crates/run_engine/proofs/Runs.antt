@@ -17,7 +17,7 @@ use Rattle.program_commands.specs.Deal.{deal_effect}
 use Rattle.program_commands.specs.Judging.{Finding, FoundAt, HasFinding, Question, nothing}
 use Rattle.program_commands.specs.Held.{HoldsDeal}
 use Rattle.run_engine.specs.Promises.{is_refusal}
-use Rattle.run_engine.specs.Words.{answer_to, answer_of, paths_in, paths_of, question_of, question_in, reach_in, reach_of, IsAnswer, HasAnswer}
+use Rattle.run_engine.specs.Words.{answer_to, answer_of, ends_in, ends_of, paths_in, paths_of, question_of, question_in, reach_in, reach_of, IsAnswer, HasAnswer}
 use Rattle.run_engine.specs.Told.{Outside, Told, told_of}
 use Rattle.program_commands.proofs.Refusals.{status_in_answer}
 use Rattle.program_commands.proofs.Deals.{deal_answer}
@@ -40,6 +40,10 @@ paths_by words ask e = rw e refl
 pub reach_by : (words : List (List ℕ)) (ask : Ask) → words_of words ≡ Some ask → reach_in words ≡ reach_of ask
 unfolding reach_in
 reach_by words ask e = rw e refl
+
+pub ends_by : (words : List (List ℕ)) (ask : Ask) → words_of words ≡ Some ask → ends_in words ≡ ends_of ask
+unfolding ends_in
+ends_by words ask e = rw e refl
 
 pub reach_of_usage : (words : List (List ℕ)) → words_of words ≡ None → reach_in words ≡ files_alone
 unfolding reach_in

@@ -1,7 +1,8 @@
 -- What the answers of `check` and `compile` are, which read a program alone.
-use Rattle.std.proofs.Common.{◌≡◌, ℕ, List, Some, refl, subst, sym}
+use Rattle.std.proofs.Common.{◌≡◌, ℕ, List, true, Some, refl, subst, sym}
 use Rattle.command_frame.specs.declared.status.Status.{Status}
 use Rattle.command_frame.specs.Answer.{Answer}
+use Rattle.command_frame.specs.Status.{can_refuse}
 use Rattle.command_words.specs.Ask.{CheckAsk, CompileAsk, check, compile, words_of}
 use Rattle.reached_instances.specs.Instances.{Instance}
 use Rattle.reached_instances.specs.Reached.{IsReachedList}
@@ -12,7 +13,7 @@ use Rattle.program_commands.specs.Held.{HoldsTyped, ProgramRefused}
 use Rattle.run_engine.specs.Told.{Outside}
 use Rattle.run_engine.specs.Words.{answer_to, question_of}
 use Rattle.program_commands.proofs.Held.{finding, found_of, found_reaching, found_there, no_program, program_there}
-use Rattle.program_commands.proofs.Refusals.{Refuses, status_in_answer}
+use Rattle.program_commands.proofs.Refusals.{status_in_answer}
 use Rattle.run_engine.proofs.Runs.{AnswersAtOnce, HasAnswerOf, command_answers, is_answer}
 use Rattle.program_commands.proofs.Planned.{done_with}
 use Rattle.program_commands.proofs.Texts.{text_refused_only}
@@ -51,14 +52,14 @@ compile_answered_so words ask outside s asks refused =
     (compile_of no.found ask outside.files, is_answer words (compile ask) outside no.found asks no.at, rw no.none (sym no.status))
 
 pub check_refused_so : (words : List (List ℕ)) (ask : CheckAsk) (outside : Outside) → words_of words ≡ Some (check ask) → (answer : Answer)
-    → AnswersAtOnce words outside answer → Refuses (status_in_answer answer) → ProgramRefused ask.program outside.files (status_in_answer answer)
+    → AnswersAtOnce words outside answer → can_refuse (status_in_answer answer) ≡ true → ProgramRefused ask.program outside.files (status_in_answer answer)
 unfolding answer_to question_of check_of
 check_refused_so words ask outside asks answer a why =
     let (found, at, is) = command_answers words (check ask) outside answer asks a in
     text_refused_only found ask.program outside.files at (λ p. check_effect) (λ p. refl) answer why is
 
 pub compile_refused_so : (words : List (List ℕ)) (ask : CompileAsk) (outside : Outside) → words_of words ≡ Some (compile ask) → (answer : Answer)
-    → AnswersAtOnce words outside answer → Refuses (status_in_answer answer) → ProgramRefused ask.program outside.files (status_in_answer answer)
+    → AnswersAtOnce words outside answer → can_refuse (status_in_answer answer) ≡ true → ProgramRefused ask.program outside.files (status_in_answer answer)
 unfolding answer_to question_of compile_of
 compile_refused_so words ask outside asks answer a why =
     let (found, at, is) = command_answers words (compile ask) outside answer asks a in

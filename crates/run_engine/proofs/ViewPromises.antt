@@ -7,7 +7,8 @@ use Rattle.command_words.specs.Ask.{MapAsk, SimulateAsk, TwinAsk, map_tape, simu
 use Rattle.run_engine.specs.Call.{Call}
 use Rattle.run_engine.specs.Commands.{Asks}
 use Rattle.run_engine.specs.MapPromises.{MapEffect, MapRefused}
-use Rattle.run_engine.specs.Promises.{Keeps, is_done}
+use Rattle.command_frame.specs.Status.{is_done}
+use Rattle.run_engine.specs.Promises.{Keeps}
 use Rattle.run_engine.specs.SimulatePromises.{SimulateEffect, SimulateRefused}
 use Rattle.run_engine.specs.TwinPromises.{TwinEffect, TwinRefused}
 use Rattle.run_engine.specs.Told.{Outside, contents_in, outside_of}

@@ -16,10 +16,10 @@ use Rattle.command_frame.specs.Reads.{cut_off}
 use Rattle.command_frame.specs.Status.{can_refuse, is_end}
 use Rattle.command_frame.specs.Stops.{memory_line}
 use Rattle.command_frame.specs.Whole.{CarriedOut, ChildrenRose, CutsText, FileTold, HasFailed, IsAnswered, IsMissed, LinksRose, OnlyWritten, OutFaulted}
-use Rattle.command_frame.specs.Whole.{PutsNothing, RunsShort}
+use Rattle.command_frame.specs.Whole.{PutsNothing, RunsShort, SaysError}
 use Rattle.command_words.specs.Ask.{words_of}
 use Rattle.run_engine.specs.Told.{Outside, outside_of}
-use Rattle.run_engine.specs.Words.{HasAnswer, IsAnswer, paths_in, reach_in, reach_miners, written_by}
+use Rattle.run_engine.specs.Words.{HasAnswer, IsAnswer, ends_in, paths_in, reach_in, reach_miners, written_by}
 
 module _ (words : List (List ℕ)) (before after : Moment) where
   abbrev pub outside : Outside
@@ -97,11 +97,13 @@ pub record Call (words : List (List ℕ)) (before after : Moment) (given : Statu
   pub memory_said : given ≡ statuses.Memory → PutLine memory_line before.err after.err
   pub memory_cuts_text : given ≡ statuses.Memory → PutsNothing before after ⊎ Rose before.out.shortages after.out.shortages
   pub memory_leaves : OfEachAnswer words before after (λ answer. given ≡ statuses.Memory → RunsShort (reach words before) answer before after)
-  -- A command that comes to its end says nothing; one that stops for another reason than output or memory prints nothing. Only paths that the
-  -- words name to be written change, of them only those of the answer, and nothing else. No link fails, and no peer, no child and no miner's
-  -- text stops a command that has nothing to do with them.
+  -- A command that comes to its end says nothing. One that doesn't, as for it 8 is no end of `deal`, prints nothing, unless it stops for the output
+  -- or for memory, and says a line that begins with `error: `; and this whatever the objects tell.
   pub end_says_nothing : is_end given ≡ true → can_refuse given ≡ false → SameSink before.err after.err
-  pub refused_prints_nothing : is_end given ≡ false → given ≢ statuses.Write → given ≢ statuses.Memory → PutsNothing before after
+  pub refused_prints_nothing : ends_in words given ≡ false → given ≢ statuses.Write → given ≢ statuses.Memory → PutsNothing before after
+  pub stops_say_error : ends_in words given ≡ false → SaysError before.err after.err
+  -- Only paths that the words name to be written change, of them only those of the answer, and nothing else. No link fails, and no peer, no child
+  -- and no miner's text stops a command that has nothing to do with them.
   pub files_only_as_answered : OfEachAnswer words before after (λ answer. OnlyWritten (reach words before) answer before.sources after.sources)
   pub files_only_as_named : OnlyAmong (written_by words) before.sources.files after.sources.files
   pub links_fail_if_reached : given ≡ statuses.Link → reach_miners words ≡ true

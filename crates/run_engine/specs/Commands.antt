@@ -6,7 +6,7 @@ use Rattle.std.specs.Prelude.{◌≡◌, ℕ, ℤ, List, true, Some}
 use Rattle.command_frame.specs.declared.status.Status.{Status}
 use Rattle.command_frame.specs.declared.status.Status.TheVariants.{Schedule}
 use Rattle.command_frame.specs.Moments.{AreTold, Moment}
-use Rattle.command_frame.specs.Status.{is_end}
+use Rattle.command_frame.specs.Status.{is_done, is_end}
 use Rattle.command_words.specs.Ask.{CheckAsk, CompileAsk, EvalAsk, RunAsk, DealAsk, MapAsk, SimulateAsk, TwinAsk, check, compile, eval, need}
 use Rattle.command_words.specs.Ask.{run, deal, map_tape, simulate, twin, words_of, Ask, GatherAsk, LoadAsk, gather, load}
 use Rattle.command_words.specs.Ask.{JoinAsk, MinerAsk, TrioAsk, join, miner, trio}
@@ -15,15 +15,15 @@ use Rattle.program_commands.specs.Held.{DealRefused, EvalRefused, ProgramRefused
 use Rattle.gather_command.specs.Held.{GatherEffect, GatherRefused}
 use Rattle.join_command.specs.Held.{JoinEffect, JoinRefused}
 use Rattle.miner_command.specs.Held.{MinerEffect, MinerRefused}
-use Rattle.miner_commands.specs.Load.{IsNeverRefused}
 use Rattle.proto_core.specs.declared.party.Number.{Number}
 use Rattle.run_engine.specs.MinerPromises.{MinerSends}
 use Rattle.trio_command.specs.Deciding.{trio_reach}
 use Rattle.trio_command.specs.Launching.{MayLaunch}
 use Rattle.trio_command.specs.Trio.{words_for}
 use Rattle.run_engine.specs.Headline.{ScheduleRefused}
+use Rattle.run_engine.specs.Loading.{Loaded}
 use Rattle.run_engine.specs.MapPromises.{MapEffect, MapRefused}
-use Rattle.run_engine.specs.Promises.{CheckEffect, CompileEffect, DealEffect, EvalEffect, RunEffect, Keeps, KeepsOf, is_done, is_refusal, LoadEffect}
+use Rattle.run_engine.specs.Promises.{CheckEffect, CompileEffect, DealEffect, EvalEffect, RunEffect, Keeps, KeepsOf, is_refusal}
 use Rattle.run_engine.specs.Runs.{RunRefused}
 use Rattle.run_engine.specs.SimulatePromises.{SimulateEffect, SimulateRefused}
 use Rattle.run_engine.specs.Told.{contents_in, outside_of, place_of}
@@ -44,10 +44,10 @@ pub record Commands (words : List (List ℕ)) (before after : Moment) (given : S
   -- that it used.
   pub checks :
       (ask : CheckAsk) → Asks words before (check ask)
-      (Keeps (CheckEffect ask (contents_in before)) (ProgramRefused ask.program (contents_in before)) is_end before after given)
+      (Keeps (CheckEffect ask (contents_in before)) (ProgramRefused ask.program (contents_in before)) is_done before after given)
   pub compiles :
       (ask : CompileAsk) → Asks words before (compile ask)
-      (Keeps (CompileEffect ask (contents_in before)) (ProgramRefused ask.program (contents_in before)) is_end before after given)
+      (Keeps (CompileEffect ask (contents_in before)) (ProgramRefused ask.program (contents_in before)) is_done before after given)
   pub evaluates :
       (ask : EvalAsk) → Asks words before (eval ask)
       (Keeps (EvalEffect eval_text ask (contents_in before)) (EvalRefused ask (contents_in before)) is_end before after given)
@@ -85,8 +85,9 @@ pub record Commands (words : List (List ℕ)) (before after : Moment) (given : S
   pub twins :
       (ask : TwinAsk) → Asks words before (twin ask)
       (Keeps (TwinEffect ask (contents_in before)) (TwinRefused ask (contents_in before)) is_done before after given)
-  -- `load` prints the text of the evaluation of the workload of its number, and how many messages were delivered. It is never refused.
-  pub loads : (ask : LoadAsk) → Asks words before (load ask) (Keeps (LoadEffect ask) IsNeverRefused is_end before after given)
+  -- `load` prints the text of the evaluation of the workload of its number, and how many messages were delivered, with the evaluation's end; or the
+  -- output failed, which a steady one doesn't, or memory ran out. It is never refused. It reads no file, so whether any tells or is steady is all one.
+  pub loads : (ask : LoadAsk) → words_of words ≡ Some (load ask) → Loaded ask before.out after.out given
   -- `join` prints the text of the run of which three miners wrote these texts, with the status of its end. A text that is not of its form is a
   -- refusal of it, and else two that differ.
   pub joins :

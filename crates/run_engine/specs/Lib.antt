@@ -3,6 +3,7 @@ pub mod Chains
 pub mod Commands
 pub mod Headline
 pub mod Laws
+pub mod Loading
 pub mod MapPromises
 pub mod MinerPromises
 pub mod Moves

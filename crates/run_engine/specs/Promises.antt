@@ -4,12 +4,12 @@ use Rattle.outside.specs.Files.{Contents}
 use Rattle.reached_instances.specs.Instances.{Instance}
 use Rattle.reached_instances.specs.Reached.{IsReachedList}
 use Rattle.command_frame.specs.declared.status.Status.{Status}
-use Rattle.command_frame.specs.declared.status.Status.TheVariants.{Done, Memory}
+use Rattle.command_frame.specs.declared.status.Status.TheVariants.{Memory}
 use Rattle.command_frame.specs.Answer.{Effect}
 use Rattle.command_frame.specs.Moments.{AreSteady, Moment, Reach, files_alone}
 use Rattle.command_frame.specs.Status.{can_breach, can_refuse}
 use Rattle.command_frame.specs.Whole.{HasFailed, IsDone}
-use Rattle.command_words.specs.Ask.{CheckAsk, CompileAsk, DealAsk, EvalAsk, RunAsk, LoadAsk}
+use Rattle.command_words.specs.Ask.{CheckAsk, CompileAsk, DealAsk, EvalAsk, RunAsk}
 use Rattle.protocol_model.specs.Network.{Accepted, Delivery}
 use Rattle.input_share.specs.Dealing.{need_of}
 use Rattle.language_model.specs.Reports.{Report}
@@ -21,7 +21,6 @@ use Rattle.program_commands.specs.Compile.{compile_effect}
 use Rattle.program_commands.specs.Deal.{deal_effect}
 use Rattle.program_commands.specs.Eval.{report_effect, report_for}
 use Rattle.miner_commands.specs.Run.{run_told}
-use Rattle.miner_commands.specs.Load.{load_effect}
 use Rattle.program_commands.specs.Held.{HoldsTyped, HoldsEvaluation, HoldsDeal}
 use Rattle.run_engine.specs.Runs.{HoldsRun, net_for}
 
@@ -45,11 +44,6 @@ pub record KeepsOf (reach : Reach) (refuses : Status → Bool) (Wanted : Effect 
 -- the same of a command over files alone
 abbrev pub Keeps : (Effect → Type 0) → (Status → Type 0) → (ends : Status → Bool) → (before after : Moment) → Status → Type 0
 Keeps Wanted Refused ends before after given = KeepsOf files_alone can_refuse Wanted Refused ends before after given
-
--- `deal` runs no program, so it has one end
-abbrev pub is_done : Status → Bool
-is_done Done = true
-is_done _ = false
 
 -- ---- the effects
 
@@ -78,7 +72,3 @@ RunEffect ask files effect = (program : TypedProgramTree) × (entries : List Ent
 abbrev pub DealEffect : DealAsk → Contents → Effect → Type 0
 DealEffect ask files effect = (entries : List Entry) × (tapes : FourTapes) × HoldsDeal ask files entries tapes × (need_of entries ≤ length tapes.dealer)
     × (effect ≡ deal_effect ask.to entries tapes)
-
--- of `load`, whatever the files: the text of the evaluation of the workload, its end, and how many messages were delivered
-abbrev pub LoadEffect : LoadAsk → Effect → Type 0
-LoadEffect ask effect = effect ≡ load_effect ask.number

@@ -3,7 +3,8 @@ use Rattle.std.specs.Prelude.{◌≡◌, ℕ, List, [], Bool, true, false, Err}
 use Rattle.std.specs.Option.{option_map_or}
 use Rattle.command_frame.specs.Answer.{Course, at_once, usage}
 use Rattle.command_frame.specs.Moments.{Reach, files_alone}
-use Rattle.command_frame.specs.Status.{of_peers, of_texts}
+use Rattle.command_frame.specs.declared.status.Status.{Status}
+use Rattle.command_frame.specs.Status.{is_done, is_end, of_peers, of_texts}
 use Rattle.command_frame.specs.Whole.{Paths}
 use Rattle.command_words.specs.Ask.{Ask, run, deal, check, compile, eval, need, map_tape, simulate, twin, words_of, load, gather, join, miner, trio}
 use Rattle.program_commands.specs.Check.{check_of, check_paths}
@@ -136,6 +137,23 @@ reach_of (join ask) = texts_alone
 reach_of (miner ask) = files_and_links
 reach_of (trio ask) = trio_reach
 
+-- how it ends where it isn't refused: done, or as the run or the evaluation ends that it tells of
+abbrev pub ends_of : Ask → Status → Bool
+ends_of (run ask) = is_end
+ends_of (deal ask) = is_done
+ends_of (check ask) = is_done
+ends_of (compile ask) = is_done
+ends_of (eval ask) = is_end
+ends_of (need ask) = is_end
+ends_of (map_tape ask) = is_done
+ends_of (simulate ask) = is_done
+ends_of (twin ask) = is_done
+ends_of (load ask) = is_end
+ends_of (gather ask) = is_done
+ends_of (join ask) = is_end
+ends_of (miner ask) = is_end
+ends_of (trio ask) = is_end
+
 -- the same of words; those that ask for no command are refused as usage
 unfoldable pub answer_of : List (List ℕ) → Told → Course
 answer_of words told = option_map_or (λ ask. answer_to ask told) (words_of words) (at_once (Err usage))
@@ -152,6 +170,10 @@ paths_in words = option_map_or paths_of (words_of words) no_paths
 
 unfoldable pub reach_in : List (List ℕ) → Reach
 reach_in words = option_map_or reach_of (words_of words) files_alone
+
+-- words that ask for no command have no end
+unfoldable pub ends_in : List (List ℕ) → Status → Bool
+ends_in words = option_map_or ends_of (words_of words) (λ s. false)
 
 abbrev pub written_by : List (List ℕ) → List (List ℕ)
 written_by words = (paths_in words).written

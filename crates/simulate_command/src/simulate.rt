@@ -1,7 +1,7 @@
 // The command `simulate`.
 ghost use Rattle.std.specs.Prelude.{◌≡◌, Some, true, IfOk, IfErr, string_bytes};
 ghost use Rattle.command_frame.specs.Answer.{effect_of};
-ghost use Rattle.command_frame.specs.Reads.{OnlyRead, Gives, KeepsTo, PlanNames, StopsReading};
+ghost use Rattle.command_frame.specs.Reads.{EndsDone, OnlyRead, Gives, KeepsTo, PlanNames, StopsReading};
 ghost use Rattle.command_words.specs.Views.{simulate_ask};
 ghost use Rattle.program_commands.specs.Judging.{Finding, FoundAt, HasFinding, its_program, Tells};
 ghost use Rattle.simulate_command.specs.Simulate.{short_line, simulate_effect, simulate_of, simulate_paths, simulated_paths, IsSimulateStop};
@@ -47,6 +47,7 @@ fn simulate_stop(alloc: Global, refusal: SimulateErr) -> Stop
 fn simulate_plan(alloc: Global, words: &SimulateWords, view: View) -> Result<Plan, AllocError>
     ensures effect { IfOk result (λ plan. effect_of plan ≡ simulate_effect (simulate_ask words.now) (Some view)) }
     ensures names { IfOk result (PlanNames (simulated_paths (simulate_ask words.now).view)) }
+    ensures ends { EndsDone result }
 {
     let mut writes = Vec::new(alloc);
     writes.push(PlannedWrite {
@@ -77,6 +78,7 @@ pub fn plan_simulate<F: Files>(
     ensures found { (F.state files.old).told ≡ true → Tells (F.state files.old) result →
         HasFinding (its_program (simulate_ask words.now).program) (F.state files.old).contents }
     ensures names { KeepsTo (simulate_paths (simulate_ask words.now)) (simulated_paths (simulate_ask words.now).view) result }
+    ensures ends { EndsDone result }
 {
     let program = read_typed(alloc, files, &words.program)?;
     let part = read_public_file(alloc, files, &words.public)?;

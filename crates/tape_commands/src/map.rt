@@ -1,7 +1,7 @@
 // The command `map`.
 ghost use Rattle.std.specs.Prelude.{◌≡◌, ◌∷◌, ◌++◌, [], true, IfOk, IfErr, OnOk, string_bytes};
 ghost use Rattle.command_frame.specs.Answer.{effect_of, writes_of};
-ghost use Rattle.command_frame.specs.Reads.{OnlyRead, Gives, KeepsTo, PlanNames, StopsReading};
+ghost use Rattle.command_frame.specs.Reads.{EndsDone, OnlyRead, Gives, KeepsTo, PlanNames, StopsReading};
 ghost use Rattle.command_words.specs.Views.{map_ask};
 ghost use Rattle.tape_twin.specs.Views.{openings};
 ghost use Rattle.value_file.specs.Public.{part_bytes, part_of};
@@ -63,6 +63,7 @@ fn map_plan(
 ) -> Result<Plan, AllocError>
     ensures effect { IfOk result (λ plan. effect_of plan ≡ made_effect (map_ask words.now) inputs.now run.now) }
     ensures names { IfOk result (PlanNames (mapped_paths (map_ask words.now))) }
+    ensures ends { EndsDone result }
 {
     let mut writes = Vec::new(alloc);
     add_planned(
@@ -95,6 +96,7 @@ pub fn plan_map<F: Files>(alloc: Global, files: &mut F, words: &MapWords) -> Res
     ensures found { (F.state files.old).told ≡ true → Tells (F.state files.old) result →
         HasFinding (its_program (map_ask words.now).program) (F.state files.old).contents }
     ensures names { KeepsTo (map_paths (map_ask words.now)) (mapped_paths (map_ask words.now)) result }
+    ensures ends { EndsDone result }
 {
     let program = read_typed(alloc, files, &words.program)?;
     let inputs = read_inputs(alloc, files, &words.input)?;

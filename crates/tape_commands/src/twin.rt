@@ -1,7 +1,7 @@
 // The command `twin`.
 ghost use Rattle.std.specs.Prelude.{◌≡◌, true, IfOk, IfErr, string_bytes};
 ghost use Rattle.command_frame.specs.Answer.{effect_of};
-ghost use Rattle.command_frame.specs.Reads.{OnlyRead, Gives, KeepsTo, PlanNames, StopsReading};
+ghost use Rattle.command_frame.specs.Reads.{EndsDone, OnlyRead, Gives, KeepsTo, PlanNames, StopsReading};
 ghost use Rattle.command_words.specs.Views.{twin_ask};
 ghost use Rattle.program_commands.specs.Judging.{Finding, FoundAt, HasFinding, its_program, Tells};
 ghost use Rattle.tape_commands.specs.Twin.{entry_line, word_line, written_effect, twin_of, twin_paths, twinned_paths, IsTwinStop};
@@ -51,6 +51,7 @@ fn twin_stop(alloc: Global, refusal: &TwinErr) -> Stop
 fn twin_plan(alloc: Global, to: &String, tapes: &Tapes) -> Result<Plan, AllocError>
     ensures effect { IfOk result (λ plan. effect_of plan ≡ written_effect (string_bytes to.now) tapes.now) }
     ensures names { IfOk result (PlanNames (twinned_paths (string_bytes to.now))) }
+    ensures ends { EndsDone result }
 {
     let mut writes = Vec::new(alloc);
     writes.push(PlannedWrite {
@@ -76,6 +77,7 @@ pub fn plan_twin<F: Files>(alloc: Global, files: &mut F, words: &TwinWords) -> R
     ensures found { (F.state files.old).told ≡ true → Tells (F.state files.old) result →
         HasFinding (its_program (twin_ask words.now).program) (F.state files.old).contents }
     ensures names { KeepsTo (twin_paths (twin_ask words.now)) (twinned_paths (twin_ask words.now).to) result }
+    ensures ends { EndsDone result }
 {
     let program = read_typed(alloc, files, &words.program)?;
     let first = read_inputs(alloc, files, &words.input)?;

@@ -19,6 +19,8 @@ returns-clause-commands g c =
     (trio_started (texts c.args.words.now) _ _ c.act-ended.result
     (c.act-ended.ensures.acted (g.E.Sink.state c.args.err.now) (g.E.Sink.state c.say.new.err)) ask asks told))
     (λ ask asks. ((c.act-ended.ensures.acted (g.E.Sink.state c.args.err.now) (g.E.Sink.state c.say.new.err)).moves (trio ask) asks).0)
+    (λ ask asks. rw c.ended_status.ensures
+    ((c.act-ended.ensures.acted (g.E.Sink.state c.args.err.now) (g.E.Sink.state c.say.new.err)).loads ask asks))
 
 pub returns-clause-headline : goal.returns-clause-headline
 returns-clause-headline g c = λ given is. headline_kept (texts c.args.words.now) _ _ _ (returns-clause-call g c) given is
