@@ -2,3 +2,4 @@ pub mod Drawn
 pub mod Opened
 pub mod Played
 pub mod Planned
+pub mod Said
