@@ -3,11 +3,11 @@
 `fault_rows` must print of them: how many calls of each object there are to fail.
 
 Counted by hand, from what is said of the commands: of files one call for each that is read and for each that is written, of a view two, one for its first
-line and one for what comes after it, which is short here; of a miner's own tape one for its size, and of its length and of the words of each gate that
-draws some one for each 7 bytes and for the rest; of a stream one for each 7 bytes of its text and for the rest; of links one that connects, and of each
-hello, of
-each frame that is sent, and of the head and the words of each that is read
-one for each 7 bytes and for the rest; of children six. With each call that fails the error stream has the line that tells it, unless it is the one that fails.
+line and one for what comes after it, which is short here; of a tape that is drawn from its file, which is a miner's own and that of `run`, one for its
+size, and of its lengths, of the words that the dealer needs and of those of each gate for which a miner draws some one for each 7 bytes and for the rest; of
+a stream one for each 7 bytes of its text and for the rest; of links one that connects, and of each hello, of each frame that is sent, and of the head and
+the words of each that is read one for each 7 bytes and for the rest; of children six. With each call that fails the error stream has the line that tells it,
+unless it is the one that fails.
 """
 from __future__ import annotations
 
@@ -16,8 +16,10 @@ import sys
 sys.dont_write_bytecode = True
 from dataclasses import dataclass, field
 
+from clear import dealer_need
 from commands import Answer, Caller
-from files import write_inputs, write_tapes
+from entries import read_inputs
+from files import read_tapes, write_inputs, write_tapes
 from link_rows import (
     Rows, SIX_SEVEN, ZEROS, common_text, file, hexed, honest, miner_call, miner_files, number, shares_written, started, texts, waits, was_sent, written,
 )
@@ -85,9 +87,33 @@ class FaultRows(Rows):
         """A row of a command that the model answers."""
         caller = Watched(found)
         answer = caller.call(words.split())
-        files = [path for path in caller.paths] + [path for path, data in answer.written for _ in range(write_calls(data))]
+        drawn = drawn_of(caller, words.split())
+        files = [path for path in caller.paths for _ in range(drawn.get(path, 1))]
+        files += [path for path, data in answer.written for _ in range(write_calls(data))]
         counted = Counted(files, calls_for(len(answer.out)), err=calls_for(len(answer.err)))
         self.counted(title, counted, f"call {words}", *found_files(caller.paths, found), *answered(answer))
+
+
+def drawn_calls(lengths: int, counts: list[int]) -> int:
+    """The calls of a tape file whose words are drawn where they are wanted: its size, its lengths, and each time so many words."""
+    return 1 + sum(calls_for(8 * count) for count in (lengths, *counts))
+
+
+def run_calls(caller: Watched, path: str, inputs: bytes) -> int:
+    """How many calls of its tape file a `run` makes whose order of deliveries is taken: the dealer draws what it needs, or what it has, and then each
+    miner for each gate."""
+    if not caller.reports:
+        return drawn_calls(4, []) if len(caller.found[path]) >= 32 else 1
+    dealers = min(dealer_need(read_inputs(inputs)), len(read_tapes(caller.found[path])[0]))
+    return drawn_calls(4, [dealers, *(count for gate in caller.reports[-1].gates for count in gate.drawn())])
+
+
+def drawn_of(caller: Watched, words: list[str]) -> dict[str, int]:
+    """How many calls there are of a file whose words are drawn where they are wanted."""
+    if words[0] != "run" or "--tape" not in words:
+        return {}
+    path, inputs = (words[words.index(option) + 1] for option in ("--tape", "--input"))
+    return {path: run_calls(caller, path, caller.found[inputs])} if path in caller.paths else {}
 
 
 def found_files(paths: list[str], found: dict[str, bytes]) -> list[str]:
@@ -115,7 +141,8 @@ def model_files() -> dict[str, bytes]:
     found = {
         "sum.sc": SUM.encode(), "wrong.sc": of_main("x = 1;").encode(), "sum.json": write_inputs(SIX_SEVEN),
         "second.json": write_inputs([number("a", 5), number("b", 8)]), "other.json": write_inputs([number("a", 6), number("b", 8)]),
-        "sum.tape": write_tapes([[0] * 4, [0], [0], [0]]), "none": b"",
+        "sum.tape": write_tapes([[0] * 4, [0], [0], [0]]), "short.tape": write_tapes([[0] * 3, [0], [0], [0]]),
+        "cut.tape": write_tapes([[0] * 4, [0], [0], [0]])[:32], "none": b"",
     }
     for words in ("map 1 sum.sc --input sum.json --tape sum.tape --sim sum.sim --public sum.public --opened sum.opened",
                   "run sum.sc --input sum.json --tape sum.tape --record sum.order",
@@ -132,6 +159,7 @@ COMMANDS = (
     ("eval", "eval sum.sc --input sum.json"),
     ("need", "need sum.sc --input sum.json"),
     ("run", "run sum.sc --input sum.json --tape sum.tape --schedule sum.order --record order --views v"),
+    ("run with too few words for the dealer", "run sum.sc --input sum.json --tape short.tape --record order"),
     ("run with seeds", f"run sum.sc --input sum.json --seed {SEED} --words 4 --shuffle {SEED} --record order"),
     ("map", "map 3 sum.sc --input sum.json --tape sum.tape --sim sim --public public --opened opened"),
     ("simulate", "simulate 1 sum.sc --public sum.public --opened sum.opened --sim sum.sim --schedule sum.order --view view"),
@@ -144,6 +172,7 @@ REFUSED = (
     ("no command", "run"),
     ("a program that is refused", "eval wrong.sc --input sum.json"),
     ("an input that is refused", "run sum.sc --input none --tape sum.tape --views v"),
+    ("a tape of a run that is cut to its lengths", "run sum.sc --input sum.json --tape cut.tape --views v"),
     ("a tape that is refused", "deal --input sum.json --tape none --to d"),
     ("opened words that are too few", "simulate 1 sum.sc --public sum.public --opened none --sim sum.sim --view view"),
     ("inputs that are not alike", "twin 3 sum.sc --input sum.json --second other.json --tape sum.tape --to other.tape"),
@@ -171,9 +200,8 @@ def link_calls(setting: Setting, miner: int) -> int:
 
 
 def tape_calls(setting: Setting, miner: int) -> list[str]:
-    """The path of a miner's own tape, once a call: its size, and 7 bytes of its length and of the words of each gate that draws."""
-    drawn = [gate.drawn()[miner - 1] for gate in setting.report.gates]
-    return [f"p.t{miner}"] * (1 + sum(-(-8 * count // STEP) for count in [1, *drawn]))
+    """The path of a miner's own tape, once a call."""
+    return [f"p.t{miner}"] * drawn_calls(1, [gate.drawn()[miner - 1] for gate in setting.report.gates])
 
 
 def process_rows() -> FaultRows:

@@ -1,6 +1,10 @@
-pub mod HeldRuns
+pub mod Answered
+pub mod Drawn
 pub mod LoadRuns
+pub mod Opened
 pub mod Planned
+pub mod SourceRuns
+pub mod TapeWords
 pub mod Written
 pub use Rattle.viewed_run.proofs.Agreeing
 pub use Rattle.viewed_run.proofs.Taken

@@ -1,10 +1,7 @@
--- What `run` plans is what is decided of the files.
-use Rattle.std.proofs.Common.{◌≡◌, ℕ, List, [], ◌++◌, true, Option, Some, None, Ok, Err, refl, sym, ◌∙◌, ap, subst}
-use Rattle.outside.specs.Files.{FilesState}
+-- What is planned of a run is what the definitions say.
+use Rattle.std.proofs.Common.{◌≡◌, ℕ, List, [], ◌++◌, Option, Some, None, refl, sym, ◌∙◌, ap}
 use Rattle.command_frame.specs.Answer.{Effect, Written, effect_of}
 use Rattle.command_frame.specs.declared.plan.Plan.{Plan}
-use Rattle.command_frame.specs.declared.stop.Stop.{Stop}
-use Rattle.command_frame.specs.Reads.{OnlyRead, StopNames, Stops}
 use Rattle.command_words.specs.Ask.{RunAsk}
 use Rattle.sc_text.specs.declared.end.End.{End}
 use Rattle.sc_text.specs.declared.event.Event.{Event}
@@ -17,8 +14,6 @@ use Rattle.program_run.specs.Reports.{TellsAs, eval_with}
 use Rattle.program_run.specs.declared.running.RunReport.{RunReport}
 use Rattle.viewed_run.specs.Deliveries.{HasRunOf, delivered_of, net_of}
 use Rattle.viewed_run.specs.DeliveredRun.{DeliveredRun}
-use Rattle.counted_net.specs.declared.delivery.DeliveryErr.{DeliveryErr}
-use Rattle.counted_net.specs.declared.delivery.DeliveryErr.TheVariants as refusal
 use Rattle.viewed_run.specs.Views.{view_of}
 use Rattle.view_text.specs.View.{View}
 use Rattle.viewed_run.specs.Seen.{HasSeenRun, view_in}
@@ -27,19 +22,12 @@ use Rattle.viewed_run.specs.declared.seen.Views.{Views}
 use Rattle.proto_core.specs.declared.link.Link.{Link}
 use Rattle.proto_core.specs.declared.party.Number.{Number}
 use Rattle.proto_core.specs.declared.party.Number.TheVariants.{One, Two, Three}
-use Rattle.protocol_model.specs.Network.{Accepted, Delivery, EmptyLink, Stalled}
+use Rattle.protocol_model.specs.Network.{Delivery}
 use Rattle.program_commands.specs.Ends.{ending_status}
 use Rattle.program_commands.specs.Eval.{end_of, ending_of}
-use Rattle.program_commands.specs.Judging.{Finding}
-use Rattle.program_commands.specs.Programs.{program_at}
-use Rattle.program_commands.specs.Reading.{delivery_at, inputs_at, tapes_at}
-use Rattle.miner_commands.specs.Run.{HasRan, IsRan, ran_effect, recorded_links, run_effect, run_of}
-use Rattle.program_commands.specs.Schedules.{IsDeliveryStop, by_net, empty_line, refused_with}
+use Rattle.miner_commands.specs.Run.{HasRan, ran_effect, recorded_links, run_effect}
 use Rattle.miner_commands.specs.Run.{run_report, run_told}
-use Rattle.program_commands.specs.Schedules.{stalled_line}
 use Rattle.miner_commands.specs.Views.{view_files}
-use Rattle.program_commands.proofs.Judged.{refused_so}
-use Rattle.program_commands.proofs.Exits.{unnamed_memory, unnamed_refusal}
 
 -- ---- the run of a program that was read
 
@@ -95,59 +83,3 @@ module _ (ask : RunAsk) (p : TypedProgramTree) (entries : List Entry) (tapes : F
   planned_seen prefix seen files plan some h same is =
       let wanted : view_files ask.views views_wanted ≡ view_files (Some prefix) views_wanted = ap (λ views. view_files views views_wanted) some in
       planned_so seen.run files plan h.run (same ∙ sym (wanted ∙ views_so prefix views_wanted seen.views h.views)) is
-
--- files that were read one after another are those of the beginning
-module _ (f f1 f2 f3 : FilesState) (first : OnlyRead f f1) (second : OnlyRead f1 f2) (third : OnlyRead f2 f3)
-    (found : Finding) (ask : RunAsk) (p : TypedProgramTree) (entries : List Entry) (tapes : FourTapes) (delivery : Delivery)
-    (program : f.told ≡ true → program_at found f.contents ask.program ≡ Ok p)
-    (input : List ℕ) (same : input ≡ ask.input) (inputs : f1.told ≡ true → inputs_at f1.contents input ≡ Ok entries)
-    (taped : f2.told ≡ true → tapes_at f2.contents ask.source ≡ Ok tapes)
-    (order : f3.told ≡ true → delivery_at f3.contents ask.order ≡ Ok delivery) where
-  first_told : f.told ≡ true → f1.told ≡ true
-  first_told t = first.same.told ∙ t
-
-  second_told : f.told ≡ true → f2.told ≡ true
-  second_told t = second.same.told ∙ first_told t
-
-  there : f.told ≡ true → inputs_at f.contents ask.input ≡ Ok entries
-  there t = ap (inputs_at f.contents) (sym same) ∙ ap (λ c. inputs_at c input) (sym first.same.contents) ∙ inputs (first_told t)
-
-  second_contents : f2.contents ≡ f.contents
-  second_contents = second.same.contents ∙ first.same.contents
-
-  given : f.told ≡ true → tapes_at f.contents ask.source ≡ Ok tapes
-  given t = ap (λ c. tapes_at c ask.source) (sym second_contents) ∙ taped (second_told t)
-
-  ordered : f.told ≡ true → delivery_at f.contents ask.order ≡ Ok delivery
-  ordered t =
-      ap (λ c. delivery_at c ask.order) (sym (third.same.contents ∙ second_contents)) ∙ order (third.same.told ∙ second_told t)
-
-  pub ran :
-      net_of p entries tapes ask.budget delivery ≡ Accepted → f.told ≡ true
-      → run_of found ask f.contents ≡ Ok (run_told ask p entries tapes delivery)
-  unfolding run_of by_net
-  ran accepted t = rw (program t, there t, given t, ordered t, accepted) refl
-
-  emptied : (entry : ℕ) (link : Link) (sent : ℕ) → net_of p entries tapes ask.budget delivery ≡ EmptyLink entry link sent → f.told ≡ true
-      → run_of found ask f.contents ≡ Err (refused_with (empty_line entry link sent))
-  unfolding run_of by_net
-  emptied entry link sent is t = rw (program t, there t, given t, ordered t, is) refl
-
-  stalled : (miner : Number) (link : Link) → net_of p entries tapes ask.budget delivery ≡ Stalled miner link → f.told ≡ true
-      → run_of found ask f.contents ≡ Err (refused_with (stalled_line miner link))
-  unfolding run_of by_net
-  stalled miner link is t = rw (program t, there t, given t, ordered t, is) refl
-
-  -- a schedule that is refused stops the command
-  pub stops : (f4 : FilesState) (e : DeliveryErr) (stop : Stop) → IsRan ask p entries tapes delivery (Err e) → IsDeliveryStop e stop
-      → Stops f f4 stop (run_of found ask f.contents)
-  stops f4 (refusal.EmptyLink entry link sent) stop is of =
-      refused_so f f4 stop (run_of found ask f.contents) of (emptied entry link sent is)
-  stops f4 (refusal.Stalled miner link) stop is of = refused_so f f4 stop (run_of found ask f.contents) of (stalled miner link is)
-  stops f4 refusal.Memory stop is of = subst (λ (s : Stop). Stops f f4 s (run_of found ask f.contents)) (sym of) tt
-
--- a schedule that is refused names no file
-pub delivery_stop_names : (paths : List (List ℕ)) (e : DeliveryErr) (stop : Stop) → IsDeliveryStop e stop → StopNames paths stop
-delivery_stop_names paths (refusal.EmptyLink entry link sent) stop of = unnamed_refusal paths (refused_with (empty_line entry link sent)) stop of
-delivery_stop_names paths (refusal.Stalled miner link) stop of = unnamed_refusal paths (refused_with (stalled_line miner link)) stop of
-delivery_stop_names paths refusal.Memory stop of = unnamed_memory paths stop of

@@ -1,4 +1,5 @@
 pub mod Load
+pub mod Opened
 pub mod Run
 pub mod Views
 pub use Rattle.viewed_run.specs.Premises

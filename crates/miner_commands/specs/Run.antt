@@ -79,6 +79,12 @@ module _ (ask : RunAsk) (p : TypedProgramTree) (entries : List Entry) (tapes : F
   abbrev pub IsRanOrNot : Result Plan CourseErr → Type 0
   IsRanOrNot result = IsOrRefused p entries tapes ask.budget delivery HasRan result
 
+-- what comes of a run of a program that was read: the order of delivery is refused, or this is planned
+abbrev pub course_answer : RunAsk → TypedProgramTree → List Entry → FourTapes → Delivery → Answer
+course_answer ask program entries tapes delivery = do
+  _ ← by_net (net_of program entries tapes ask.budget delivery)
+  Ok (run_told ask program entries tapes delivery)
+
 -- Each file is read and then checked: the program and its size, the input, the tapes, the schedule; then the program is run.
 unfoldable pub run_of : Finding → RunAsk → Contents → Answer
 run_of found ask files = do

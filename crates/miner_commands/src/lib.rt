@@ -1,8 +1,10 @@
 //! The commands that three miners carry out: `run`, and `load`, which runs a workload.
 #![tactic(auto)]
 
+mod job;
 mod load;
 mod run;
+mod tapes;
 mod views;
 
 pub use load::plan_load;

@@ -13,6 +13,12 @@ const FOUR: [u64; 10] = [1, 2, 0, 3, 100, 201, 202, 1 << 63, 402, 403];
 // A tape of 3 words in a file of its own.
 const OWN: [u64; 4] = [3, 258, 1 << 63, 7];
 
+// What is left of the first of these files where it is cut after the dealer's word.
+const CUT: [u8; 40] = [
+    1, 0, 0, 0, 0, 0, 0, 0, 2, 0, 0, 0, 0, 0, 0, 0, 0, 0, 0, 0, 0, 0, 0, 0, 3, 0, 0, 0, 0, 0, 0, 0,
+    100, 0, 0, 0, 0, 0, 0, 0,
+];
+
 // Files of four tapes that are none: lengths that are cut off, a second and a fourth tape that are too long, a word too few and one too many.
 const WRONG: [&[u64]; 5] = [
     &[0, 0, 0],
@@ -61,6 +67,14 @@ fn tell_four<F: Files>(lines: &mut Lines, files: &mut F) {
     }
 }
 
+// The same of a file that is cut once its lengths were read, so that it ends before the size that it said.
+fn tell_cut<F: Files>(alloc: Global, lines: &mut Lines, files: &mut F) {
+    match (read_lengths(files, "t"), files.write(alloc, "t", &CUT)) {
+        (Ok(lengths), Ok(())) => tell_draws(lines, &mut FileTapes::new(files, "t", lengths)),
+        _ => lines.run_short(),
+    }
+}
+
 fn tell_own<F: Files>(lines: &mut Lines, files: &mut F, wanted: u64) {
     match read_length(files, "t", wanted) {
         Ok(size) => tell_draws(lines, &mut OwnTape::new(files, "t", 3, wanted, size)),
@@ -73,6 +87,15 @@ fn tell_file(lines: &mut Lines, name: &str, files: Result<MemFiles, AllocError>)
     lines.add(name);
     match files {
         Ok(mut files) => tell_four(lines, &mut files),
+        Err(AllocError) => lines.run_short(),
+    }
+}
+
+// The line of a file of four tapes that is cut.
+fn tell_cut_file(alloc: Global, lines: &mut Lines, files: Result<MemFiles, AllocError>) {
+    lines.add("cut after its lengths were read:");
+    match files {
+        Ok(mut files) => tell_cut(alloc, lines, &mut files),
         Err(AllocError) => lines.run_short(),
     }
 }
@@ -102,6 +125,7 @@ pub fn tell(alloc: Global, lines: &mut Lines) {
     // Call 0 is for the size, 1 to 5 are for the lengths, as 7 bytes are read at a time, and 6 to 8 for the first draw.
     tell_file(lines, "four tapes:", store(alloc, &FOUR, &[]));
     tell_file(lines, "a draw fails:", store(alloc, &FOUR, &[7]));
+    tell_cut_file(alloc, lines, store(alloc, &FOUR, &[]));
     tell_file(lines, "no size:", store(alloc, &FOUR, &[0]));
     for words in WRONG {
         tell_file(lines, "no tapes:", store(alloc, words, &[]));

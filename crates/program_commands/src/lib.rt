@@ -23,6 +23,6 @@ pub use eval::{plan_eval, plan_need};
 pub use orders::read_delivery;
 pub use programs::{read_typed, typed_of_text};
 pub use readers::{
-    read_inputs, read_opened_file, read_public_file, read_share_file, read_tape_file, read_tapes,
+    read_inputs, read_opened_file, read_public_file, read_share_file, read_tape_file, tape_stop,
 };
 pub use writes::add_write;

@@ -1,9 +1,9 @@
 // Input, public, opened, tape and schedule files, read from their paths.
 ghost use Rattle.std.specs.Prelude.{◌≡◌, ◌≢◌, ◌∷◌, [], true, IfOk, IfErr};
+ghost use Rattle.outside.specs.Files.{SameSizes};
 ghost use Rattle.command_frame.specs.Reads.{OnlyRead, Gives, StopNames};
 ghost use Rattle.command_frame.specs.Status.{can_refuse};
 ghost use Rattle.command_frame.specs.Stops.{IsRefusalFor};
-ghost use Rattle.command_words.specs.Views.{source_ask};
 ghost use Rattle.sc_text.specs.Fault.{fault_line};
 ghost use Rattle.command_frame.specs.declared.status.Status.TheVariants.{Input};
 ghost use Rattle.sc_text.specs.declared.fault.Fault.TheVariants.{Input as InputFile};
@@ -12,16 +12,15 @@ ghost use Rattle.value_file.specs.Input.{AreInputs};
 ghost use Rattle.value_file.specs.PublicFile.{IsWritable};
 ghost use Rattle.value_file.specs.declared.read_err.ReadErr.{ReadErr};
 ghost use Rattle.program_commands.specs.Reading.{bad_input, bad_opened, bad_tape, bad_schedule, field_fault, top_fault};
-ghost use Rattle.program_commands.specs.Reading.{entry_field, inputs_at, opened_at, public_at, share_at, source_paths, tape_file_at, tapes_at, schedule_file_at};
+ghost use Rattle.program_commands.specs.Reading.{entry_field, inputs_at, opened_at, public_at, share_at, tape_file_at, schedule_file_at};
 
 use command_frame::{Status, Stop, read_file, refused};
-use command_words::TapeSource;
 use input_share::{ShareFile, read_share};
 use outside::Files;
 use proto_core::{Link, Number};
 use sc_text::{EntryField, Fault, InputFault};
 use std::alloc::Global;
-use tape_file::{Tapes, from_seed};
+use tape_file::Tapes;
 use value_file::{Field, Inputs, PublicPart};
 
 /// The refusal of what was read, with this status and the line of this fault; `Memory` where the line can't be made.
@@ -177,9 +176,9 @@ pub fn read_opened_file<F: Files>(
     }
 }
 
-// Why a tape file is refused.
+/// Why a tape file is refused, whose first fault is at this place; `Memory` where the line can't be made.
 #[tactic(auto, unfolding(crate::specs::Reading::bad_tape))]
-fn tape_stop(alloc: Global, place: u64) -> Stop
+pub fn tape_stop(alloc: Global, place: u64) -> Stop
     ensures { IsRefusalFor (bad_tape place) result }
 {
     refusal_of(alloc, Status::TapeFile, &Fault::BadTape { place })
@@ -201,24 +200,6 @@ pub fn read_tape_file<F: Files>(alloc: Global, files: &mut F, path: &str) -> Res
     }
 }
 
-/// The tapes of a file, or those that are drawn from a seed.
-#[tactic(auto, unfolding(crate::specs::Reading::tapes_at))]
-pub fn read_tapes<F: Files>(
-    alloc: Global,
-    files: &mut F,
-    source: &TapeSource,
-) -> Result<Tapes, Stop>
-    ensures files { OnlyRead (F.state files.old) (F.state files.new) }
-    ensures answer { Gives (λ tapes. tapes) (F.state files.old) (F.state files.new) result
-        (tapes_at (F.state files.old).contents (source_ask source.now)) }
-    ensures names { IfErr result (StopNames (source_paths (source_ask source.now))) }
-{
-    match source {
-        TapeSource::File(path) => read_tape_file(alloc, files, path),
-        TapeSource::Seed(seed) => Ok(from_seed(alloc, seed.seed, seed.words)?),
-    }
-}
-
 // Why a schedule file is refused.
 #[tactic(auto, unfolding(crate::specs::Reading::bad_schedule))]
 fn schedule_stop(alloc: Global, line: u64) -> Stop
@@ -235,6 +216,7 @@ pub fn read_schedule_file<F: Files>(
     path: &str,
 ) -> Result<Vec<Link>, Stop>
     ensures files { OnlyRead (F.state files.old) (F.state files.new) }
+    ensures sizes { SameSizes (F.state files.old) (F.state files.new) }
     ensures answer { Gives (λ links. links.items) (F.state files.old) (F.state files.new) result
         (schedule_file_at (F.state files.old).contents path.now) }
     ensures names { IfErr result (StopNames (path.now ∷ [])) }

@@ -1,31 +1,14 @@
 -- Inputs and tapes that the files hold are of words.
-use Rattle.std.proofs.Common.{◌≡◌, ℕ, List, length, All, Ok, IfOk, subst, inl, inr, arith}
-use Rattle.std.proofs.lemmas.Bool.{cases_lt}
-use Rattle.std.proofs.lemmas.List.{get_or_past}
+use Rattle.std.proofs.Common.{◌≡◌, ℕ, List, Ok, IfOk, subst}
 use Rattle.outside.specs.Files.{Contents}
 use Rattle.command_words.specs.Ask.{Source, file}
-use Rattle.proto_core.specs.declared.party.Number.{Number}
-use Rattle.proto_core.specs.declared.party.Number.TheVariants.{One, Two, Three}
-use Rattle.proto_core.specs.Lists.{AreWords}
-use Rattle.tape_file.specs.Tapes.{AreOfWords, FourTapes, IsWord}
+use Rattle.tape_file.specs.Tapes.{AreOfWords, FourTapes}
 use Rattle.value_file.specs.declared.inputs.Entry.{Entry}
 use Rattle.program_views.specs.Inputs.{AreSound}
 use Rattle.miner_commands.specs.Premises.{HaveWords}
-use Rattle.view_model.specs.TapeMaps.{miners_of}
+use Rattle.miner_commands.proofs.TapeWords.{by_index, miners_words}
 use Rattle.program_commands.specs.Reading.{inputs_at, tape_file_at, tapes_at}
 use Rattle.program_commands.proofs.OfWords.{inputs_sound, source_words}
-
--- the same by index, and 0 past the end
-by_index : (xs : List ℕ) → All IsWord xs → AreWords xs
-by_index xs all k = elim (cases_lt k (length xs)) [
-  | inl within ↦ all k 0 within
-  | inr past ↦ rw (get_or_past xs k 0 past) (omega arith)
-]
-
-miners_words : (tapes : FourTapes) → AreOfWords tapes → (i : Number) → AreWords (miners_of tapes i)
-miners_words tapes words One = by_index tapes.one words.one
-miners_words tapes words Two = by_index tapes.two words.two
-miners_words tapes words Three = by_index tapes.three words.three
 
 pub read_of_words : (files : Contents) (path : List ℕ) (source : Source) (entries : List Entry) (tapes : FourTapes)
     → inputs_at files path ≡ Ok entries → tapes_at files source ≡ Ok tapes → HaveWords entries tapes

@@ -9,10 +9,10 @@ use Rattle.viewed_run.specs.Seen.{HasSeenRun, IsSeenRunOf, view_in}
 use Rattle.viewed_run.specs.declared.seen.Views.{Views}
 use Rattle.miner_commands.specs.Run.{HasRan, ran_effect}
 use Rattle.miner_commands.specs.Views.{view_files}
-use Rattle.miner_commands.proofs.HeldRuns.{done_after, memory_after, refused_on}
+use Rattle.miner_commands.proofs.SourceRuns.{done_after, memory_after, refused_on}
 use Rattle.miner_commands.proofs.Planned.{planned_seen, planned_unseen, some_path}
 use Rattle.miner_commands.proofs.Written.{names_seen, names_unseen}
-use Rattle.miner_commands.proofs.run.run_job.Goals as goal
+use Rattle.miner_commands.proofs.job.run_job.Goals as goal
 
 pub returns-in_err-seen-in-Some-clause-ran : goal.returns-in_err-seen-in-Some-clause-ran
 returns-in_err-seen-in-Some-clause-ran g c =

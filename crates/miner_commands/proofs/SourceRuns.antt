@@ -1,12 +1,10 @@
--- Runs that draw their tapes from a source, and those with tapes in memory, which can always be read.
-use Rattle.std.proofs.Common.{◌≡◌, ℕ, List, true, Result, Ok, Err, refl, sym, subst}
+-- Runs that draw their tapes from a source, and those whose source tells its words.
+use Rattle.std.proofs.Common.{◌≡◌, ℕ, List, true, Result, Ok, Err, sym, subst}
 use Rattle.std.specs.Prelude.{IfErr}
 use Rattle.outside.specs.Tapes.{TapesState}
 use Rattle.protocol_model.specs.Network.{Delivery}
 use Rattle.tape_file.specs.Tapes.{FourTapes}
-use Rattle.tape_sources.specs.Held.{held_state}
 use Rattle.tape_sources.specs.Parties.{four_of}
-use Rattle.tape_sources.specs.declared.held.HeldTapes.{HeldTapes}
 use Rattle.typed_tree.specs.Programs.{TypedProgramTree}
 use Rattle.value_file.specs.declared.inputs.Entry.{Entry}
 use Rattle.view_model.specs.TapeMaps.{AreTapes}
@@ -50,20 +48,21 @@ module _ (p : TypedProgramTree) (entries : List Entry) (budget : ℕ) (given : D
         runs_as a b entries (Ok x) (Ok y) (λ t. IsOrRefused p entries t budget given (Q t) (Ok x))
         (λ t. IsOrRefused p entries t budget given (R t) (Ok y)) h tt step
 
--- ---- of tapes in memory
+-- ---- of a source that tells its words
 
-module _ {A : Type 0} (entries : List Entry) (h : HeldTapes) (b : TapesState) (tapes : FourTapes) (is : four_of (held_state h) ≡ tapes) where
+module _ {A : Type 0} (entries : List Entry) (a b : TapesState) (told : a.told ≡ true) (tapes : FourTapes) (is : four_of a ≡ tapes) where
   -- what is said of its tapes
-  pub held_so : (r : Result A CourseErr) (Q : FourTapes → Type 0) → RunsFrom (held_state h) b entries r Q → AreTapes tapes → Q tapes
-  held_so r Q runs words = subst Q is (runs.told refl (subst AreTapes (sym is) words))
+  pub told_so : (r : Result A CourseErr) (Q : FourTapes → Type 0) → RunsFrom a b entries r Q → AreTapes tapes → Q tapes
+  told_so r Q runs words = subst Q is (runs.told told (subst AreTapes (sym is) words))
 
-  -- they can be read
-  pub never_faults : (e : CourseErr) (Q : FourTapes → Type 0) → RunsFrom (held_state h) b {A = A} entries (Err e) Q → e ≡ fault.TapeFault → ⊥
-  never_faults e Q runs fault = (subst (IsCause (held_state h) b) fault runs.cause).unsteady refl
-
-  pub held_refused : (p : TypedProgramTree) (budget : ℕ) (given : Delivery) (R : FourTapes → A → Type 0) (e : CourseErr) (refusal : DeliveryErr)
-      → RunsFrom (held_state h) b {A = A} entries (Err e) (λ t. IsOrRefused p entries t budget given (R t) (Err e)) → AreTapes tapes
+  pub told_refused : (p : TypedProgramTree) (budget : ℕ) (given : Delivery) (R : FourTapes → A → Type 0) (e : CourseErr) (refusal : DeliveryErr)
+      → RunsFrom a b {A = A} entries (Err e) (λ t. IsOrRefused p entries t budget given (R t) (Err e)) → AreTapes tapes
       → e ≡ fault.Delivery refusal → IsRefusedOf p entries tapes budget given refusal
-  held_refused p budget given R e refusal runs words same =
+  told_refused p budget given R e refusal runs words same =
       subst (λ (x : CourseErr). IsOrRefused p entries tapes budget given (R tapes) (Err x)) same
-      (held_so (Err e) (λ t. IsOrRefused p entries t budget given (R t) (Err e)) runs words)
+      (told_so (Err e) (λ t. IsOrRefused p entries t budget given (R t) (Err e)) runs words)
+
+-- a steady one can be read
+pub never_faults : {A : Type 0} (entries : List Entry) (a b : TapesState) (steady : a.steady ≡ true) (e : CourseErr) (Q : FourTapes → Type 0)
+    → RunsFrom a b {A = A} entries (Err e) Q → e ≡ fault.TapeFault → ⊥
+never_faults entries a b steady e Q runs fault = (subst (IsCause a b) fault runs.cause).unsteady steady
