@@ -130,7 +130,7 @@ fn tell_done<P: Party>(alloc: Global, lines: &mut Lines, miner: &Miner<P>) {
             " sent {} and {}, opened {:?}\n",
             miner.sent_to_next().len(),
             miner.sent_to_previous().len(),
-            opened
+            opened.as_slice()
         ),
         Err(_) => lines.run_short(),
     }
