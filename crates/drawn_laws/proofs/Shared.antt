@@ -1,5 +1,5 @@
 -- What a miner of a shared run has drawn is what the run counts.
-use Rattle.std.proofs.Common.{◌≡◌, ◌∙◌, ℕ, List, [], sym, ap, arith}
+use Rattle.std.proofs.Common.{◌∙◌, ℕ, List, [], sym, ap, arith}
 use Rattle.proto_core.specs.declared.party.Number.{Number}
 use Rattle.proto_core.specs.Lists.{AreWords}
 use Rattle.protocol_model.specs.Gates.{sizes_of}
