@@ -6,9 +6,9 @@ use Rattle.proto_core.specs.Standing.{standing_of, standing_with}
 use Rattle.proto_core.proofs.Strands.{standing, run-none, run-took, run-refused, run-added, run-then_do}
 use Rattle.driven_nodes.specs.Driven.{telling}
 use Rattle.drawn_laws.specs.Drawn.{at_end, drawn_behind}
-use Rattle.drawn_laws.specs.Alike.{StandAlike, RunAlike}
+use Rattle.drawn_laws.specs.Alike.{StandSame, RunAlike}
 
-stand_self : {A : Type 0} (s : Strand A) → StandAlike s s
+stand_self : {A : Type 0} (s : Strand A) → StandSame s s
 stand_self (Ends a) = refl
 stand_self (Acts act s) = refl
 stand_self (Waits l shape k) = (k, refl)
@@ -19,7 +19,7 @@ run_self r = record { acts = refl; unread = refl; left = stand_self r.left }
 pub alike_stands : {A : Type 0} (r q : Ran A) → RunAlike r q → standing_of r ≡ standing_of q
 alike_stands {A} r q h = ap (standing_with r.left) h.unread ∙ at r.left q.left h.left
   where
-    at : (s t : Strand A) → StandAlike s t → standing_with s q.unread ≡ standing_with t q.unread
+    at : (s t : Strand A) → StandSame s t → standing_with s q.unread ≡ standing_with t q.unread
     at (Ends a) t e = ap (λ x. standing_with x q.unread) (sym e)
     at (Acts act s) t e = ap (λ x. standing_with x q.unread) (sym e)
     at (Waits l shape k) t e = ap (λ x. standing_with x q.unread) (sym e.1)

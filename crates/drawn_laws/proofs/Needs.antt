@@ -244,13 +244,13 @@ module _ (w : World) (c : List Function) where
 
   module _ (i : Number) (dealt : Values) where
     -- so many were drawn by one that has made these gates, which suit
-    pub record HasDrawn (gates : List Gate) (n : ℕ) : Type 0 where
+    pub record DrewUpTo (gates : List Gate) (n : ℕ) : Type 0 where
       pub suit : AllSizesSuit (sizes_of dealt) [] gates
       pub count : n ≡ needs i dealt [] gates
 
-    abbrev pub EndHasDrawn : own.Ended → ℕ → Type 0
-    EndHasDrawn (Reached stand values) n = HasDrawn (at_stand stand).stage.gates n
-    EndHasDrawn Unfit n = Unit {0}
+    abbrev pub EndDrew : own.Ended → ℕ → Type 0
+    EndDrew (Reached stand values) n = DrewUpTo (at_stand stand).stage.gates n
+    EndDrew Unfit n = Unit {0}
 
     -- a place, with values of its gates
     abbrev SizedAt : Place → Values → Type 0
@@ -258,23 +258,23 @@ module _ (w : World) (c : List Function) where
 
     abbrev CodeComes : From Place → (Place → Count) → Type 0
     CodeComes on count =
-        (p : Place) (values : Values) (base : ℕ) → SizedAt p values → HasDrawn p.stage.gates base →
-        Comes (on p values) (count p values) (λ e n. EndHasDrawn e (base + n))
+        (p : Place) (values : Values) (base : ℕ) → SizedAt p values → DrewUpTo p.stage.gates base →
+        Comes (on p values) (count p values) (λ e n. EndDrew e (base + n))
 
     stand_comes :
         (on : From Place) (count : Place → Count) → CodeComes on count → (stand : Stand Place) (all : Values) (base : ℕ) →
-        SizedAt (at_stand stand) all → HasDrawn (at_stand stand).stage.gates base →
-        Comes (go_on on stand all) (drawn_from count stand all) (λ e n. EndHasDrawn e (base + n))
+        SizedAt (at_stand stand) all → DrewUpTo (at_stand stand).stage.gates base →
+        Comes (go_on on stand all) (drawn_from count stand all) (λ e n. EndDrew e (base + n))
     stand_comes on count each (Running p) all base sized drawn = each p all base sized drawn
     stand_comes on count each (Stopped p) all base sized drawn =
         let none : base ≡ base + 0 = omega arith in
-        comes_none (Reached (Stopped p) all) (λ e n. EndHasDrawn e (base + n)) (subst (HasDrawn p.stage.gates) none drawn)
+        comes_none (Reached (Stopped p) all) (λ e n. EndDrew e (base + n)) (subst (DrewUpTo p.stage.gates) none drawn)
     stand_comes on count each (steps.Short p) all base sized drawn =
         let none : base ≡ base + 0 = omega arith in
-        comes_none (Reached (steps.Short p) all) (λ e n. EndHasDrawn e (base + n)) (subst (HasDrawn p.stage.gates) none drawn)
+        comes_none (Reached (steps.Short p) all) (λ e n. EndDrew e (base + n)) (subst (DrewUpTo p.stage.gates) none drawn)
 
     module _ (on : From Place) (count : Place → Count) (each : CodeComes on count) (p : Place) (values : Values) (base : ℕ)
-        (sized : SizedAt p values) (drawn : HasDrawn p.stage.gates base) where
+        (sized : SizedAt p values) (drawn : DrewUpTo p.stage.gates base) where
       abbrev x : Went Place
       x = step_told w c p []
 
@@ -286,7 +286,7 @@ module _ (w : World) (c : List Function) where
 
       -- with the gates of the step
       abbrev Then : List ℕ → Type 0
-      Then sizes = AllSizesSuit (sizes_of dealt) sizes more → HasDrawn (p.stage.gates ++ more) (base + needs i dealt sizes more)
+      Then sizes = AllSizesSuit (sizes_of dealt) sizes more → DrewUpTo (p.stage.gates ++ more) (base + needs i dealt sizes more)
 
       then_drawn : Then (sizes_after (sizes_of dealt) [] p.stage.gates)
       then_drawn suit =
@@ -301,13 +301,13 @@ module _ (w : World) (c : List Function) where
 
       turn_comes :
           Comes (λ tape. then_do (own_gates i dealt more values tape) (behind_gates w c on p x))
-          (drawn_by_gates i dealt more (λ all. drawn_from count (stand_of (led_by w c all p x)) all) values) (λ e n. EndHasDrawn e (base + n))
+          (drawn_by_gates i dealt more (λ all. drawn_from count (stand_of (led_by w c all p x)) all) values) (λ e n. EndDrew e (base + n))
       turn_comes =
-          gates_come i dealt (behind_gates w c on p x) Unfit refl EndHasDrawn (λ n. tt)
+          gates_come i dealt (behind_gates w c on p x) Unfit refl EndDrew (λ n. tt)
           (λ all. drawn_from count (stand_of (led_by w c all p x)) all) more values base behind
         where
           behind :
-              Behind i dealt (behind_gates w c on p x) Unfit refl EndHasDrawn (λ n. tt)
+              Behind i dealt (behind_gates w c on p x) Unfit refl EndDrew (λ n. tt)
               (λ all. drawn_from count (stand_of (led_by w c all p x)) all) base (sizes_of values) more
           behind all suit same =
               comes_telling (notices_between p (place_of (led_by w c all p x)) all) (go_on on stand all) (drawn_from count stand all) _
@@ -326,13 +326,13 @@ module _ (w : World) (c : List Function) where
                   ∙ sym (sizes-then (sizes_of dealt) [] p.stage.gates more)
                   ∙ ap (sizes_after (sizes_of dealt) []) gates_there
 
-              drawn_there : HasDrawn (at_stand stand).stage.gates (base + needs i dealt (sizes_of values) more)
+              drawn_there : DrewUpTo (at_stand stand).stage.gates (base + needs i dealt (sizes_of values) more)
               drawn_there =
-                  subst (λ gs. HasDrawn gs (base + needs i dealt (sizes_of values) more)) gates_there (subst Then (sym sized) then_drawn suit)
+                  subst (λ gs. DrewUpTo gs (base + needs i dealt (sizes_of values) more)) gates_there (subst Then (sym sized) then_drawn suit)
 
     pub code_comes : (fuel : ℕ) → CodeComes (own_code w c i dealt fuel) (drawn_by_code w c i dealt fuel)
     code_comes zero p values base sized drawn =
         let none : base ≡ base + 0 = omega arith in
-        comes_none (Reached (Running p) values) (λ e n. EndHasDrawn e (base + n)) (subst (HasDrawn p.stage.gates) none drawn)
+        comes_none (Reached (Running p) values) (λ e n. EndDrew e (base + n)) (subst (DrewUpTo p.stage.gates) none drawn)
     code_comes (suc fuel) p values base sized drawn =
         turn_comes (own_code w c i dealt fuel) (drawn_by_code w c i dealt fuel) (code_comes fuel) p values base sized drawn

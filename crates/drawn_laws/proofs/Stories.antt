@@ -24,7 +24,7 @@ use Rattle.drawn_laws.specs.Laws.{on_tape}
 use Rattle.drawn_laws.proofs.Alike.{alike_stands}
 use Rattle.drawn_laws.proofs.Counts.{EndFits, beginning_fits, code_fits}
 use Rattle.drawn_laws.proofs.Ended.{always_run}
-use Rattle.drawn_laws.proofs.Needs.{HasDrawn, code_comes}
+use Rattle.drawn_laws.proofs.Needs.{DrewUpTo, code_comes}
 use Rattle.drawn_laws.proofs.Nets.{come_same, read_same}
 use Rattle.drawn_laws.proofs.Nodes.{code_reads}
 use Rattle.drawn_laws.proofs.Reading.{Counting, ReadsOnly, ReadsSame, Taping}
@@ -42,7 +42,7 @@ module _ (i : Number) (s : Story) where
 
   exact : AtStop i s (λ p. drawn_so_far i s ≡ words_of_all (sizes_after (sizes_of s.dealt) [] p.stage.gates) (miner_of i) p.stage.gates)
   exact p values e =
-      let h : HasDrawn s.world s.code i s.dealt p.stage.gates (0 + drawn_so_far i s) =
+      let h : DrewUpTo s.world s.code i s.dealt p.stage.gates (0 + drawn_so_far i s) =
       (code_comes s.world s.code i s.dealt (fuel s.code s.budget) (first_place s.code s.budget) [] 0 refl (record { suit = tt; count = refl })).from s.tape
       (mail_in i s) (Reached (Stopped p) values) e in
       let n : drawn_so_far i s ≡ 0 + drawn_so_far i s = omega arith in

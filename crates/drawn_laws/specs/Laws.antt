@@ -61,17 +61,17 @@ CountsWhatItDrew o d c budget tapes i s =
 -- ---- no others are read
 
 -- another tape that is no longer, and has the same first words
-pub record HaveSame (count : ℕ) (tape other : List ℕ) : Type 0 where
+pub record IsSameSoFar (count : ℕ) (tape other : List ℕ) : Type 0 where
   pub long : length other ≤ length tape
   pub front : take count other ≡ take count tape
 
-pub record DoesTheSame (i : Number) (s other : Story) : Type 0 where
+pub record RunsTheSame (i : Number) (s other : Story) : Type 0 where
   pub alike : RunAlike (node i other) (node i s)
   pub stands : stands_at i other ≡ stands_at i s
   pub drawn : drawn_so_far i other ≡ drawn_so_far i s
 
 abbrev pub ReadsWhatItDraws : Number → Story → (tape : List ℕ) → Type 0
-ReadsWhatItDraws i s tape = HaveSame (drawn_so_far i s) s.tape tape → DoesTheSame i s (on_tape s tape)
+ReadsWhatItDraws i s tape = IsSameSoFar (drawn_so_far i s) s.tape tape → RunsTheSame i s (on_tape s tape)
 
 -- ---- three, each made as its story says but for its tape, whose messages are delivered in the order of these links
 
@@ -86,10 +86,10 @@ module _ (stories : Number → Story) (links : List Link) where
   abbrev pub drawn_of : Tapes → Number → ℕ
   drawn_of tapes i = drawn_with i (on_tape (stories i) (tapes i)) (into i (came_on tapes))
 
-  pub record DoTheSame (tapes others : Tapes) : Type 0 where
+  pub record RunTheSame (tapes others : Tapes) : Type 0 where
     pub came : came_on others ≡ came_on tapes
     pub alike : (i : Number) → RunAlike (run_of (nodes_on others) (came_on others) i) (run_of (nodes_on tapes) (came_on tapes) i)
     pub drawn : (i : Number) → drawn_of others i ≡ drawn_of tapes i
 
   abbrev pub ReadWhatTheyDraw : (tapes others : Tapes) → Type 0
-  ReadWhatTheyDraw tapes others = ((i : Number) → HaveSame (drawn_of tapes i) (tapes i) (others i)) → DoTheSame tapes others
+  ReadWhatTheyDraw tapes others = ((i : Number) → IsSameSoFar (drawn_of tapes i) (tapes i) (others i)) → RunTheSame tapes others
