@@ -27,7 +27,7 @@ none_between before behind w is =
 -- an effect without files, finished
 module _ (effect : Effect) (alone : effect.writes ≡ []) (f f' : FilesState) (o o' : SinkState) where
   printed : (r : Result Status Stop) → Finishes effect f f' o o' r → Printed effect o o' (status_in r)
-  printed (Ok s) part = inl (part.0, part.1.1)
+  printed (Ok s) part = inl (part.0, part.2)
   printed (Err stops.Memory) (inl (short, same)) = inr (inr (refl, inl same))
   printed (Err stops.Memory) (inr (wrote, short)) = inr (inr (refl, inr short))
   printed (Err stops.Usage) part = absurd part
