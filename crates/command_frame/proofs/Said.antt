@@ -1,7 +1,7 @@
 -- Lines that begin with `error: `.
 use Rattle.std.proofs.Common.{◌≡◌, ◌++◌, ◌+◌, ◌-◌, ℕ, List, Result, Ok, Err, String, refl, subst, sym, arith, string_bytes}
 use Rattle.std.proofs.lemmas.List.{drop_at, length-append}
-use Rattle.std.specs.Prelude.{IfOk, codes, drop, length, take}
+use Rattle.std.specs.Prelude.{IfOk, codes, length, take}
 use Rattle.sc_text.specs.declared.fault.Fault.{Fault}
 use Rattle.sc_text.specs.Fault.{error_line, fault_line, fault_text, file_line, file_text}
 use Rattle.command_frame.specs.Said.{IsErrorLine}

@@ -25,9 +25,9 @@ use Rattle.command_frame.specs.Reads.{cut_off}
 use Rattle.command_frame.specs.Said.{IsErrorLine}
 use Rattle.command_frame.specs.Status.{can_refuse, is_end}
 use Rattle.command_frame.specs.Stops.{memory_line}
-use Rattle.command_frame.specs.Whole.{Acts, ActsAnyhow, CarriedOut, CarriedSo, ChildrenRose, CutsText, EndsAnyhow, EndsAs, FileFaulted, FileTold, HasFailed, IsAnswered}
-use Rattle.command_frame.specs.Whole.{IsCut, IsDone, IsMissed, IsTold, LeavesFiles, LinksRose, OnlyWritten, OutFaulted, Paths, PutsNothing, RunsShort, Says, SaysError, StopsAtFile}
-use Rattle.command_frame.specs.Whole.{status_in}
+use Rattle.command_frame.specs.Whole.{Acts, ActsAnyhow, CarriedOut, CarriedSo, ChildrenRose, CutsText, EndsAnyhow, EndsAs, FileFaulted, FileTold, HasFailed}
+use Rattle.command_frame.specs.Whole.{IsAnswered, IsCut, IsDone, IsMissed, IsTold, LeavesFiles, LinksRose, OnlyWritten, OutFaulted, Paths, PutsNothing}
+use Rattle.command_frame.specs.Whole.{RunsShort, Says, SaysError, StopsAtFile, status_in}
 use Rattle.command_frame.proofs.Finishing.{midway_among}
 use Rattle.command_frame.proofs.Said.{any_is_error, fault_is_error, file_is_error}
 use Rattle.command_frame.proofs.Statuses.{breach_ends, clash, never, no_breach, no_end, no_refusal}

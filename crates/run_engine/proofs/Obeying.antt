@@ -26,7 +26,7 @@ use Rattle.program_commands.proofs.Judged.{found_nothing}
 use Rattle.run_engine.specs.Moves.{Moves}
 use Rattle.run_engine.specs.Obeying.{Acted, CommandAnswers, DecidesLoad, DoesLoad, Names, Obeyed, Planned, WordsAnswer}
 use Rattle.run_engine.specs.Told.{Told, outside_of, told_of}
-use Rattle.run_engine.specs.Words.{answer_to, ends_in, ends_of, paths_in, paths_of, question_of, reach_in, reach_of, reads_of, writes_of, written_by}
+use Rattle.run_engine.specs.Words.{answer_to, ends_of, paths_in, paths_of, question_of, reach_in, reach_of, reads_of, writes_of, written_by}
 use Rattle.run_engine.proofs.Loading.{load_end, load_stop}
 use Rattle.run_engine.proofs.Moved.{moves_end, moves_none, moves_stop}
 use Rattle.run_engine.proofs.Runs.{course_answers, ends_by, found_by, found_of_usage, paths_by, reach_by}

@@ -17,7 +17,8 @@ use Rattle.program_commands.specs.Deal.{deal_effect}
 use Rattle.program_commands.specs.Judging.{Finding, FoundAt, HasFinding, Question, nothing}
 use Rattle.program_commands.specs.Held.{HoldsDeal}
 use Rattle.run_engine.specs.Promises.{is_refusal}
-use Rattle.run_engine.specs.Words.{answer_to, answer_of, ends_in, ends_of, paths_in, paths_of, question_of, question_in, reach_in, reach_of, IsAnswer, HasAnswer}
+use Rattle.run_engine.specs.Words.{answer_to, answer_of, ends_in, ends_of, paths_in, paths_of, question_of, question_in, reach_in, reach_of, IsAnswer}
+use Rattle.run_engine.specs.Words.{HasAnswer}
 use Rattle.run_engine.specs.Told.{Outside, Told, told_of}
 use Rattle.program_commands.proofs.Refusals.{status_in_answer}
 use Rattle.program_commands.proofs.Deals.{deal_answer}

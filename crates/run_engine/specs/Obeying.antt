@@ -17,7 +17,8 @@ use Rattle.miner_commands.specs.Load.{load_effect}
 use Rattle.run_engine.specs.Loading.{Loaded}
 use Rattle.run_engine.specs.Moves.{Moves}
 use Rattle.run_engine.specs.Told.{contents_in, outside_of, told_of}
-use Rattle.run_engine.specs.Words.{answer_to, ends_in, ends_of, paths_in, paths_of, question_in, question_of, reach_in, reach_of, writes_of, written_by, IsAnswer}
+use Rattle.run_engine.specs.Words.{answer_to, ends_in, ends_of, paths_in, paths_of, question_in, question_of, reach_in, reach_of, writes_of, written_by}
+use Rattle.run_engine.specs.Words.{IsAnswer}
 
 -- an answer of a command over what is told
 abbrev pub CommandAnswers : Ask → (s s' : Sources) → Course → Type 0
