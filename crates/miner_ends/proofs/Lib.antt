@@ -6,3 +6,4 @@ pub mod Steps
 pub mod Dealing
 pub mod Runs
 pub mod Ends
+pub mod ShareFiles
