@@ -11,15 +11,15 @@ pub returns-in-Ok : goal.returns-in-Ok
 returns-in-Ok c =
     let p = typed_program_tree c.args.program.now in
     let entries = c.args.inputs.now in
-    told_so entries (held_state c.new-held.result) _ refl c.args.tapes c.new-held.ensures (Ok c.in-Ok.ran)
-    (λ t. IsRunOf p entries t load_budget Default (Ok c.in-Ok.ran)) c.in-Ok.ensures c.requires.tapes
+    told_so entries (held_state c.new-held.result) _ refl c.args.tapes c.new-held.ensures (Ok c.in-Ok.ran) (λ t. IsRunOf p entries t load_budget Default (Ok c.in-Ok.ran))
+    c.in-Ok.ensures c.requires.tapes
 
 pub returns-in-Err-Delivery : goal.returns-in-Err-Delivery
 returns-in-Err-Delivery c =
     let p = typed_program_tree c.args.program.now in
     let entries = c.args.inputs.now in
-    told_refused entries (held_state c.new-held.result) _ refl c.args.tapes c.new-held.ensures p load_budget Default
-    (λ t. HasRunOf p entries t load_budget Default) c.in-Err-Delivery.field-0 c.in-Err-Delivery.refusal c.in-Err-Delivery.ensures c.requires.tapes c.in-Err-Delivery.field-0-is
+    told_refused entries (held_state c.new-held.result) _ refl c.args.tapes c.new-held.ensures p load_budget Default (λ t. HasRunOf p entries t load_budget Default)
+    c.in-Err-Delivery.field-0 c.in-Err-Delivery.refusal c.in-Err-Delivery.ensures c.requires.tapes c.in-Err-Delivery.field-0-is
 
 pub unreachable-requires : goal.unreachable-requires
 unreachable-requires c =
