@@ -18,7 +18,7 @@ MINERS = (1, 2, 3)
 FEW, MOST = 4, 16_777_216
 MORE_KB = 4096
 TEXT = """import stdlib; import shared3p; domain p shared3p; void main() {
-p uint64 a = argument("a"); p uint64 b = argument("b"); p uint64 c = a * b; publish("c", declassify(c));
+p uint64 a = argument("a"); p uint64 b = argument("b"); publish("c", declassify(a * b));
 }
 """
 SHARES = {1: (0, 0), 2: (0, 0), 3: (6, 7)}

@@ -68,7 +68,8 @@ for kind, source in (("tape file", tapes), ("seed", seed)):
         failed.append(f"{kind}: another text or another view with the longest tapes")
 
 numbers = "[" + ",".join(str(k * 2862933555777941757 % 2**64) for k in range(SIZE)) + "]"
-entries = ('{"inputs":[{"name":"a","domain":"private","type":"uint64","value":%s},{"name":"n","domain":"public","type":"uint64","value":%d}]}' % (numbers, TIMES))
+entry = '{"name":"%s","domain":"%s","type":"uint64","value":%s}'
+entries = '{"inputs":[%s,%s]}' % (entry % ("a", "private", numbers), entry % ("n", "public", TIMES))
 text, given, words = written(f"{work}/p.sc", PRODUCTS), written(f"{work}/p.json", entries), seed(SIZE * (2 + 3 * TIMES))
 without, _ = run(f"{SIZE * TIMES:,} products", text, given, words)
 seen, _ = run("the same with views", text, given, words, "--views", f"{work}/p")

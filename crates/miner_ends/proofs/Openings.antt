@@ -1,5 +1,6 @@
 -- A step that wants words has opened a value last, and goes on where it is told as many words as this value has.
-use Rattle.std.proofs.Common.{◌≡◌, ℕ, ◌+◌, ◌≤◌, List, [], ◌∷◌, ◌++◌, Bool, true, false, cond, Option, Ok, Err, refl, sym, ◌∙◌, ap, subst, arith, append_assoc}
+use Rattle.std.proofs.Common.{◌≡◌, ℕ, ◌+◌, ◌≤◌, List, [], ◌∷◌, ◌++◌, Bool, true, false, cond, Option, Ok, Err}
+use Rattle.std.proofs.Common.{refl, sym, ◌∙◌, ap, subst, arith, append_assoc}
 use Rattle.std.specs.Prelude.{length, nat_le, take, drop}
 use Rattle.std.proofs.lemmas.Bool.{le-leb}
 use Rattle.std.proofs.lemmas.List.{drop_all}
@@ -156,7 +157,8 @@ module _ (w : World) (source : w.source ≡ Answers) (v : Value) where
       there u t true e = absurd cc
       there u t false e = let same : ◌≡◌ {A = RunStop × Stage} (Short, opened_at u t) (Short, h) = cc in sym (ap (λ z. (z.1).gates) same)
 
-      go : (k : Option ℕ) → v.secrecy ≡ Private k → (r : Run ℕ) → before s ≡ r → KeptAt true s r → carry r behind ≡ Err (Short, h) → OpensLast s h
+      go : (k : Option ℕ) → v.secrecy ≡ Private k → (r : Run ℕ) → before s ≡ r → KeptAt true s r → carry r behind ≡ Err (Short, h)
+          → OpensLast s h
       go k private (Ok x) e kept q =
           record {
             k = k;
@@ -172,7 +174,8 @@ module _ (w : World) (source : w.source ≡ Answers) (v : Value) where
       by Plain e = absurd (never (declassified w v s) ((plain_quiet e).from s) is)
       by (Private k) e = go k e (before s) refl (before_quiet.from s) (sym (parts k e s) ∙ is)
 
-  module _ (d : Dealt) (proper : IsProper v) (kinds : List Kind) (s : Stage) (at : IsAt w d kinds none_of s) (stands : AllStand (run_at w d kinds s) (facts_of v)) where
+  module _ (d : Dealt) (proper : IsProper v) (kinds : List Kind) (s : Stage) (at : IsAt w d kinds none_of s)
+      (stands : AllStand (run_at w d kinds s) (facts_of v)) where
     before_suits : Suits w d (facts_of v) none_of before (drawn_by (words_each (size v))) (λ u. fact u ring v.words ∷ []) (Any {A = ℕ})
     before_suits =
         suits_bind w d (plain_charge w d (facts_of v) (size v)) (λ _ _.

@@ -1,5 +1,6 @@
 -- What gates end with that suit, on a tape that suffices for them, whatever messages come.
-use Rattle.std.proofs.Common.{◌≡◌, ℕ, ◌+◌, ◌-◌, ◌<◌, ◌≤◌, ◌^◌, Bool, true, false, ◌&&◌, nat_le, if◌then◌else◌, List, [], ◌∷◌, ◌++◌, length, take, drop}
+use Rattle.std.proofs.Common.{◌≡◌, ℕ, ◌+◌, ◌-◌, ◌<◌, ◌≤◌, ◌^◌, Bool, true, false, ◌&&◌, nat_le, if◌then◌else◌}
+use Rattle.std.proofs.Common.{List, [], ◌∷◌, ◌++◌, length, take, drop}
 use Rattle.std.proofs.Common.{refl, sym, ◌∙◌, ap, subst, arith, length-drop, length-append}
 use Rattle.std.specs.Prelude.{Option, Some, None, map}
 use Rattle.std.proofs.lemmas.Bool.{le-leb}
@@ -186,7 +187,8 @@ blocks_words ring (m ∷ sizes) i u v words =
     then_do (blocks_strand (open_protocol (ring_of ring)) sizes i (drop m u) (drop 0 v) (drop m words)) (λ later. Ends (joined here later)))
     (λ a b c. (sum_words ring m _ _ _, tt))
     (λ here h.
-    always-then AllWords AllWords (blocks_strand (open_protocol (ring_of ring)) sizes i (drop m u) (drop 0 v) (drop m words)) (λ later. Ends (joined here later))
+    always-then AllWords AllWords (blocks_strand (open_protocol (ring_of ring)) sizes i (drop m u) (drop 0 v) (drop m words))
+    (λ later. Ends (joined here later))
     (blocks_words ring sizes i _ _ _) (λ later k. joined_words here later h k))
 
 nth_last : (values : Values) (m : List ℕ) → nth_value (values ++ m ∷ []) (length values) ≡ m
@@ -222,7 +224,9 @@ module _ (i : Number) (dealt : Values) (ring : RingKind) (u : ℕ) where
       n = size_of (sizes_of values) u
 
       opened : Strand Values
-      opened = blocks_strand (open_protocol (ring_of ring)) (block_sizes n) i (nth_value values u) [] (take ((blocked (open_protocol (ring_of ring))).draws n i) tape)
+      opened =
+          blocks_strand (open_protocol (ring_of ring)) (block_sizes n) i (nth_value values u) []
+          (take ((blocked (open_protocol (ring_of ring))).draws n i) tape)
 
       on : Values → Strand Halted
       on all = Ends (Whole all (drop (own_draws i dealt values (Open ring u)) tape))

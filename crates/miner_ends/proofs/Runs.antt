@@ -1,5 +1,6 @@
 -- Code that may run, by a miner with shares and a tape of the right sizes: whatever messages come, it ends as evaluation can.
-use Rattle.std.proofs.Common.{◌≡◌, ℕ, zero, suc, ◌+◌, ◌≤◌, List, [], ◌∷◌, ◌++◌, length, Ok, Err, Some, None, refl, sym, ◌∙◌, ap, subst, arith, append_assoc}
+use Rattle.std.proofs.Common.{◌≡◌, ℕ, zero, suc, ◌+◌, ◌≤◌, List, [], ◌∷◌, ◌++◌, length, Ok, Err, Some, None}
+use Rattle.std.proofs.Common.{refl, sym, ◌∙◌, ap, subst, arith, append_assoc}
 use Rattle.std.specs.Prelude.{Option, if◌then◌else◌, slice_get}
 use Rattle.std.proofs.lemmas.Bool.{le-leb}
 use Rattle.std.proofs.lemmas.Option.{none-some}
@@ -137,7 +138,8 @@ module _
       new_gates told (Ok x) h = h.grown.gates
       new_gates told (Err e) h = h.grown.gates
 
-      later : (told : List ℕ) (r : Run Machine) (h : ArrivesAt w d (telling_stage told p.stage) at.kinds r) → Went w (telling_stage told p.stage) (stage_of r)
+      later : (told : List ℕ) (r : Run Machine) (h : ArrivesAt w d (telling_stage told p.stage) at.kinds r)
+          → Went w (telling_stage told p.stage) (stage_of r)
           → Later p (new_gates told r h) (stage_of r)
       later told (Ok x) h g = record { kinds = h.later; at = h.stage; gates = h.grown.more_gates; few = g.tapes at.few }
       later told (Err e) h g = record { kinds = h.later; at = h.stage; gates = h.grown.more_gates; few = g.tapes at.few }
@@ -408,7 +410,8 @@ module _
           let last = starts w c forward (beginning budget (at.answers ++ [])) in absurd (none-some last.0 (sym (at.so_far []) ∙ last.1))
       code_ends (suc k) p values tape at = step_ends k (λ q all rest there. code_ends k q all rest there) p values tape at (one p []) refl
 
-      module _ (dealing_is : IsDealing d) (main : Function) (first : slice_get c 0 ≡ Some main) (tape : List ℕ) (long : drawn_by w.lengths (miner_of i) ≤ length tape) where
+      module _ (dealing_is : IsDealing d) (main : Function) (first : slice_get c 0 ≡ Some main) (tape : List ℕ)
+          (long : drawn_by w.lengths (miner_of i) ≤ length tape) where
         nothing_drawn : (j : Number) → drawn_by (words_each 0) (miner_of j) ≡ 0
         nothing_drawn One = refl
         nothing_drawn Two = refl
