@@ -10,8 +10,8 @@ use Rattle.typed_tree.specs.declared.operators.Connective.{Connective}
 use Rattle.typed_tree.specs.Tree.{TypedTree, TypedTrees, word_node, truth_node, slot_node, call_node, size_node, cat_node, sum_node, bits_node}
 use Rattle.typed_tree.specs.Tree.{element_node, not_node, cast_node, binary_node, cut_node, declassify_node}
 use Rattle.typed_tree.specs.Tree as Tree'
-use Rattle.reached_instances.specs.declared.instance.BoundDomain.{BoundDomain}
-use Rattle.reached_instances.specs.Domains.{Setting, domains}
+use Rattle.language_model.specs.BoundDomain.{BoundDomain}
+use Rattle.language_model.specs.Domains.{Setting, domains}
 use Rattle.typed_tree.specs.Shapes.{shape_of}
 use Rattle.language_model.specs.Effects.{Effect}
 use Rattle.language_model.specs.Values.{Value}

@@ -1,8 +1,8 @@
 -- Gates are made alike.
 use Rattle.std.proofs.Common.{ℕ, Bool, true, false, refl}
 use Rattle.std.specs.Prelude.{replicate}
-use Rattle.equality.specs.Plan.{eq_plan}
-use Rattle.language_model.specs.Plan.{less_plan}
+use Rattle.language_model.specs.Equality.{eq_plan}
+use Rattle.language_model.specs.Compare.{less_plan}
 use Rattle.gates.specs.declared.gate.Gate.TheVariants.{Const, Add, Sub, Mul, Xor, And, Rep, Conv}
 use Rattle.typed_tree.specs.declared.operators.WordOperator.{WordOperator}
 use Rattle.typed_tree.specs.declared.operators.WordOperator.TheVariants as word

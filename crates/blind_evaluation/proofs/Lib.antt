@@ -7,3 +7,5 @@ pub mod Inputs
 pub mod Expressions
 pub mod Statements
 pub mod Course
+pub use Rattle.language_model.proofs.Onward
+pub use Rattle.language_model.proofs.Walk

@@ -11,8 +11,8 @@ use Rattle.typed_tree.specs.Statements.{break_statement, continue_statement, ret
 use Rattle.typed_tree.specs.Statements.{fill_statement, input_statement, element_statement, publish_statement, evaluate_statement}
 use Rattle.typed_tree.specs.Statements as Statements'
 use Rattle.typed_tree.specs.Programs.{TypedFunctionTree}
-use Rattle.reached_instances.specs.declared.instance.BoundDomain.{BoundDomain}
-use Rattle.reached_instances.specs.Domains.{domain_under}
+use Rattle.language_model.specs.BoundDomain.{BoundDomain}
+use Rattle.language_model.specs.Domains.{domain_under}
 use Rattle.typed_tree.specs.Shapes.{shape_of}
 use Rattle.language_model.specs.Effects.{Stage, Effect}
 use Rattle.language_model.specs.Values.{Value, size, default_words}

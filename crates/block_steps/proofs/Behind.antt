@@ -97,23 +97,18 @@ mail-added i p n p2 n2 = λ d. λ k. at_link i k d
     at_link Three Link31 = refl
     at_link Three Link32 = refl
 
-abbrev later_of : {A : Type 0} → (next previous : List (List ℕ)) → (opened : List ℕ) → Ran A → Outcome A
-later_of next previous opened later = record { to_next = next; to_previous = previous; opened = opened; left = later.left; unread = later.unread }
-
 -- where this was done, and more comes, what is done is what was and what follows from there
+pub kahn-behind :
+    {A : Type 0} (i : Number) (n p : List (List ℕ)) (o : List ℕ) (s : Strand A) (x y : Mail) (e : Outcome A) → e ≡ outcome i n p o (run s x) →
+    outcome i n p o (run s (added x y)) ≡ outcome i e.to_next e.to_previous e.opened (run e.left (added e.unread y))
+kahn-behind i n p o s x y e h =
+    let ran = run s x in
+    ap (outcome i n p o) (run-added s x y)
+    ∙ outcome-followed i (λ a. Ends a) n p o ran (run ran.left (added ran.unread y))
+    ∙ sym (ap (λ q. outcome i q.to_next q.to_previous q.opened (run q.left (added q.unread y))) h)
+
+-- the same where nothing was done before
 pub kahn-step :
     {A : Type 0} (i : Number) (s : Strand A) (x y : Mail) (e : Outcome A) → e ≡ outcome i [] [] [] (run s x) →
     outcome i [] [] [] (run s (added x y)) ≡ outcome i e.to_next e.to_previous e.opened (run e.left (added e.unread y))
-kahn-step i s x y e h =
-    let ran = run s x in
-    let later = run ran.left (added ran.unread y) in
-    let next = to_next i in
-    let previous = to_previous i in
-    let to_the_next = on_link next ran.acts ++ on_link next later.acts in
-    let to_the_previous = on_link previous ran.acts ++ on_link previous later.acts in
-    ap (outcome i [] [] []) (run-added s x y)
-    ∙ ap (λ v. later_of v (on_link previous (ran.acts ++ later.acts)) (opened_in (ran.acts ++ later.acts)) later)
-    (on_link-append next ran.acts later.acts)
-    ∙ ap (λ v. later_of to_the_next v (opened_in (ran.acts ++ later.acts)) later) (on_link-append previous ran.acts later.acts)
-    ∙ ap (λ v. later_of to_the_next to_the_previous v later) (opened-append ran.acts later.acts)
-    ∙ sym (ap (λ q. outcome i q.to_next q.to_previous q.opened (run q.left (added q.unread y))) h)
+kahn-step i s x y e h = kahn-behind i [] [] [] s x y e h

@@ -1,8 +1,9 @@
 -- Messages that were taken are the first of all that came.
-use Rattle.std.proofs.Common.{◌≡◌, ℕ, zero, suc, ◌+◌, ◌<◌, List, [], ◌∷◌, length, drop, refl, get_or, drop-cons, add-one}
+use Rattle.std.proofs.Common.{◌≡◌, ◌≢◌, ℕ, zero, suc, ◌+◌, ◌<◌, ◌≤◌, List, [], ◌∷◌, length, drop, length-drop, refl, sym, ◌∙◌, ap, get_or}
+use Rattle.std.proofs.Common.{drop-cons, add-one, arith}
 use Rattle.std.specs.List.{slice_get}
 use Rattle.std.proofs.lemmas.List.{drop-append-le, drop_all}
-use Rattle.block_steps.specs.Inboxes.{FrontIs}
+use Rattle.block_steps.specs.Inboxes.{FrontIs, LetsGo}
 
 pub drop-taken : (k : ℕ) (xs : List (List ℕ)) → k < length xs → drop k xs ≡ get_or xs k [] ∷ drop (k + 1) xs
 drop-taken k xs h = rw (add-one, drop-cons xs k []) refl
@@ -14,3 +15,35 @@ front-is zero (x ∷ xs) = refl
 front-is (suc k) (x ∷ xs) = front-is k xs
 
 pub ruleset inbox_steps = (drop-taken, drop_all, drop-append-le, front-is)
+
+-- ---- letting go
+
+module _ {A : Type 0} where
+  some_left : (k : ℕ) (xs : List A) → k ≤ length xs → k ≢ length xs → drop k xs ≢ []
+  some_left k xs within apart none =
+      let counted : length (drop k xs) ≡ 0 = ap length none in
+      let so : k ≡ length xs = omega (arith, within, length-drop k xs, counted) in
+      apart so
+
+  pub lets_go : (k : ℕ) (xs : List A) → k ≡ length xs → LetsGo (xs, drop k xs) ([], [])
+  lets_go k xs all = record { all = λ is. refl; some = λ apart. absurd (apart (drop_all k xs (omega (arith, all)))) }
+
+  pub lets_none_go : (k : ℕ) (xs : List A) → k ≤ length xs → k ≢ length xs → LetsGo (xs, drop k xs) (xs, drop k xs)
+  lets_none_go k xs within apart = record { all = λ is. absurd (some_left k xs within apart is); some = λ is. refl }
+
+  cons_apart : (x : A) (xs : List A) → x ∷ xs ≡ [] → ⊥
+  cons_apart x xs is = cc
+
+  -- the same was not taken
+  pub unread_same : (before after : List A × List A) → LetsGo before after → after.1 ≡ before.1
+  unread_same before after h = by before.1 refl
+    where
+      by : (unread : List A) → before.1 ≡ unread → after.1 ≡ before.1
+      by [] is = ap (λ (b : List A × List A). b.1) (h.all is) ∙ sym is
+      by (x ∷ xs) is = ap (λ (b : List A × List A). b.1) (h.some (λ none. cons_apart x xs (sym is ∙ none)))
+
+  -- and where all was taken, none is held
+  pub holds_none : (before after : List A × List A) → LetsGo before after → after.1 ≡ [] → after ≡ ([], [])
+  holds_none before after h none = h.all (sym (unread_same before after h) ∙ none)
+
+pub ruleset letting_go = (lets_go, lets_none_go, drop_all)

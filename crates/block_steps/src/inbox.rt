@@ -1,6 +1,6 @@
 ghost use Rattle.std.specs.Prelude.{◌≡◌, ◌≤◌, List, [], ◌∷◌, ◌++◌, length, drop, OnOk, OnErr, option_map};
 ghost use Rattle.proto_core.specs.Strand.{rest_of};
-ghost use Rattle.block_steps.specs.Inboxes.{FrontIs};
+ghost use Rattle.block_steps.specs.Inboxes.{FrontIs, LetsGo};
 
 use proto_core::{Messages, Msg};
 use std::alloc::{AllocError, Global};
@@ -71,6 +71,17 @@ impl Inbox {
     {
         if self.taken < self.messages.len() {
             self.taken += 1;
+        }
+    }
+    /// Lets go all messages, if all were taken; else it is as before.
+    #[tactic(auto, using(crate::proofs::Inboxes::letting_go))]
+    pub fn let_go(&mut self, alloc: Global)
+        ensures lets_go { LetsGo self.old self.new }
+        ensures left { self.new.1 ≡ self.old.1 }
+    {
+        if self.taken == self.messages.len() {
+            self.messages = Messages::new(alloc);
+            self.taken = 0;
         }
     }
 }

@@ -1,4 +1,5 @@
 ghost use Rattle.std.specs.Prelude.{◌≡◌, ◌≤◌, List, [], ◌∷◌, ◌++◌, length, OnOk, OnErr};
+ghost use Rattle.block_steps.specs.Inboxes.{LetsGo};
 ghost use Rattle.block_steps.specs.Outcomes.{came_from_previous, came_from_next};
 
 use crate::inbox::Inbox;
@@ -91,5 +92,31 @@ impl Links {
         ensures { result.now ≡ self.now.opened.items }
     {
         &self.opened
+    }
+    /// Lets go the messages that came, of each link on which all were taken.
+    pub fn let_go_taken(&mut self)
+        ensures previous { LetsGo self.old.from_previous self.new.from_previous }
+        ensures next { LetsGo self.old.from_next self.new.from_next }
+        ensures previous_left { self.new.from_previous.1 ≡ self.old.from_previous.1 }
+        ensures next_left { self.new.from_next.1 ≡ self.old.from_next.1 }
+        ensures same { self.new ≡ record self.old { from_previous = self.new.from_previous; from_next = self.new.from_next } }
+    {
+        let alloc = self.alloc();
+        self.from_previous.let_go(alloc);
+        self.from_next.let_go(alloc);
+    }
+
+    /// Lets go the messages that went to the next miner.
+    pub fn let_go_sent_to_next(&mut self)
+        ensures { self.new ≡ record self.old { to_next = [] } }
+    {
+        self.to_next = Messages::new(self.alloc());
+    }
+
+    /// Lets go the messages that went to the previous miner.
+    pub fn let_go_sent_to_previous(&mut self)
+        ensures { self.new ≡ record self.old { to_previous = [] } }
+    {
+        self.to_previous = Messages::new(self.alloc());
     }
 }

@@ -6,7 +6,7 @@ use Rattle.typed_tree.specs.Programs.{TypedProgramTree}
 use Rattle.name_resolution.specs.Functions.{typed_of}
 use Rattle.reached_instances.specs.Instances.{Instance}
 use Rattle.reached_instances.specs.Reached.{IsReachedList}
-use Rattle.program_limits.specs.Limits.{IsWithinLimits}
+use Rattle.reached_instances.specs.Limits.{IsWithinLimits}
 use Rattle.value_file.specs.declared.inputs.Entry.{Entry}
 use Rattle.language_model.specs.Effects.{GivenInput, Clear}
 use Rattle.language_model.specs.Reports.{Offered, world_of, eval}

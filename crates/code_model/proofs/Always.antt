@@ -9,12 +9,12 @@ use Rattle.reached_instances.specs.declared.instance.BoundDomain.{BoundDomain}
 use Rattle.reached_instances.specs.Domains.{Setting}
 use Rattle.sc_text.specs.declared.end.Ending.{Ending}
 use Rattle.sc_text.specs.declared.end.Ending.TheVariants as ending
-use Rattle.language_model.specs.Effects.{World, Stage, Run, Effect, ◌>>=◌, carry, done, end}
-use Rattle.language_model.specs.Values.{Value, size}
-use Rattle.language_model.specs.Operations.{charged, no_traps, tested, wanted, asserted, published, filled, with_element}
-use Rattle.language_model.specs.Evaluation.{Frame, put, Calls, StatementContext, slot_is_private, slot_shape, asked_for, input_named, either, value}
-use Rattle.language_model.specs.Evaluation.{Flow, goes, returns}
-use Rattle.language_model.specs.Evaluation.{stops, skips, then_do, turned, turns, repeats, stored, execute, execute_all}
+use Rattle.blind_evaluation.specs.Effects.{World, Stage, Run, Effect, ◌>>=◌, carry, done, end}
+use Rattle.blind_evaluation.specs.Values.{Value, size}
+use Rattle.blind_evaluation.specs.Operations.{charged, no_traps, tested, wanted, asserted, published, filled, with_element}
+use Rattle.blind_evaluation.specs.Evaluation.{Frame, put, Calls, StatementContext, slot_is_private, slot_shape, asked_for, input_named, either, value}
+use Rattle.blind_evaluation.specs.Evaluation.{Flow, goes, returns}
+use Rattle.blind_evaluation.specs.Evaluation.{stops, skips, then_do, turned, turns, repeats, stored, execute, execute_all}
 use Rattle.code_model.specs.Fit.{IsFitStatement, AreFitStatements, always_returns, one_returns}
 
 -- where a statement leads, inside of a loop or not, that always returns or not

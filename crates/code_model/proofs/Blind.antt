@@ -2,8 +2,8 @@
 use Rattle.std.proofs.Common.{ℕ, List, [], ◌++◌, sym, subst}
 use Rattle.typed_tree.specs.Programs.{TypedProgramTree}
 use Rattle.reached_instances.specs.Instances.{Instance}
-use Rattle.language_model.specs.Effects.{Clear, Answers}
-use Rattle.language_model.specs.Reports.{Offered, world_of, public_part, eval}
+use Rattle.blind_evaluation.specs.Effects.{Clear, Answers}
+use Rattle.blind_evaluation.specs.Reports.{Offered, world_of, public_part, eval}
 use Rattle.blind_evaluation.specs.Courses.{TakeSameCourse, IsEnded}
 use Rattle.blind_evaluation.proofs.Course.{same_course, never_short}
 use Rattle.code_model.specs.Meaning.{blind_mean}

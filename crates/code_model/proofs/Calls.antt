@@ -10,11 +10,11 @@ use Rattle.typed_tree.specs.declared.function.Returned.TheVariants as given
 use Rattle.typed_tree.specs.Programs.{TypedFunctionTree}
 use Rattle.reached_instances.specs.declared.instance.BoundDomain.{BoundDomain}
 use Rattle.reached_instances.specs.Domains.{given_domain}
-use Rattle.language_model.specs.Effects.{World, Stage, Run, Effect, ◌>>=◌, carry, done, end, charge, test}
-use Rattle.language_model.specs.Values.{Value}
-use Rattle.language_model.specs.Evaluation.{Calls, StatementContext, is_private, nothing, slots_of, array_elements, Flow, goes, returns, stops, skips}
-use Rattle.language_model.specs.Evaluation.{execute_all, entered, result_of, place_in, body_of, call_at}
-use Rattle.language_model.proofs.Onward.{onward_charge}
+use Rattle.blind_evaluation.specs.Effects.{World, Stage, Run, Effect, ◌>>=◌, carry, done, end, charge, test}
+use Rattle.blind_evaluation.specs.Values.{Value}
+use Rattle.blind_evaluation.specs.Evaluation.{Calls, StatementContext, is_private, nothing, slots_of, array_elements, Flow, goes, returns, stops, skips}
+use Rattle.blind_evaluation.specs.Evaluation.{execute_all, entered, result_of, place_in, body_of, call_at}
+use Rattle.blind_evaluation.proofs.Onward.{onward_charge}
 use Rattle.verified_code.specs.Steps.{Step, Function}
 use Rattle.code_model.specs.Machine.{Caller, Machine, step, received, caller_of, entering, limit, resume, values_at}
 use Rattle.code_model.specs.Expressions.{Numbers}

@@ -9,11 +9,11 @@ use Rattle.typed_tree.specs.declared.operators.Connective.{Connective}
 use Rattle.typed_tree.specs.declared.operators.Connective.TheVariants.{AndAlso, OrElse}
 use Rattle.typed_tree.specs.Tree.{TypedTree, cut_node}
 use Rattle.reached_instances.specs.Domains.{Setting, domain}
-use Rattle.language_model.specs.Effects.{World, Effect, ◌>>=◌, carry, done}
-use Rattle.language_model.specs.Values.{Value}
-use Rattle.language_model.specs.Words.{truth_word}
-use Rattle.language_model.specs.Operations.{classified, wanted}
-use Rattle.language_model.specs.Evaluation.{Frame, Calls, gives_private, connective, decides, truth_value, either, cut_short, not_cut_short, value}
+use Rattle.blind_evaluation.specs.Effects.{World, Effect, ◌>>=◌, carry, done}
+use Rattle.blind_evaluation.specs.Values.{Value}
+use Rattle.blind_evaluation.specs.Words.{truth_word}
+use Rattle.blind_evaluation.specs.Operations.{classified, wanted}
+use Rattle.blind_evaluation.specs.Evaluation.{Frame, Calls, gives_private, connective, decides, truth_value, either, cut_short, not_cut_short, value}
 use Rattle.verified_code.specs.Steps.{Step, Literal, Move, Classify, Branch, Jump, Function}
 use Rattle.code_model.specs.Machine.{Machine, at, next, step, same_bool}
 use Rattle.code_model.specs.Kinds.{kind_in, truth_kind, in_row}

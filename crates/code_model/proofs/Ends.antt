@@ -6,11 +6,11 @@ use Rattle.std.proofs.lemmas.Bool.{cases_lt, leb-true}
 use Rattle.std.proofs.lemmas.Option.{slice_get_past, none-some}
 use Rattle.sc_text.specs.declared.end.Ending.TheVariants as ending
 use Rattle.sc_text.specs.declared.end.TrapKind.TheVariants as trap
-use Rattle.language_model.specs.Effects.{World, Stage, RunStop, Ended, Run, Effect, ◌>>=◌, carry, done, charge, test}
-use Rattle.language_model.specs.Values.{Value, size}
-use Rattle.language_model.specs.Operations as row
-use Rattle.language_model.specs.Evaluation.{nothing, array_elements, either, asked_for, input_named}
-use Rattle.language_model.proofs.Onward.{onward_charge}
+use Rattle.blind_evaluation.specs.Effects.{World, Stage, RunStop, Ended, Run, Effect, ◌>>=◌, carry, done, charge, test}
+use Rattle.blind_evaluation.specs.Values.{Value, size}
+use Rattle.blind_evaluation.specs.Operations as row
+use Rattle.blind_evaluation.specs.Evaluation.{nothing, array_elements, either, asked_for, input_named}
+use Rattle.blind_evaluation.proofs.Onward.{onward_charge}
 use Rattle.verified_code.specs.Steps.{kind_shape, Step, Literal, Move, Store, Binary, Not, Cast, Classify, Fill, At, Put, Size, Cat, Sum, Bits, Declassify}
 use Rattle.verified_code.specs.Steps.{Argument, Publish, Assert, Branch, Jump, Call, Return, ReturnNone, Function}
 use Rattle.code_model.specs.Machine.{Caller, Machine, at, next, values_at, steps_of, entering, limit, resume, same_bool, step, further, exec, start}

@@ -10,8 +10,8 @@ use Rattle.typed_tree.specs.declared.kinds.Slot.{Slot}
 use Rattle.typed_tree.specs.Programs.{TypedFunctionTree}
 use Rattle.reached_instances.specs.declared.instance.BoundDomain.{BoundDomain}
 use Rattle.reached_instances.specs.Domains.{domain_under, slot_domain}
-use Rattle.language_model.specs.Values.{Value, never_stored}
-use Rattle.language_model.specs.Evaluation.{Frame, is_private, begins, entered, place_in}
+use Rattle.blind_evaluation.specs.Values.{Value, never_stored}
+use Rattle.blind_evaluation.specs.Evaluation.{Frame, is_private, begins, entered, place_in}
 use Rattle.bytecode.specs.declared.kind.Kind.{Kind}
 use Rattle.code_model.specs.Machine.{begun, filled_with}
 use Rattle.code_model.specs.Kinds.{slot_kind, rows_kinds}

@@ -12,12 +12,12 @@ use Rattle.typed_tree.specs.Tree as Tree'
 use Rattle.typed_tree.specs.Programs.{TypedFunctionTree}
 use Rattle.reached_instances.specs.declared.instance.BoundDomain.{BoundDomain}
 use Rattle.reached_instances.specs.Domains.{Setting, domains, given_domain, call_domain}
-use Rattle.language_model.specs.Effects.{World, Effect, carry, done}
-use Rattle.language_model.specs.Values.{Value}
-use Rattle.language_model.specs.Words.{truth_word}
-use Rattle.language_model.specs.Operations as row
-use Rattle.language_model.specs.Evaluation.{Frame, Calls, is_private, gives_private, slots_of, bound_at, next_is_private}
-use Rattle.language_model.specs.Evaluation.{truth_value, value, arguments}
+use Rattle.blind_evaluation.specs.Effects.{World, Effect, carry, done}
+use Rattle.blind_evaluation.specs.Values.{Value}
+use Rattle.blind_evaluation.specs.Words.{truth_word}
+use Rattle.blind_evaluation.specs.Operations as row
+use Rattle.blind_evaluation.specs.Evaluation.{Frame, Calls, is_private, gives_private, slots_of, bound_at, next_is_private}
+use Rattle.blind_evaluation.specs.Evaluation.{truth_value, value, arguments}
 use Rattle.verified_code.specs.Steps.{Literal, Not, Cast, Size, Sum, Bits, Declassify, Call, Function}
 use Rattle.code_model.specs.Machine.{Machine, next, received, values_at, limit}
 use Rattle.bytecode.specs.declared.kind.Kind.{Kind}

@@ -1,7 +1,7 @@
 -- A machine that follows an effect: it comes to the same stage, or ends as the effect does.
 use Rattle.std.proofs.Common.{◌≡◌, ℕ, suc, ◌≤◌, List, Some, Ok, Err, refl, ap, ◌∙◌, arith}
 use Rattle.std.specs.Prelude.{slice_get}
-use Rattle.language_model.specs.Effects.{World, Stage, Run, Effect, ◌>>=◌, carry, done}
+use Rattle.blind_evaluation.specs.Effects.{World, Stage, Run, Effect, ◌>>=◌, carry, done}
 use Rattle.verified_code.specs.Steps.{Step, Function}
 use Rattle.code_model.specs.Machine.{Machine, step, further, exec}
 use Rattle.code_model.proofs.Gives.{GivesAt, Gives}

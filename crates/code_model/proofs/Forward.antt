@@ -23,10 +23,10 @@ use Rattle.typed_tree.specs.Programs.{TypedFunctionTree, TypedProgramTree}
 use Rattle.reached_instances.specs.declared.instance.BoundDomain.{BoundDomain}
 use Rattle.reached_instances.specs.Domains.{Setting, domains}
 use Rattle.reached_instances.specs.Instances.{Instance}
-use Rattle.language_model.specs.Words.{truth_word}
-use Rattle.language_model.specs.Evaluation.{StatementContext, gives_private, slot_is_private, slot_shape, slots_of, bound_at, next_is_private}
-use Rattle.language_model.specs.Evaluation.{behind_next, connective}
-use Rattle.language_model.specs.Evaluation.{either, place_in}
+use Rattle.blind_evaluation.specs.Words.{truth_word}
+use Rattle.blind_evaluation.specs.Evaluation.{StatementContext, gives_private, slot_is_private, slot_shape, slots_of, bound_at, next_is_private}
+use Rattle.blind_evaluation.specs.Evaluation.{behind_next, connective}
+use Rattle.blind_evaluation.specs.Evaluation.{either, place_in}
 use Rattle.verified_code.specs.Steps.{Step, Literal, Move, Store, Fill, Put, Return, Branch, Jump, Function}
 use Rattle.code_model.specs.Expressions.{Numbers, classifying, lacks, mixes, binary_code, cat_code, element_code, deciding, settling, cut_code}
 use Rattle.code_model.specs.Expressions.{classified_at, stands_at, next_row, expression_code, arguments_code, unread_code}

@@ -11,24 +11,24 @@ use Rattle.typed_tree.specs.declared.operators.BinaryOperator.{BinaryOperator}
 use Rattle.typed_tree.specs.declared.operators.Operands.{Operands}
 use Rattle.typed_tree.specs.declared.operators.Cast.{Cast}
 use Rattle.typed_tree.specs.declared.operators.Cast.TheVariants.{WordToWord, WordToBool, BoolToWord, BoolToBool}
-use Rattle.blind_evaluation.specs.Plan.{bits_plan}
+use Rattle.blind_evaluation.specs.BitExtract.{bits_plan}
 use Rattle.gates.specs.declared.gate.Gate.TheVariants.{Spread}
 use Rattle.gates.specs.Clear.{bits_of}
 use Rattle.std.specs.List.{flat_map}
 use Rattle.typed_tree.specs.Shapes.{shape_of}
 use Rattle.secrec_ast.specs.declared.expression.DataType.TheVariants as datatype
-use Rattle.language_model.specs.Effects.{World, GivenInput, Stage, Run, Effect, ◌>>=◌, carry, done, end, test}
-use Rattle.language_model.specs.Values.{Secrecy, Plain, Private, Value, plain, is_secret, size, visible_words, elements_of}
-use Rattle.language_model.specs.Words as W
-use Rattle.language_model.specs.Operations.{charged, no_traps, operator_traps, result_shape, is_scalar_left}
-use Rattle.language_model.specs.Operations.{is_scalar_right, words_of_operator, classified_from, classified, made_private, wanted, opened_from, revealed}
-use Rattle.language_model.specs.Operations.{read_answer, declassified, private_result, product_with, combined_from, operated, negated_from, negated}
-use Rattle.language_model.specs.Operations.{size_told, element_from, element_of_array, position, words_for_bits, changed, cast_from, cast_to, summed_from}
-use Rattle.language_model.specs.Operations.{summed, not_too_large, bits_from, bits_extracted, concatenated_from, concatenated, with_element_from, with_element}
-use Rattle.language_model.specs.Operations.{filled_from, filled, tested, published, asserted}
-use Rattle.language_model.specs.Evaluation.{given_value, asked_for, is_as_declared}
-use Rattle.language_model.proofs.Walk as walk
-use Rattle.language_model.proofs.Onward.{Onward, Went, stage_of, is_onward, onward_law, onward_draw, onward_gate, onward_charge, onward_emit, onward_show}
+use Rattle.blind_evaluation.specs.Effects.{World, GivenInput, Stage, Run, Effect, ◌>>=◌, carry, done, end, test}
+use Rattle.blind_evaluation.specs.Values.{Secrecy, Plain, Private, Value, plain, is_secret, size, visible_words, elements_of}
+use Rattle.blind_evaluation.specs.Words as W
+use Rattle.blind_evaluation.specs.Operations.{charged, no_traps, operator_traps, result_shape, is_scalar_left}
+use Rattle.blind_evaluation.specs.Operations.{is_scalar_right, words_of_operator, classified_from, classified, made_private, wanted, opened_from, revealed}
+use Rattle.blind_evaluation.specs.Operations.{read_answer, declassified, private_result, product_with, combined_from, operated, negated_from, negated}
+use Rattle.blind_evaluation.specs.Operations.{size_told, element_from, element_of_array, position, words_for_bits, changed, cast_from, cast_to, summed_from}
+use Rattle.blind_evaluation.specs.Operations.{summed, not_too_large, bits_from, bits_extracted, concatenated_from, concatenated, with_element_from, with_element}
+use Rattle.blind_evaluation.specs.Operations.{filled_from, filled, tested, published, asserted}
+use Rattle.blind_evaluation.specs.Evaluation.{given_value, asked_for, is_as_declared}
+use Rattle.blind_evaluation.proofs.Walk as walk
+use Rattle.blind_evaluation.proofs.Onward.{Onward, Went, stage_of, is_onward, onward_law, onward_draw, onward_gate, onward_charge, onward_emit, onward_show}
 
 abbrev pub GivesAt : {A : Type 0} → Stage → Run A → (A → Type 0) → Type 0
 GivesAt s (Ok x) Q = (x.1.left ≤ s.left) × Q x.0

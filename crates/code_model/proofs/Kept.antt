@@ -1,7 +1,7 @@
 -- Machines stay within code whose steps fit.
 use Rattle.std.proofs.Common.{List, Ok, Err}
 use Rattle.std.specs.Prelude.{slice_get}
-use Rattle.language_model.specs.Effects.{World, Run}
+use Rattle.blind_evaluation.specs.Effects.{World, Run}
 use Rattle.verified_code.specs.Steps.{Function}
 use Rattle.code_model.specs.Machine.{Machine, step}
 use Rattle.code_model.specs.Kinded.{IsWithin}

@@ -9,10 +9,10 @@ use Rattle.typed_tree.specs.declared.operators.Operands.{Operands}
 use Rattle.typed_tree.specs.declared.operators.Cast as casts
 use Rattle.typed_tree.specs.declared.operators.Cast.TheVariants.{WordToWord, WordToBool, BoolToWord, BoolToBool}
 use Rattle.typed_tree.specs.Shapes.{shape_of}
-use Rattle.language_model.specs.Effects.{World}
-use Rattle.language_model.specs.Values.{Value, is_secret}
-use Rattle.language_model.specs.Operations as row
-use Rattle.language_model.specs.Evaluation.{input_named, asked_for}
+use Rattle.blind_evaluation.specs.Effects.{World}
+use Rattle.blind_evaluation.specs.Values.{Value, is_secret}
+use Rattle.blind_evaluation.specs.Operations as row
+use Rattle.blind_evaluation.specs.Evaluation.{input_named, asked_for}
 use Rattle.bytecode.specs.declared.kind.Kind.{Kind}
 use Rattle.verified_code.specs.Steps.{kind_shape}
 use Rattle.code_model.specs.Kinds.{kind_of}

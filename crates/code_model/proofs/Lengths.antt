@@ -17,8 +17,8 @@ use Rattle.typed_tree.specs.Statements.{fill_statement, input_statement, element
 use Rattle.typed_tree.specs.Statements as Statements'
 use Rattle.reached_instances.specs.declared.instance.BoundDomain.{BoundDomain}
 use Rattle.reached_instances.specs.Domains.{Setting, domains}
-use Rattle.language_model.specs.Words.{truth_word}
-use Rattle.language_model.specs.Evaluation.{StatementContext, gives_private, slots_of, bound_at, next_is_private, behind_next, connective, either}
+use Rattle.blind_evaluation.specs.Words.{truth_word}
+use Rattle.blind_evaluation.specs.Evaluation.{StatementContext, gives_private, slots_of, bound_at, next_is_private, behind_next, connective, either}
 use Rattle.verified_code.specs.Steps.{Step, Literal, Move, Branch, Jump}
 use Rattle.code_model.specs.Expressions.{Numbers, classifying, lacks, mixes, binary_code, cat_code, element_code, deciding, settling, cut_code}
 use Rattle.code_model.specs.Expressions.{classified_at, stands_at, next_row, expression_code, arguments_code, unread_code}

@@ -4,11 +4,11 @@ use Rattle.std.specs.Prelude.{slice_get, nat_le}
 use Rattle.std.proofs.lemmas.Bool.{leb-true}
 use Rattle.sc_text.specs.declared.end.Ending.TheVariants as ending
 use Rattle.typed_tree.specs.Tree.{TypedTree}
-use Rattle.language_model.specs.Effects.{World, Stage, Ended, Effect, ◌>>=◌, carry, done}
-use Rattle.language_model.specs.Values.{Value, is_true}
-use Rattle.language_model.specs.Operations.{tested}
-use Rattle.language_model.specs.Evaluation.{Frame, Calls, StatementContext, gives_private, either, value, Flow, goes, returns, stops, skips, turned}
-use Rattle.language_model.specs.Evaluation.{turns, repeats}
+use Rattle.blind_evaluation.specs.Effects.{World, Stage, Ended, Effect, ◌>>=◌, carry, done}
+use Rattle.blind_evaluation.specs.Values.{Value, is_true}
+use Rattle.blind_evaluation.specs.Operations.{tested}
+use Rattle.blind_evaluation.specs.Evaluation.{Frame, Calls, StatementContext, gives_private, either, value, Flow, goes, returns, stops, skips, turned}
+use Rattle.blind_evaluation.specs.Evaluation.{turns, repeats}
 use Rattle.verified_code.specs.Steps.{Step, Branch, Function}
 use Rattle.code_model.specs.Machine.{Caller, Machine, limit, same_bool}
 use Rattle.code_model.specs.Expressions.{Numbers, stands_at}

@@ -1,7 +1,7 @@
 -- What is known of the value that an effect makes, whatever it does before.
 use Rattle.std.proofs.Common.{Ok, Err}
 use Rattle.sc_text.specs.declared.end.Ending.{Ending}
-use Rattle.language_model.specs.Effects.{Stage, Run, Effect, ◌>>=◌, carry, done, end}
+use Rattle.blind_evaluation.specs.Effects.{Stage, Run, Effect, ◌>>=◌, carry, done, end}
 use Rattle.code_model.proofs.Gives.{GivesAt, Gives}
 
 abbrev pub MakesAt : {A : Type 0} → Run A → (A → Type 0) → Type 0

@@ -9,10 +9,10 @@ use Rattle.reached_instances.specs.declared.instance.BoundDomain.{BoundDomain}
 use Rattle.reached_instances.specs.Domains.{given_domain}
 use Rattle.reached_instances.specs.Instances.{Instance, same_instance}
 use Rattle.reached_instances.proofs.Listing.{same_instance-Decides}
-use Rattle.language_model.specs.Effects.{World, Stage, RunStop, Ended, Run}
-use Rattle.language_model.specs.Values.{Value}
-use Rattle.language_model.specs.Evaluation.{is_private, body_of, call_at}
-use Rattle.language_model.specs.Reports.{dealing, not_dealt, beginning, report_of, evaluated}
+use Rattle.blind_evaluation.specs.Effects.{World, Stage, RunStop, Ended, Run}
+use Rattle.blind_evaluation.specs.Values.{Value}
+use Rattle.blind_evaluation.specs.Evaluation.{is_private, body_of, call_at}
+use Rattle.blind_evaluation.specs.Reports.{dealing, not_dealt, beginning, report_of, evaluated}
 use Rattle.verified_code.specs.Steps.{Function}
 use Rattle.code_model.specs.Machine.{Machine, further, exec, resume, limit, begin_at, start}
 use Rattle.code_model.specs.Meaning.{fuel, report_at, stopped_or, mean_in}

@@ -7,10 +7,10 @@ use Rattle.typed_tree.specs.declared.kinds.Slot.{Slot}
 use Rattle.secrec_ast.specs.declared.expression.DataType.TheVariants.{Uint64}
 use Rattle.secrec_ast.specs.declared.expression.DataType.TheVariants as datatype
 use Rattle.reached_instances.specs.Domains.{Setting}
-use Rattle.language_model.specs.Effects.{World, carry, done}
-use Rattle.language_model.specs.Values.{Value, is_secret, never_stored}
-use Rattle.language_model.specs.Operations.{classified, wanted, tested}
-use Rattle.language_model.specs.Evaluation.{Frame, slot_is_private, either}
+use Rattle.blind_evaluation.specs.Effects.{World, carry, done}
+use Rattle.blind_evaluation.specs.Values.{Value, is_secret, never_stored}
+use Rattle.blind_evaluation.specs.Operations.{classified, wanted, tested}
+use Rattle.blind_evaluation.specs.Evaluation.{Frame, slot_is_private, either}
 use Rattle.bytecode.specs.declared.kind.Kind.{Kind}
 use Rattle.verified_code.specs.Steps.{Step, Classify, Branch, Function}
 use Rattle.code_model.specs.Machine.{Machine, at, next, limit, same_bool}

@@ -8,11 +8,11 @@ use Rattle.typed_tree.specs.Tree.{TypedTree, cat_node, element_node}
 use Rattle.reached_instances.specs.declared.instance.BoundDomain.{BoundDomain}
 use Rattle.reached_instances.specs.declared.instance.BoundDomain.TheVariants as bound
 use Rattle.reached_instances.specs.Domains.{Setting, domain, joined_domain}
-use Rattle.language_model.specs.Effects.{World, Stage, Effect, ◌>>=◌, carry, done}
-use Rattle.language_model.specs.Values.{Value, is_secret}
-use Rattle.language_model.specs.Operations as row
-use Rattle.language_model.specs.Operations.{wanted, is_product, is_classified, operated, operation}
-use Rattle.language_model.specs.Evaluation.{Frame, Calls, is_private, gives_private, value}
+use Rattle.blind_evaluation.specs.Effects.{World, Stage, Effect, ◌>>=◌, carry, done}
+use Rattle.blind_evaluation.specs.Values.{Value, is_secret}
+use Rattle.blind_evaluation.specs.Operations as row
+use Rattle.blind_evaluation.specs.Operations.{wanted, is_product, is_classified, operated, operation}
+use Rattle.blind_evaluation.specs.Evaluation.{Frame, Calls, is_private, gives_private, value}
 use Rattle.verified_code.specs.Steps.{Step, Function, Binary, Cat, At}
 use Rattle.code_model.specs.Machine.{Machine, next, step}
 use Rattle.bytecode.specs.declared.kind.Kind.{Kind}

@@ -5,8 +5,8 @@ use Rattle.std.specs.Prelude.{slice_get, nat_eq}
 use Rattle.std.proofs.Math.Seq.{get_or-append_seam}
 use Rattle.std.proofs.lemmas.Bool.{eqb-true, eqb-false}
 use Rattle.std.proofs.lemmas.Option.{slice_get-get_or}
-use Rattle.language_model.specs.Values.{Value}
-use Rattle.language_model.specs.Evaluation.{Frame, put}
+use Rattle.blind_evaluation.specs.Values.{Value}
+use Rattle.blind_evaluation.specs.Evaluation.{Frame, put}
 use Rattle.verified_code.specs.Steps.{Step}
 use Rattle.code_model.specs.Machine.{received}
 

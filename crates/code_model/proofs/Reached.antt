@@ -19,7 +19,7 @@ use Rattle.reached_instances.specs.Instances.{Instance}
 use Rattle.reached_instances.specs.Calls.{called, calls, calls_of_all, typed_statement_calls, typed_statements_calls, function_calls, called_by, main_of}
 use Rattle.reached_instances.specs.Reached.{follows, IsReachedList}
 use Rattle.reached_instances.proofs.ReachedLists.{has_each_reached, begins_with_main}
-use Rattle.language_model.specs.Evaluation.{StatementContext, place_in, bound_at, slots_of}
+use Rattle.blind_evaluation.specs.Evaluation.{StatementContext, place_in, bound_at, slots_of}
 use Rattle.code_model.specs.Fit.{IsFit, AreFit, FitsSlot, IsFitStatement, AreFitStatements, IsThere, IsKnownIn, IsFitInstance, IsFitAlone}
 use Rattle.code_model.specs.Fit.{IsFitProgram, the_main}
 

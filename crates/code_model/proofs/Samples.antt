@@ -16,8 +16,8 @@ use Rattle.typed_tree.specs.Statements.{TypedStatementTree, TypedStatementTrees,
 use Rattle.typed_tree.specs.Programs.{TypedFunctionTree, TypedProgramTree}
 use Rattle.reached_instances.specs.Instances.{Instance}
 use Rattle.sc_text.specs.Lists.{Among}
-use Rattle.language_model.specs.Effects.{World}
-use Rattle.language_model.specs.Reports.{evaluated}
+use Rattle.blind_evaluation.specs.Effects.{World}
+use Rattle.blind_evaluation.specs.Reports.{evaluated}
 use Rattle.verified_code.specs.Steps.{Literal, Binary, Store, ReturnNone}
 use Rattle.code_model.specs.Kinds.{kind_of, rows_kinds}
 use Rattle.code_model.specs.Expressions.{Numbers}

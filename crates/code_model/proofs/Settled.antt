@@ -11,7 +11,7 @@ use Rattle.secrec_ast.specs.declared.expression.DataType.TheVariants.{Uint64}
 use Rattle.secrec_ast.specs.declared.expression.DataType.TheVariants as datatype
 use Rattle.typed_tree.specs.Operators.{element_made, operands_of, cast_between}
 use Rattle.typed_tree.specs.declared.operators.BinaryOperator.{BinaryOperator}
-use Rattle.language_model.specs.Operations.{result_shape}
+use Rattle.blind_evaluation.specs.Operations.{result_shape}
 use Rattle.bytecode.specs.declared.kind.Kind.{Kind}
 use Rattle.bytecode.specs.Raw.{Raw, RawFunction, RawCode}
 use Rattle.bytecode.specs.Raw as raw

@@ -15,7 +15,7 @@ use Rattle.sc_text.specs.declared.end.TrapKind.TheVariants as trap
 use Rattle.sc_text.specs.declared.event.Event.TheVariants as event
 use Rattle.gates.specs.declared.gate.Gate.TheVariants as gates
 use Rattle.gates.specs.Clear.{each_two, first_word, bits_of}
-use Rattle.blind_evaluation.specs.Plan.{bits_plan}
+use Rattle.blind_evaluation.specs.BitExtract.{bits_plan}
 use Rattle.typed_tree.specs.declared.kinds.Shape.{Shape}
 use Rattle.typed_tree.specs.declared.operators.BinaryOperator.{BinaryOperator}
 use Rattle.typed_tree.specs.declared.operators.Operands.{Operands}
@@ -23,12 +23,12 @@ use Rattle.typed_tree.specs.declared.operators.Operands.TheVariants.{Scalars, Ar
 use Rattle.typed_tree.specs.declared.operators.Cast as casts
 use Rattle.typed_tree.specs.declared.operators.Cast.TheVariants.{WordToWord, WordToBool, BoolToWord, BoolToBool}
 use Rattle.typed_tree.specs.Shapes.{shape_of}
-use Rattle.language_model.specs.Effects.{World, GivenInput, Source, Clear, Answers, Stage, Short, done, test, charge, draw, gate}
-use Rattle.language_model.specs.Effects.{planned, show, emit, words_each, answer}
-use Rattle.language_model.specs.Values.{Secrecy, Plain, Private, Value, plain, size, elements_of, ring_for}
-use Rattle.language_model.specs.Words as W
-use Rattle.language_model.specs.Operations as row
-use Rattle.language_model.specs.Evaluation.{same_type, same_truth, same_shape, is_as_declared, behind, input_from, given_value, asked_for}
+use Rattle.blind_evaluation.specs.Effects.{World, GivenInput, Source, Clear, Answers, Stage, Short, done, test, charge, draw, gate}
+use Rattle.blind_evaluation.specs.Effects.{planned, show, emit, words_each, answer}
+use Rattle.blind_evaluation.specs.Values.{Secrecy, Plain, Private, Value, plain, size, elements_of, ring_for}
+use Rattle.blind_evaluation.specs.Words as W
+use Rattle.blind_evaluation.specs.Operations as row
+use Rattle.blind_evaluation.specs.Evaluation.{same_type, same_truth, same_shape, is_as_declared, behind, input_from, given_value, asked_for}
 use Rattle.code_model.specs.Kinded.{IsSingle, cast_source, left_array, right_array}
 use Rattle.code_model.proofs.Makes.{MakesAt, Makes, makes_done, makes_end, makes_bind, makes_fact, makes_after}
 

@@ -4,11 +4,11 @@ use Rattle.std.proofs.Common.{length-append}
 use Rattle.std.specs.Prelude.{slice_get}
 use Rattle.typed_tree.specs.Tree.{TypedTree}
 use Rattle.reached_instances.specs.Domains.{Setting}
-use Rattle.language_model.specs.Effects.{World, Stage, Effect, ◌>>=◌, carry, done}
-use Rattle.language_model.specs.Values.{Value}
-use Rattle.language_model.specs.Operations.{wanted}
-use Rattle.language_model.specs.Evaluation.{Frame, put, Calls, StatementContext, gives_private, slot_is_private, value, Flow, goes, returns, stops}
-use Rattle.language_model.specs.Evaluation.{skips, then_do}
+use Rattle.blind_evaluation.specs.Effects.{World, Stage, Effect, ◌>>=◌, carry, done}
+use Rattle.blind_evaluation.specs.Values.{Value}
+use Rattle.blind_evaluation.specs.Operations.{wanted}
+use Rattle.blind_evaluation.specs.Evaluation.{Frame, put, Calls, StatementContext, gives_private, slot_is_private, value, Flow, goes, returns, stops}
+use Rattle.blind_evaluation.specs.Evaluation.{skips, then_do}
 use Rattle.verified_code.specs.Steps.{Step, Jump, Function}
 use Rattle.code_model.specs.Machine.{Caller, Machine, at, next, step, resume, limit}
 use Rattle.code_model.specs.Expressions.{Numbers, classifying, picked, lacks, stands_at, expression_code}

@@ -13,13 +13,13 @@ use Rattle.typed_tree.specs.Statements as Statements'
 use Rattle.typed_tree.specs.Programs.{TypedFunctionTree}
 use Rattle.reached_instances.specs.declared.instance.BoundDomain.{BoundDomain}
 use Rattle.reached_instances.specs.Domains.{domains}
-use Rattle.language_model.specs.Effects.{World, Stage, Effect, ◌>>=◌, carry, done}
-use Rattle.language_model.specs.Values.{Value, plain, size, default_words}
-use Rattle.language_model.specs.Operations as row
-use Rattle.language_model.specs.Operations.{charged, no_traps, wanted, tested}
-use Rattle.language_model.specs.Evaluation.{Frame, put, Calls, StatementContext, gives_private, slot_is_private, slot_shape, slots_of, bound_at}
-use Rattle.language_model.specs.Evaluation.{asked_for, input_named}
-use Rattle.language_model.specs.Evaluation.{either, value, Flow, goes, stops, skips, stored, execute, execute_all}
+use Rattle.blind_evaluation.specs.Effects.{World, Stage, Effect, ◌>>=◌, carry, done}
+use Rattle.blind_evaluation.specs.Values.{Value, plain, size, default_words}
+use Rattle.blind_evaluation.specs.Operations as row
+use Rattle.blind_evaluation.specs.Operations.{charged, no_traps, wanted, tested}
+use Rattle.blind_evaluation.specs.Evaluation.{Frame, put, Calls, StatementContext, gives_private, slot_is_private, slot_shape, slots_of, bound_at}
+use Rattle.blind_evaluation.specs.Evaluation.{asked_for, input_named}
+use Rattle.blind_evaluation.specs.Evaluation.{either, value, Flow, goes, stops, skips, stored, execute, execute_all}
 use Rattle.verified_code.specs.Steps.{Step, Store, Fill, Put, Argument, Publish, Assert, Branch, Jump, Call, Return, Function}
 use Rattle.code_model.specs.Machine.{Caller, Machine, at, next, step, resume, received, limit, same_bool}
 use Rattle.code_model.specs.Kinds.{kind_of, kind_in, private_kind_in, in_row}

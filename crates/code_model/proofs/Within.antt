@@ -4,10 +4,10 @@ use Rattle.std.specs.Prelude.{slice_get, map, sum, nat_lt}
 use Rattle.std.proofs.lemmas.Option.{none-some, same_Some}
 use Rattle.sc_text.specs.declared.end.Ending.TheVariants as ending
 use Rattle.sc_text.specs.declared.end.TrapKind.TheVariants as trap
-use Rattle.language_model.specs.Effects.{World, Effect, ◌>>=◌, done, charge, test}
-use Rattle.language_model.specs.Values.{Value, size, never_stored}
-use Rattle.language_model.specs.Operations as row
-use Rattle.language_model.specs.Evaluation.{Frame, put, array_elements, either, asked_for, input_named, nothing}
+use Rattle.blind_evaluation.specs.Effects.{World, Effect, ◌>>=◌, done, charge, test}
+use Rattle.blind_evaluation.specs.Values.{Value, size, never_stored}
+use Rattle.blind_evaluation.specs.Operations as row
+use Rattle.blind_evaluation.specs.Evaluation.{Frame, put, array_elements, either, asked_for, input_named, nothing}
 use Rattle.bytecode.specs.declared.kind.Kind.{Kind}
 use Rattle.verified_code.specs.Steps.{kind_shape, Step, Literal, Move, Store, Binary, Not, Cast, Classify, Fill, At, Put, Size, Cat, Sum, Bits, Declassify}
 use Rattle.verified_code.specs.Steps.{Argument, Publish, Assert, Branch, Jump, Call, Return, ReturnNone, Function}

@@ -21,9 +21,9 @@ use Rattle.typed_tree.specs.declared.function.Returned.{Returned}
 use Rattle.typed_tree.specs.declared.function.Returned.TheVariants as given
 use Rattle.reached_instances.specs.declared.instance.BoundDomain.{BoundDomain}
 use Rattle.reached_instances.specs.Domains.{Setting, domains}
-use Rattle.language_model.specs.Words.{truth_word}
-use Rattle.language_model.specs.Operations.{is_product}
-use Rattle.language_model.specs.Evaluation.{gives_private, bound_at, slots_of, next_is_private, behind_next, connective, either}
+use Rattle.blind_evaluation.specs.Words.{truth_word}
+use Rattle.blind_evaluation.specs.Operations.{is_product}
+use Rattle.blind_evaluation.specs.Evaluation.{gives_private, bound_at, slots_of, next_is_private, behind_next, connective, either}
 use Rattle.verified_code.specs.Steps.{Step, Literal, Move, Binary, Not, Cast, Classify, At, Size, Cat, Sum, Bits, Declassify, Branch, Jump, Call}
 use Rattle.code_model.specs.Kinds.{kind_in, private_kind_in, truth_kind, in_row}
 

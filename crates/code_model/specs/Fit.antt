@@ -17,7 +17,7 @@ use Rattle.typed_tree.specs.Programs.{TypedFunctionTree, TypedProgramTree}
 use Rattle.reached_instances.specs.declared.instance.BoundDomain.{BoundDomain}
 use Rattle.reached_instances.specs.Domains.{Setting, domains}
 use Rattle.reached_instances.specs.Instances.{Instance}
-use Rattle.language_model.specs.Evaluation.{StatementContext, place_in, gives_private, slot_is_private, slots_of, bound_at, next_is_private}
+use Rattle.blind_evaluation.specs.Evaluation.{StatementContext, place_in, gives_private, slot_is_private, slots_of, bound_at, next_is_private}
 
 -- a private value stands only where a private one is declared
 abbrev pub MayStand : (given declared : Bool) → Type 0

@@ -9,13 +9,13 @@ use Rattle.typed_tree.specs.declared.operators.Cast as casts
 use Rattle.typed_tree.specs.declared.operators.Cast.TheVariants.{WordToWord, WordToBool, BoolToWord, BoolToBool}
 use Rattle.typed_tree.specs.declared.operators.Operands.{Operands}
 use Rattle.typed_tree.specs.declared.operators.Operands.TheVariants.{Scalars, ArrayAndScalar, ScalarAndArray, Arrays}
-use Rattle.language_model.specs.Effects.{GivenInput}
-use Rattle.language_model.specs.Values.{Value, is_secret}
-use Rattle.language_model.specs.Operations.{result_shape}
+use Rattle.blind_evaluation.specs.Effects.{GivenInput}
+use Rattle.blind_evaluation.specs.Values.{Value, is_secret}
+use Rattle.blind_evaluation.specs.Operations.{result_shape}
 use Rattle.bytecode.specs.declared.kind.Kind.{Kind}
 use Rattle.verified_code.specs.Steps.{kind_shape, Step, Literal, Move, Store, Binary, Not, Cast, Classify, Fill, At, Put, Size, Cat, Sum, Bits, Declassify}
 use Rattle.verified_code.specs.Steps.{Argument, Publish, Assert, Branch, Jump, Call, Return, ReturnNone, Function}
-use Rattle.language_model.specs.Evaluation.{Frame}
+use Rattle.blind_evaluation.specs.Evaluation.{Frame}
 use Rattle.code_model.specs.Machine.{Caller, Machine}
 use Rattle.code_model.specs.Kinds.{kind_of}
 

@@ -19,8 +19,8 @@ use Rattle.typed_tree.specs.Tree as Tree'
 use Rattle.typed_tree.specs.Programs.{TypedFunctionTree}
 use Rattle.reached_instances.specs.declared.instance.BoundDomain.{BoundDomain}
 use Rattle.reached_instances.specs.Domains.{Setting, domain_under}
-use Rattle.language_model.specs.Operations.{result_shape, cast_shape}
-use Rattle.language_model.specs.Evaluation.{is_private, gives_private, slot_shape, either}
+use Rattle.blind_evaluation.specs.Operations.{result_shape, cast_shape}
+use Rattle.blind_evaluation.specs.Evaluation.{is_private, gives_private, slot_shape, either}
 use Rattle.bytecode.specs.declared.kind.Kind.{Kind}
 
 -- ---- HOW MANY

@@ -6,8 +6,8 @@ use Rattle.sc_text.specs.Lists.{Among}
 use Rattle.reached_instances.specs.Instances.{Instance}
 use Rattle.reached_instances.specs.Calls.{main_of}
 use Rattle.reached_instances.specs.Reached.{IsReachedList}
-use Rattle.language_model.specs.Effects.{World, Stage, RunStop, Run}
-use Rattle.language_model.specs.Reports.{Offered, beginning, evaluated}
+use Rattle.blind_evaluation.specs.Effects.{World, Stage, RunStop, Run}
+use Rattle.blind_evaluation.specs.Reports.{Offered, beginning, evaluated}
 use Rattle.blind_evaluation.specs.Courses.{TakeSameCourse, IsEnded}
 use Rattle.bytecode.specs.Raw.{RawCode}
 use Rattle.verified_code.specs.Settled.{settled}

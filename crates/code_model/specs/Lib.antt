@@ -7,7 +7,7 @@ pub mod Programs
 pub mod Fit
 pub mod Laws
 pub mod Kinded
-pub use Rattle.language_model.specs.Operations
+pub use Rattle.blind_evaluation.specs.Operations
 pub use Rattle.blind_evaluation.specs.Courses
-pub use Rattle.language_model.specs.Words
-pub use Rattle.language_model.specs.Evaluation
+pub use Rattle.blind_evaluation.specs.Words
+pub use Rattle.blind_evaluation.specs.Evaluation

@@ -4,10 +4,10 @@ use Rattle.std.specs.List.{slice_get}
 use Rattle.sc_text.specs.declared.end.Ending.TheVariants as ending
 use Rattle.sc_text.specs.declared.end.TrapKind.TheVariants as trap
 use Rattle.typed_tree.specs.Shapes.{shape_of}
-use Rattle.language_model.specs.Effects.{World, Stage, RunStop, Run, Effect, ◌>>=◌, done, end, charge, test}
-use Rattle.language_model.specs.Values.{Value, plain, never_stored, size}
-use Rattle.language_model.specs.Operations as row
-use Rattle.language_model.specs.Evaluation.{Frame, put, nothing, array_elements, either, asked_for, input_named}
+use Rattle.blind_evaluation.specs.Effects.{World, Stage, RunStop, Run, Effect, ◌>>=◌, done, end, charge, test}
+use Rattle.blind_evaluation.specs.Values.{Value, plain, never_stored, size}
+use Rattle.blind_evaluation.specs.Operations as row
+use Rattle.blind_evaluation.specs.Evaluation.{Frame, put, nothing, array_elements, either, asked_for, input_named}
 use Rattle.bytecode.specs.declared.kind.Kind.{Kind}
 use Rattle.verified_code.specs.Steps.{kind_shape, Step, Literal, Move, Store, Binary, Not, Cast, Classify, Fill, At, Put, Size, Cat, Sum, Bits, Declassify}
 use Rattle.verified_code.specs.Steps.{Argument, Publish, Assert, Branch, Jump, Call, Return, ReturnNone, Function}

@@ -2,8 +2,8 @@
 use Rattle.std.specs.Prelude.{◌≡◌, ℕ, zero, suc, ◌+◌, ◌<◌, nat_le, if◌then◌else◌, max, length, List, [], ◌∷◌, Option, Some, None}
 use Rattle.std.specs.List.{slice_get}
 use Rattle.sc_text.specs.declared.end.Ending.TheVariants as ending
-use Rattle.language_model.specs.Effects.{World, Stage, RunStop, Ended, Clear, Answers}
-use Rattle.language_model.specs.Reports.{Report, Offered, world_of, public_part, dealing, not_dealt, beginning, reported}
+use Rattle.blind_evaluation.specs.Effects.{World, Stage, RunStop, Ended, Clear, Answers}
+use Rattle.blind_evaluation.specs.Reports.{Report, Offered, world_of, public_part, dealing, not_dealt, beginning, reported}
 use Rattle.verified_code.specs.Steps.{Step, Jump, Function}
 use Rattle.code_model.specs.Machine.{exec, start}
 

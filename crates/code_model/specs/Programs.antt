@@ -6,7 +6,7 @@ use Rattle.typed_tree.specs.declared.function.Returned.TheVariants as given
 use Rattle.typed_tree.specs.Programs.{TypedFunctionTree, TypedProgramTree}
 use Rattle.reached_instances.specs.declared.instance.BoundDomain.{BoundDomain}
 use Rattle.reached_instances.specs.Instances.{Instance, same_instance}
-use Rattle.language_model.specs.Evaluation.{place_in}
+use Rattle.blind_evaluation.specs.Evaluation.{place_in}
 use Rattle.bytecode.specs.declared.kind.Kind.{Kind}
 use Rattle.verified_code.specs.Steps.{Step, Return, ReturnNone, Function}
 use Rattle.code_model.specs.Kinds.{slot_kind, rows_kinds}

@@ -9,7 +9,7 @@ use Rattle.typed_tree.specs.Statements.{TypedStatementTree, TypedStatementTrees,
 use Rattle.typed_tree.specs.Statements.{break_statement, continue_statement, return_statement, assert_statement, store_statement, default_statement}
 use Rattle.typed_tree.specs.Statements.{fill_statement, input_statement, element_statement, publish_statement, evaluate_statement}
 use Rattle.typed_tree.specs.Statements as Statements'
-use Rattle.language_model.specs.Evaluation.{StatementContext, gives_private, slot_is_private, slot_shape, either}
+use Rattle.blind_evaluation.specs.Evaluation.{StatementContext, gives_private, slot_is_private, slot_shape, either}
 use Rattle.bytecode.specs.declared.kind.Kind.{Kind}
 use Rattle.verified_code.specs.Steps.{Step, Store, Fill, Put, Argument, Publish, Assert, Branch, Jump, Return, ReturnNone}
 use Rattle.code_model.specs.Kinds.{depth, kind_of, element_number, shape_kinds, in_row}

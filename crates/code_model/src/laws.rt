@@ -2,8 +2,8 @@
 ghost use Rattle.std.specs.Prelude.{ℕ, List};
 ghost use Rattle.typed_tree.specs.Programs.{TypedProgramTree};
 ghost use Rattle.reached_instances.specs.Instances.{Instance};
-ghost use Rattle.language_model.specs.Effects.{World};
-ghost use Rattle.language_model.specs.Reports.{Offered};
+ghost use Rattle.blind_evaluation.specs.Effects.{World};
+ghost use Rattle.blind_evaluation.specs.Reports.{Offered};
 ghost use Rattle.bytecode.specs.Raw.{RawCode};
 ghost use Rattle.verified_code.specs.Steps.{Function};
 ghost use Rattle.code_model.specs.Meaning.{AreForward};

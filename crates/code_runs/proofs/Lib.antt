@@ -8,3 +8,6 @@ pub mod Notices
 pub mod Tellings
 pub mod Miners
 pub mod Samples
+pub mod Sums
+pub mod Together
+pub mod Types

@@ -2,6 +2,8 @@
 pub mod Telling
 pub mod Runs
 pub mod Laws
+pub mod ClientTold
+pub mod ClientLaws
 pub use Rattle.gate_laws.specs.Dealt
 pub use Rattle.code_places.specs.Places
 pub use Rattle.shared_gates.specs.Model

@@ -1,7 +1,6 @@
 pub mod Deciding
 pub mod Finishing
 pub mod Growing
-pub mod Lines
 pub mod Naming
 pub mod ReadStops
 pub mod Said

@@ -59,7 +59,8 @@ among_more ws i e a b c lt is p q = record {
 
 pub wrote_more : (ws : List PlannedWrite) (i : ℕ) (e : PlannedWrite) (a b c : FilesState) → i < length ws
     → e ≡ get_or ws i e
-    → b.told ≡ a.told → WroteAll (writes_of (take i ws)) a b → Wrote b c (string_bytes e.path) (content_bytes e.content) → WroteAll (writes_of (take (i + 1) ws)) a c
+    → b.told ≡ a.told → WroteAll (writes_of (take i ws)) a b → Wrote b c (string_bytes e.path) (content_bytes e.content)
+    → WroteAll (writes_of (take (i + 1) ws)) a c
 wrote_more ws i e a b c lt is told done w = λ t.
     w.contents (told ∙ t)
     ∙ ap (λ (m : Contents). with_file m (string_bytes e.path) (content_bytes e.content)) (done t)

@@ -5,8 +5,8 @@ use Rattle.std.specs.Borrow.{Bor}
 use Rattle.clap.specs.Words.{Text}
 use Rattle.clap.specs.declared.error.ErrorKind.{ErrorKind}
 use Rattle.clap.specs.declared.error.ErrorKind.TheVariants.{OutOfMemory}
-use Rattle.command_words.specs.declared.command.TapeSource.{TapeSource}
-use Rattle.command_words.specs.declared.command.TapeSource.TheVariants as sources
+use Rattle.command_words.specs.declared.command.TapeOrigin.{TapeOrigin}
+use Rattle.command_words.specs.declared.command.TapeOrigin.TheVariants as sources
 use Rattle.command_words.specs.declared.command.DeliveryOrder.{DeliveryOrder}
 use Rattle.command_words.specs.declared.command.DeliveryOrder.TheVariants as orders
 use Rattle.command_words.specs.declared.command.RunWords.{RunWords}
@@ -30,7 +30,7 @@ use Rattle.command_words.specs.Ask.{Ask, CheckAsk, CompileAsk, DealAsk, EvalAsk,
 use Rattle.command_words.specs.Ask.{JoinAsk, MinerAsk, TrioAsk, join, miner, trio}
 use Rattle.command_words.specs.Ask.{GatherAsk, gather, LoadAsk, MapAsk, SimulateAsk, TwinAsk, load, map_tape, scheduled, seeded, shuffled, simulate, twin}
 
-abbrev pub source_ask : TapeSource → Source
+abbrev pub source_ask : TapeOrigin → Source
 source_ask (sources.File path) = file (string_bytes path)
 source_ask (sources.Seed s) = seeded s.seed s.words
 

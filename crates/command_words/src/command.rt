@@ -7,7 +7,7 @@ use proto_core::Number;
 use std::alloc::AllocError;
 
 /// Where the tapes of a run come from.
-pub enum TapeSource {
+pub enum TapeOrigin {
     /// The path of a tape file.
     File(String),
     /// A seed, from which they are drawn.
@@ -15,10 +15,10 @@ pub enum TapeSource {
 }
 
 // Written out, so that an early exit calls this once.
-impl Drop for TapeSource {
+impl Drop for TapeOrigin {
     fn drop(self) {
         match self {
-            TapeSource::File(_) | TapeSource::Seed(_) => {}
+            TapeOrigin::File(_) | TapeOrigin::Seed(_) => {}
         }
     }
 }
@@ -47,7 +47,7 @@ impl Drop for DeliveryOrder {
 pub struct RunWords {
     pub program: String,
     pub input: String,
-    pub source: TapeSource,
+    pub source: TapeOrigin,
     pub budget: u64,
     pub order: DeliveryOrder,
     pub recorded: Option<String>,

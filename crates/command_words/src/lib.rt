@@ -13,7 +13,7 @@ mod values;
 
 pub use command::{
     CheckWords, Command, CompileWords, DealWords, DeliveryOrder, EvalWords, GatherWords, JoinWords,
-    LoadWords, MapWords, MinerWords, RunWords, SimulateWords, TapeSource, TrioWords, TwinWords,
+    LoadWords, MapWords, MinerWords, RunWords, SimulateWords, TapeOrigin, TrioWords, TwinWords,
     WordsErr,
 };
 pub use reading::read;

@@ -11,7 +11,7 @@ ghost use Rattle.command_words.specs.Views.{Reads, text_in, source_ask, order_as
 
 use crate::command::{
     CheckWords, Command, CompileWords, DealWords, DeliveryOrder, EvalWords, GatherWords, JoinWords,
-    LoadWords, MapWords, MinerWords, RunWords, SimulateWords, TapeSource, TrioWords, TwinWords,
+    LoadWords, MapWords, MinerWords, RunWords, SimulateWords, TapeOrigin, TrioWords, TwinWords,
     WordsErr,
 };
 use crate::numbers::{miner, number, port, seed};
@@ -83,13 +83,13 @@ fn number_or(default: u64, text: Option<&str>) -> Option<u64>
 
 // Tapes from a seed.
 #[tactic(auto, unfolding(crate::specs::Ask::seeded_source))]
-fn seeded_source(text: &str, words: Option<&str>) -> Option<TapeSource>
+fn seeded_source(text: &str, words: Option<&str>) -> Option<TapeOrigin>
     ensures { option_map source_ask result ≡ seeded_source text.now (text_in words.entry) }
 {
     let seed = seed(text)?;
     let words = number_or(DEFAULT_WORDS, words)?;
     if words <= MOST_WORDS {
-        Some(TapeSource::Seed(TapeSeed { seed, words }))
+        Some(TapeOrigin::Seed(TapeSeed { seed, words }))
     } else {
         None
     }
@@ -102,11 +102,11 @@ fn source(
     tape: Option<&str>,
     seed: Option<&str>,
     words: Option<&str>,
-) -> Result<TapeSource, WordsErr>
+) -> Result<TapeOrigin, WordsErr>
     ensures { Reads source_ask (source_of (text_in tape.entry) (text_in seed.entry) (text_in words.entry)) result }
 {
     match (tape, seed, words) {
-        (Some(path), None, None) => Ok(TapeSource::File(String::from_str(alloc, path)?)),
+        (Some(path), None, None) => Ok(TapeOrigin::File(String::from_str(alloc, path)?)),
         (None, Some(seed), words) => seeded_source(seed, words).ok_or(WordsErr::Usage),
         _ => Err(WordsErr::Usage),
     }

@@ -17,7 +17,7 @@ use Rattle.clear_eval.specs.Offers.{offered, offered_with, part_given}
 use Rattle.gates.specs.Clear.{Values}
 use Rattle.view_model.specs.Dealing.{private_shares}
 use Rattle.view_model.specs.TapeMaps.{miners_of}
-use Rattle.told_events.specs.Dealt.{Dealt}
+use Rattle.code_runs.specs.Dealt.{Dealt}
 use Rattle.program_run.specs.Inputs.{dealt_of}
 use Rattle.miner_runs.specs.OwnRuns.{OwnRunAsReported, public_world}
 use Rattle.miner_runs.proofs.OwnRuns.{own_miners_run_the_code}
@@ -81,5 +81,6 @@ module _ (code : RawCode) (entries : List Entry) (t : FourTapes) (budget : ℕ) 
       has_net_run offer dealing (settled code) budget (miners_of t) report own given (with_tapes ran.net (miners_of t)) ran
       (subst (λ (n : NetState). Delivers given n (with_tapes ran.net (miners_of t)) (Ok tt)) is h.delivers) refl h.may h.told h.delivered
   goes_on net is given (Err e) h =
-      is_refused offer dealing (settled code) budget (miners_of t) report own (HasNetRun offer dealing (settled code) budget (miners_of t) report given) given h.0 e
+      is_refused offer dealing (settled code) budget (miners_of t) report own (HasNetRun offer dealing (settled code) budget (miners_of t) report given)
+      given h.0 e
       (subst (λ (n : NetState). Delivers given n h.0 (Err e)) is h.1)

@@ -17,7 +17,7 @@ use Rattle.verified_code.specs.Settled.{settled}
 use Rattle.clear_eval.specs.Offers.{offered}
 use Rattle.typed_tree.specs.Programs.{TypedProgramTree}
 use Rattle.language_model.specs.Reports.{Report}
-use Rattle.told_events.specs.Dealt.{Dealt}
+use Rattle.code_runs.specs.Dealt.{Dealt}
 use Rattle.view_model.specs.TapeMaps.{miners_of}
 use Rattle.program_run.specs.Accepted.{IsAccepted}
 use Rattle.program_run.specs.Codes.{IsCodeOf, code_report}
@@ -39,6 +39,7 @@ use Rattle.delivered_run.specs.declared.running.NetRun.{NetRun}
 use Rattle.delivered_run.specs.Courses.{HasCourse, HasNetRun, IsNetRun, file_of, run_told}
 use Rattle.delivered_run.specs.Deliveries.{HasRunOf, IsOr}
 use Rattle.delivered_run.specs.Drawing.{course_of, AreDealt, AreDealtWith, CourseDraws, NetRuns, RunsDealt}
+use Rattle.delivered_run.specs.Lean.{run_only, told_only, AsKept}
 use Rattle.delivered_run.specs.Sources.{IsCause}
 use Rattle.delivered_run.specs.Undealt.{IsUndealtBy}
 use Rattle.delivered_run.proofs.Dealing.{dealt-front}
@@ -113,7 +114,8 @@ module _ (job : Job) (words : List ℕ) (given : Delivery) (files : sharing.Deal
 
       means : code_report job.code.now entries t job.budget ≡ eval_with p entries t job.budget
       means =
-          report_so p accepted job.code.now code entries t sound suffice (are.of_words.miners One) (are.of_words.miners Two) (are.of_words.miners Three) job.budget
+          report_so p accepted job.code.now code entries t sound suffice (are.of_words.miners One) (are.of_words.miners Two)
+          (are.of_words.miners Three) job.budget
 
       ran_so : (r : Result NetRun CourseErr) → RunsDealt job files given r t
           → IsNetRun (offered entries (lengths_of t)) (dealt_of entries t.dealer) (settled job.code.now) job.budget (miners_of t)
@@ -127,7 +129,8 @@ module _ (job : Job) (words : List ℕ) (given : Delivery) (files : sharing.Deal
     too_few : {P : Type 0} → length words < need_of entries → P
     too_few h = absurd (omega (arith, h, enough))
 
-    pub dealt_course : (end : NetRun) → NetRuns a b (Ok end) (RunsDealt job files given (Ok end)) → CourseDraws job words given a b (Ok (course.Dealt files end))
+    pub dealt_course : (end : NetRun) → NetRuns a b (Ok end) (RunsDealt job files given (Ok end)) →
+        CourseDraws job words given a b (Ok (course.Dealt files end))
     dealt_course end h =
         record {
           runs =
@@ -164,6 +167,17 @@ module _ (job : Job) (words : List ℕ) (given : Delivery) (files : sharing.Deal
               };
           undealt = λ few i. too_few few;
         }
+
+    -- the same where no net is kept
+    pub dealt_kept :
+        (result : Result DeliveredRun CourseErr) → AsKept run_only (λ r. NetRuns a b r (RunsDealt job files given r)) result
+        → AsKept told_only (CourseDraws job words given a b) result
+    dealt_kept result h = by_kept h.kept h.same h.goes
+      where
+        by_kept : (r : Result NetRun CourseErr) → run_only r ≡ result → NetRuns a b r (RunsDealt job files given r)
+            → AsKept told_only (CourseDraws job words given a b) result
+        by_kept (Ok end) same ran = record { kept = Ok (course.Dealt files end); same = same; goes = dealt_course end ran }
+        by_kept (Err e) same ran = record { kept = Err e; same = same; goes = dealt_refused e ran }
 
 -- ---- or can't be dealt
 

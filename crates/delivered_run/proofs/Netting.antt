@@ -1,11 +1,14 @@
 -- Three miners that draw their tapes are made, and their messages delivered.
-use Rattle.std.proofs.Common.{◌≡◌, ℕ, List, [], ◌++◌, true, Result, Ok, Err, refl, sym, ◌∙◌, ap, subst, arith}
+use Rattle.std.proofs.Common.{◌≡◌, ℕ, ◌-◌, List, [], ◌++◌, map, true, Result, Ok, Err, refl, sym, ◌∙◌, ap, subst, arith}
 use Rattle.std.proofs.lemmas.Result.{MatchResult-weaker}
-use Rattle.std.specs.Prelude.{OnOk}
+use Rattle.std.specs.Prelude.{Option, None, OnOk}
 use Rattle.outside.specs.Tapes.{TapesState}
+use Rattle.sc_text.specs.declared.end.Ending.{Ending}
 use Rattle.proto_core.specs.declared.party.Number.{Number}
 use Rattle.proto_core.specs.declared.party.Number.TheVariants.{One, Two, Three}
 use Rattle.proto_core.specs.declared.link.Link.{Link}
+use Rattle.proto_core.specs.Strand.{told_in}
+use Rattle.proto_core.specs.Strand as strand
 use Rattle.proto_core.proofs.Beginnings.{append-none}
 use Rattle.protocol_model.specs.Network.{Default, Delivery, Listed, Shuffled}
 use Rattle.protocol_model.specs.Runs.{Tapes}
@@ -22,20 +25,27 @@ use Rattle.view_model.specs.TapeMaps.{miners_of}
 use Rattle.program_run.specs.Codes.{code_report}
 use Rattle.program_run.specs.Inputs.{dealt_of}
 use Rattle.program_run.specs.Reports.{lengths_of}
+use Rattle.program_run.specs.declared.running.RunReport.{RunReport}
+use Rattle.code_runs.specs.ClientTold.{told_beside}
 use Rattle.miner_core.specs.declared.answer.Lost.{Lost}
 use Rattle.miner_core.specs.declared.answer.Lost.TheVariants as lost
+use Rattle.miner_core.specs.declared.notice.Notice.{Notice}
 use Rattle.miner_core.specs.declared.task.Task.{Task}
 use Rattle.miner_core.specs.Drawing.{left_for, Draws}
-use Rattle.miner_core.specs.Story.{Story}
-use Rattle.miner_core.specs.Streams.{StreamState, IsMade}
-use Rattle.miner_core.specs.Views.{task_code, task_world}
+use Rattle.miner_core.specs.Places.{Place}
+use Rattle.miner_core.specs.Story.{Story, at_stop_or, cost_in, ending_in, has_told}
+use Rattle.miner_core.specs.Streams.{StreamState, ForEachTape, IsMade}
+use Rattle.miner_core.specs.Views.{notice_seen, task_code, task_world}
 use Rattle.link_schedule.specs.declared.errors.RunErr.{RunErr}
 use Rattle.link_schedule.specs.declared.errors.RunErr.TheVariants as running
 use Rattle.link_schedule.specs.Answers.{RunAnswers}
-use Rattle.link_schedule.specs.Net.{NetState}
+use Rattle.link_schedule.specs.declared.lean_net.LeanNet.{LeanNet}
+use Rattle.link_schedule.specs.Lean.{LeanAlong}
+use Rattle.link_schedule.specs.Net.{NetState, net_node}
 use Rattle.link_schedule.specs.Orders as orders
 use Rattle.link_schedule.specs.Parts.{AreAlike}
-use Rattle.link_schedule.specs.Streams.{StreamNet, drawn_in, ahead_in, with_tapes, new_net, MayHave, ForEachTapes, IsFreshStream, IsMinerOf, NetDrew, Along, lost_by, run_lost}
+use Rattle.link_schedule.specs.Streams.{StreamNet, drawn_in, ahead_in, with_tapes, new_net, MayHave, ForEachTapes}
+use Rattle.link_schedule.specs.Streams.{IsFreshStream, IsMinerOf, NetDrew, Along, lost_by, run_lost}
 use Rattle.link_schedule.proofs.Drawing.{both, only, lost_later, net_drew_more, net_drew_none, of_one, tapes_by}
 use Rattle.counted_net.specs.declared.delivery.DeliveryErr.TheVariants as err
 use Rattle.delivered_run.specs.declared.errors.CourseErr.{CourseErr}
@@ -45,7 +55,8 @@ use Rattle.delivered_run.specs.declared.running.Job.{Job}
 use Rattle.delivered_run.specs.declared.running.NetRun.{NetRun}
 use Rattle.delivered_run.specs.Courses.{HasNetRun}
 use Rattle.delivered_run.specs.Drawing.{course_of, made, scheduled, DeliversAll, HasGoneOn, HasMade, IsNew, Makes, NetGoes, NetRuns, RunsDealt}
-use Rattle.delivered_run.specs.Nets.{Delivers, HasTold, net_with, setting_world, story_for}
+use Rattle.delivered_run.specs.Lean.{DeliversLean}
+use Rattle.delivered_run.specs.Nets.{Delivers, HasTold, IsToldBy, net_with, setting_world, story_for}
 use Rattle.delivered_run.specs.Sources.{IsCause}
 use Rattle.delivered_run.proofs.DealtRuns.{goes_on, net_is}
 use Rattle.delivered_run.proofs.Going.{cause_so, lost_so}
@@ -89,9 +100,9 @@ fresh setting x a b i m h =
     }
 
 pub makes_lost :
-    (setting : Setting) (files : sharing.Dealt) (i : Number) (a b c : TapesState) (taken : Tapes) → NetDrew a b taken
-    → (a.steady ≡ true → b.steady ≡ true) → (why : Lost) → Draws {A = StreamState} i b c (Err why) → Makes a c setting files (Err why)
-makes_lost setting files i a b c taken drew still why h =
+    {A B : Type 0} (Is : A → StreamNet → Type 0) (setting : Setting) (files : sharing.Dealt) (i : Number) (a b c : TapesState) (taken : Tapes)
+    → NetDrew a b taken → (a.steady ≡ true → b.steady ≡ true) → (why : Lost) → Draws {A = B} i b c (Err why) → Makes a c Is setting files (Err why)
+makes_lost Is setting files i a b c taken drew still why h =
     record {
       taken = both taken (only i h.drawn.taken);
       drew = net_drew_more a b c taken (only i h.drawn.taken) drew (of_one b c i h.drawn.taken h.drawn.drew);
@@ -113,14 +124,17 @@ module _ (setting : Setting) (files : sharing.Dealt) (a b c d : TapesState) (one
       (of_one c d Three third.taken third.drew)
 
   pub makes_net :
-      (net : StreamNet) → net ≡ new_net one two three → (a.steady ≡ true → d.steady ≡ true)
-      → Makes a d setting files (Ok net)
-  makes_net net is still =
+      {A : Type 0} (Is : A → StreamNet → Type 0) (x : A) → Is x (new_net one two three) → (a.steady ≡ true → d.steady ≡ true)
+      → Makes a d Is setting files (Ok x)
+  makes_net Is x is still =
       record {
         taken = all_taken;
         drew = all_drew;
-        ok = subst (HasMade a d setting files all_taken) (sym is)
-            (record { going = refl; drawn = drawn; left = left; made = made_so });
+        ok = (
+          new_net one two three,
+          is,
+          record { going = refl; drawn = drawn; left = left; made = made_so },
+        );
         err = tt;
         still = still;
       }
@@ -213,12 +227,50 @@ module _ (before after : StreamNet) (a b : TapesState) where
         still = h.still;
       }
 
+-- the same of a net that keeps little
+pub lean_made :
+    (before : StreamNet) (n : LeanNet) (a b : TapesState) (words : ℕ → ℕ) (given : Delivery) (r : Result (Unit {0}) Lost)
+    → ((x y : NetState) → orders.Makes words x y → Delivers given x y (Ok tt))
+    → LeanAlong before n a b (lost_by r) (λ x y. OnOk r (orders.Makes words x y)) → DeliversLean a b given before n (made r)
+lean_made before n a b words given (Ok done) is h =
+    record { then = h.then; delivers = all_made before h.then a b words given (Ok done) is h.along; is = h.is }
+lean_made before n a b words given (Err why) is h =
+    record { then = h.then; delivers = all_made before h.then a b words given (Err why) is h.along; is = tt }
+
 -- ---- what comes of a net
 
 -- a tape that a miner of the net may have
 pub own_tape : (s : StreamNet) (i : Number) (m : StreamState) → IsMinerOf s i m → (tapes : Tapes) → MayHave s tapes → IsTapeOf m.story.tape m.ahead (tapes i)
 own_tape s i m of tapes may =
     subst (λ d. IsTapeOf d m.ahead (tapes i)) (sym of.drawn) (subst (λ n. IsTapeOf (drawn_in s i) n (tapes i)) (sym of.ahead) (may i))
+
+-- the client is told by what its miners tell
+module _ (s : StreamNet) (one two three : StreamState) (m1 : IsMinerOf s One one) (m2 : IsMinerOf s Two two) (m3 : IsMinerOf s Three three)
+    (first second third : List Notice) (cost : ℕ) (ending : Option Ending) (tells1 : ForEachTape one (λ x. map notice_seen first ≡ has_told One x))
+    (tells2 : ForEachTape two (λ x. map notice_seen second ≡ has_told Two x)) (tells3 : ForEachTape three (λ x. map notice_seen third ≡ has_told Three x))
+    (costs : ForEachTape one (λ x. cost ≡ cost_in One x)) (ends : ForEachTape one (λ x. ending ≡ ending_in One x)) where
+  pub client_told : (told : RunReport) → IsToldBy first second third cost ending told → ForEachTapes s (λ n. HasTold n told)
+  client_told told h = λ going tapes may.
+      let n = with_tapes s tapes in
+      let t1 = own_tape s One one m1 tapes may in
+      let at1 = m1.at tapes may in
+      let tells : Number → List strand.Notice = λ i. told_in (net_node n i).acts in
+      let seen2 = map notice_seen second in
+      let seen3 = map notice_seen third in
+      record {
+        events =
+            h.events
+            ∙ ap (λ ns. told_beside ns seen2 seen3) (tells1 m1.going (tapes One) t1 ∙ ap told_in at1.acts)
+            ∙ ap (λ ns. told_beside (tells One) ns seen3) (tells2 m2.going (tapes Two) (own_tape s Two two m2 tapes may) ∙ ap told_in (m2.at tapes may).acts)
+            ∙ ap (told_beside (tells One) (tells Two))
+            (tells3 m3.going (tapes Three) (own_tape s Three three m3 tapes may) ∙ ap told_in (m3.at tapes may).acts);
+        how = λ p x. sym (ends m1.going (tapes One) t1 ∙ ap (at_stop_or None (λ (q : Place). q.ended)) (at1.left ∙ x.left)) ∙ h.how;
+        cost = λ p x.
+            h.cost
+            ∙ costs m1.going (tapes One) t1
+            ∙ ap (at_stop_or 0 (λ (q : Place). one.story.budget - q.stage.left)) (at1.left ∙ x.left)
+            ∙ ap (λ k. k - p.stage.left) at1.budget;
+      }
 
 module _ (a b : TapesState) (given : Delivery) (net after : StreamNet) where
   pub goes_refused : (e : CourseErr) → DeliversAll a b given net after (Err e) → NetGoes a b given net (Err e)
@@ -260,14 +312,15 @@ later_cause a b c taken d still course.TapeFault h = lost_later a b c taken d st
 -- ---- what comes of what was dealt
 
 module _ (job : Job) (files : sharing.Dealt) (given : Delivery) where
-  pub runs_without : (a : TapesState) → NetRuns a a {A = NetRun} (Err (course.Delivery err.Memory)) (RunsDealt job files given (Err (course.Delivery err.Memory)))
+  pub runs_without : (a : TapesState) → NetRuns a a {A = NetRun} (Err (course.Delivery err.Memory))
+      (RunsDealt job files given (Err (course.Delivery err.Memory)))
   runs_without a =
       record { taken = λ i. []; drew = net_drew_none a; cause = tt; holds = λ t of are. tt; still = λ s. s }
 
   pub runs_unmade :
-      (setting : Setting) (a b : TapesState) (why : Lost) → Makes a b setting files (Err why)
+      {A : Type 0} (Is : A → StreamNet → Type 0) (setting : Setting) (a b : TapesState) (why : Lost) → Makes a b Is setting files (Err why)
       → NetRuns a b {A = NetRun} (Err (course_of why)) (RunsDealt job files given (Err (course_of why)))
-  runs_unmade setting a b why h =
+  runs_unmade Is setting a b why h =
       record {
         taken = h.taken;
         drew = h.drew;
@@ -282,16 +335,16 @@ module _ (job : Job) (files : sharing.Dealt) (given : Delivery) where
   module _ (setting : Setting) (same_code : setting.code.now ≡ job.code.now) (same_lengths : setting.lengths ≡ job.lengths)
       (same_budget : setting.budget ≡ job.budget) (part : setting.part.now ≡ part_of job.inputs.now) where
     pub runs_made :
-        (a b c : TapesState) (net : StreamNet) → Makes a b setting files (Ok net) → (result : Result NetRun CourseErr) → NetGoes b c given net result
-        → NetRuns a c result (RunsDealt job files given result)
-    runs_made a b c net m result g =
+        {A : Type 0} (Is : A → StreamNet → Type 0) (a b c : TapesState) (x : A) (m : Makes a b Is setting files (Ok x)) (result : Result NetRun CourseErr)
+        → NetGoes b c given m.ok.0 result → NetRuns a c result (RunsDealt job files given result)
+    runs_made Is a b c x m result g =
         record {
           taken = both m.taken g.taken;
           drew = net_drew_more a b c m.taken g.taken m.drew g.drew;
           cause = MatchResult-weaker result g.cause (λ x k. k) (later_cause a b c m.taken m.drew m.still);
           holds = λ t of are.
-              goes_on job.code.now job.inputs.now t job.budget are.runs net
-              (m.ok.made (miners_of t)
+              goes_on job.code.now job.inputs.now t job.budget are.runs m.ok.0
+              (m.ok.2.made (miners_of t)
               ∙ ap (λ code. net_with (setting_world setting) (settled code) setting.budget
               (record { dealt = private_shares files.first.entries; tape = t.one })
               (record { dealt = private_shares files.second.entries; tape = t.two })
@@ -303,6 +356,6 @@ module _ (job : Job) (files : sharing.Dealt) (given : Delivery) where
               ∙ net_is job.code.now job.inputs.now t job.budget are.runs setting.part.now setting.lengths files.first files.second files.third
               part (same_lengths ∙ are.lengths) are.first are.second are.third)
               given result
-              (g.holds (miners_of t) (λ i. subst (λ d. IsTapeOf (d ++ g.taken i) (left_for i c) (miners_of t i)) (sym (m.ok.drawn i)) (of i)));
+              (g.holds (miners_of t) (λ i. subst (λ d. IsTapeOf (d ++ g.taken i) (left_for i c) (miners_of t i)) (sym (m.ok.2.drawn i)) (of i)));
           still = λ s. g.still (m.still s);
         }

@@ -12,10 +12,10 @@ use Rattle.protocol_model.specs.Runs.{Tapes}
 use Rattle.language_model.specs.Effects.{Ended}
 use Rattle.language_model.specs.Reports.{Offered, Report}
 use Rattle.verified_code.specs.Steps.{Function}
-use Rattle.told_events.specs.Dealt.{Dealt}
-use Rattle.told_events.specs.Runs.{messages, scripts, shares}
-use Rattle.told_events.specs.Telling.{told_together}
-use Rattle.told_events.proofs.Together.{told_together_are_the_events}
+use Rattle.code_runs.specs.Dealt.{Dealt}
+use Rattle.code_runs.specs.Runs.{messages, scripts, shares}
+use Rattle.code_runs.specs.ClientTold.{told_together}
+use Rattle.code_runs.proofs.Together.{told_together_are_the_events}
 use Rattle.miner_core.specs.OwnCode.{Ended as AtEnd}
 use Rattle.miner_runs.specs.OwnRuns.{OwnRunAsReported, own_end, own_nodes, public_world}
 use Rattle.link_schedule.specs.Answers.{net_walked}

@@ -1,5 +1,6 @@
 -- A run that draws from a source, with each four tapes that it may have had.
-use Rattle.std.proofs.Common.{◌≡◌, ◌≢◌, ◌<◌, ◌≤◌, ℕ, ◌+◌, List, [], ◌∷◌, ◌++◌, length, drop, true, Result, Ok, Err, refl, sym, ◌∙◌, ap, subst, length-append, arith}
+use Rattle.std.proofs.Common.{◌≡◌, ◌≢◌, ◌<◌, ◌≤◌, ℕ, ◌+◌, List, [], ◌∷◌, ◌++◌, length}
+use Rattle.std.proofs.Common.{drop, true, Result, Ok, Err, refl, sym, ◌∙◌, ap, subst, length-append, arith}
 use Rattle.std.proofs.Math.Seq.{drop-append_seam}
 use Rattle.std.proofs.lemmas.Result.{MatchResult-weaker}
 use Rattle.std.specs.Prelude.{IfErr}
@@ -19,8 +20,8 @@ use Rattle.typed_tree.specs.Programs.{TypedProgramTree}
 use Rattle.view_model.specs.TapeMaps.{miners_of, four_of, AreTapes}
 use Rattle.program_run.specs.Accepted.{IsAccepted}
 use Rattle.program_run.specs.Codes.{IsCodeOf}
-use Rattle.program_run.specs.Inputs.{AreSound}
-use Rattle.program_run.specs.Reports.{lengths_of}
+use Rattle.program_run.specs.Inputs.{AreSound, dealt_of}
+use Rattle.program_run.specs.Reports.{eval_with, lengths_of}
 use Rattle.miner_core.specs.declared.answer.Lost.{Lost}
 use Rattle.miner_core.specs.declared.answer.Lost.TheVariants as lost
 use Rattle.miner_core.specs.Drawing.{left_for, IsLostBy, IsTapeFault}
@@ -31,10 +32,12 @@ use Rattle.delivered_run.specs.declared.course.Course.{Course}
 use Rattle.delivered_run.specs.declared.errors.CourseErr.{CourseErr}
 use Rattle.delivered_run.specs.declared.errors.CourseErr.TheVariants as fault
 use Rattle.delivered_run.specs.declared.running.Job.{Job}
-use Rattle.delivered_run.specs.Courses.{IsCourseOf}
+use Rattle.delivered_run.specs.Courses.{HasCourse, IsCourseOf, run_told}
+use Rattle.delivered_run.specs.Deliveries.{HasRunOf, IsRunOf}
 use Rattle.delivered_run.specs.Drawing.{course_of, lengths_in, AreDealtWith, CourseDraws, DealerDraws}
+use Rattle.delivered_run.specs.Lean.{told_only}
 use Rattle.delivered_run.specs.Sources.{DrewFour, HaveGone, IsCause, MayBe, RunsFrom}
-use Rattle.delivered_run.proofs.Going.{cause_so}
+use Rattle.delivered_run.proofs.Going.{cause_so, run_so, same_err}
 
 -- ---- tapes that may be
 
@@ -157,28 +160,6 @@ dealer_drew a b entries items words taken need count drew are long is most all s
 
 -- ---- a run
 
--- no word was drawn
-pub runs_without : {A : Type 0} (a : TapesState) (entries : List Entry) (why : Lost) (Q : FourTapes → Type 0) → IsLostBy a a why → ((t : FourTapes) → Q t)
-    → RunsFrom a a {A = A} entries (Err (course_of why)) Q
-runs_without a entries why Q lost each =
-    record {
-      taken = taken_of [] (λ i. []);
-      drew = record {
-        told = refl;
-        stands = (net_drew_none a).stands;
-        dealer = omega arith;
-        miners = λ i. (net_drew_none a).fewer i ∙ ap (λ w. length w + left_for i a) (sym (miners_so [] (λ j. []) i));
-        words = λ t. record { dealer = refl; miners = λ i. ap (λ w. w ++ a.words (count_of i)) (sym (miners_so [] (λ j. []) i)) };
-        others = λ p above. record { left = refl; words = λ t. refl };
-      };
-      dealer = omega arith;
-      undealt = λ few i. miners_so [] (λ j. []) i;
-      holds = λ t may. each t;
-      told = λ told words. each (source_words a);
-      cause = cause_so a a why lost;
-      still = λ s. s;
-    }
-
 -- the dealer's words couldn't be drawn
 pub runs_undrawn : {A B : Type 0} (a b : TapesState) (entries : List Entry) (items : B → List ℕ) (why : Lost) (Q : FourTapes → Type 0)
     → DealerDraws a b entries items (Err why) → ((t : FourTapes) → Q t) → RunsFrom a b {A = A} entries (Err (course_of why)) Q
@@ -294,3 +275,16 @@ runs_as a b entries r x Q R h cause step =
       cause = cause;
       still = h.still;
     }
+
+-- what a course tells is the run
+pub told_from :
+    (a b : TapesState) (p : TypedProgramTree) (entries : List Entry) (budget : ℕ) (given : Delivery) (kept : Result Course CourseErr)
+    → RunsFrom a b entries kept (λ t. IsCourseOf p entries t budget given kept)
+    → RunsFrom a b entries (told_only kept) (λ t. IsRunOf p entries t budget given (told_only kept))
+told_from a b p entries budget given (Ok went) h =
+    runs_as a b entries (Ok went) (Ok (run_told went)) (λ t. IsCourseOf p entries t budget given (Ok went))
+    (λ t. IsRunOf p entries t budget given (Ok (run_told went))) h tt (λ t k. run_so p entries t budget given went k (run_told went) refl)
+told_from a b p entries budget given (Err e) h =
+    runs_as a b entries (Err e) (Err e) (λ t. IsCourseOf p entries t budget given (Err e)) (λ t. IsRunOf p entries t budget given (Err e)) h h.cause
+    (λ t k.
+    same_err (dealt_of entries t.dealer) (eval_with p entries t budget) given (HasCourse p entries t budget given) (HasRunOf p entries t budget given) e k)

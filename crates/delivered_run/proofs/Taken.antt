@@ -10,7 +10,7 @@ use Rattle.input_share.specs.Dealing.{need_of}
 use Rattle.typed_tree.specs.Programs.{TypedProgramTree}
 use Rattle.language_model.specs.Reports.{Report}
 use Rattle.program_run.specs.Inputs.{dealt_of}
-use Rattle.told_events.specs.Runs.{scripts}
+use Rattle.code_runs.specs.Runs.{scripts}
 use Rattle.program_run.specs.Accepted.{IsAccepted}
 use Rattle.program_run.specs.Dealt.{CanBeDealt}
 use Rattle.program_run.proofs.Told.{ended_so}

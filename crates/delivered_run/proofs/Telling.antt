@@ -3,7 +3,7 @@ use Rattle.std.proofs.Common.{◌≡◌, ℕ, zero, suc, ◌+◌, ◌<◌, ◌�
 use Rattle.std.proofs.lemmas.List.{drop-map, drop_more}
 use Rattle.sc_text.specs.declared.event.Event.{Event}
 use Rattle.proto_core.specs.Strand as strand
-use Rattle.told_events.specs.Telling.{behind_first, first_words, told_beside, told_by_three, words_of}
+use Rattle.code_runs.specs.ClientTold.{behind_first, first_words, told_beside, told_by_three, words_of}
 use Rattle.miner_core.specs.declared.notice.Notice.{Notice}
 use Rattle.miner_core.specs.Views.{notice_seen}
 

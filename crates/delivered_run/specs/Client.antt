@@ -4,7 +4,7 @@ use Rattle.sc_text.specs.declared.elements.Element.{Element}
 use Rattle.typed_tree.specs.declared.kinds.Shape.{Shape}
 use Rattle.miner_core.specs.Places.{form_of}
 use Rattle.program_run.specs.Telling.{elements_told}
-use Rattle.told_events.specs.Telling.{all_added_up}
+use Rattle.code_runs.specs.ClientTold.{all_added_up}
 
 -- elements of a value of this shape, of which the three miners have these shares
 abbrev pub handed_elements : Shape → (first second third : List ℕ) → List Element

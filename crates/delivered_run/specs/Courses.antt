@@ -16,10 +16,10 @@ use Rattle.bytecode.specs.Raw.{RawCode}
 use Rattle.verified_code.specs.Settled.{settled}
 use Rattle.verified_code.specs.Steps.{Function}
 use Rattle.view_model.specs.TapeMaps.{miners_of}
-use Rattle.told_events.specs.Dealt.{Dealt}
+use Rattle.code_runs.specs.Dealt.{Dealt}
 use Rattle.program_run.specs.Codes.{IsCodeOf}
 use Rattle.program_run.specs.Inputs.{dealt_of}
-use Rattle.told_events.specs.Runs.{messages}
+use Rattle.code_runs.specs.Runs.{messages}
 use Rattle.program_run.specs.Dealt.{CanBeDealt}
 use Rattle.program_run.specs.Reports.{eval_with, lengths_of}
 use Rattle.miner_runs.specs.OwnRuns.{OwnRunAsReported, own_nodes}

@@ -7,9 +7,9 @@ use Rattle.tape_file.specs.Tapes.{FourTapes}
 use Rattle.typed_tree.specs.Programs.{TypedProgramTree}
 use Rattle.value_file.specs.declared.inputs.Entry.{Entry}
 use Rattle.language_model.specs.Reports.{Report}
-use Rattle.told_events.specs.Dealt.{Dealt}
+use Rattle.code_runs.specs.Dealt.{Dealt}
 use Rattle.program_run.specs.Inputs.{dealt_of}
-use Rattle.told_events.specs.Runs.{scripts}
+use Rattle.code_runs.specs.Runs.{scripts}
 use Rattle.program_run.specs.Reports.{TellsAs, eval_with}
 pub use Rattle.counted_net.specs.Answers.{delivery_seen}
 use Rattle.counted_net.specs.declared.delivery.DeliveryErr.{DeliveryErr}

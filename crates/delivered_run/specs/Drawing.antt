@@ -111,10 +111,11 @@ module _ (old new : TapesState) where
         (record { dealt = private_shares files.second.entries; tape = tapes Two })
         (record { dealt = private_shares files.third.entries; tape = tapes Three })
 
-  pub record Makes (setting : Setting) (files : sharing.Dealt) (result : Result StreamNet Lost) : Type 0 where
+  -- by what is made, which is a net of a state
+  pub record Makes {A : Type 0} (Is : A → StreamNet → Type 0) (setting : Setting) (files : sharing.Dealt) (result : Result A Lost) : Type 0 where
     pub taken : Tapes
     pub drew : NetDrew old new taken
-    pub ok : IfOk result (HasMade setting files taken)
+    pub ok : IfOk result (λ x. (net : StreamNet) × Is x net × HasMade setting files taken net)
     pub err : IfErr result (IsLostBy old new)
     pub still : old.steady ≡ true → new.steady ≡ true
 

@@ -7,4 +7,13 @@ pub mod Drawing
 pub mod Undealt
 pub mod Premises
 pub mod Laws
+pub mod Lean
 pub use Rattle.miner_runs.specs.Programs
+pub use Rattle.miner_runs.specs.Accepted
+pub use Rattle.miner_runs.specs.Dealt
+pub use Rattle.miner_runs.specs.OwnCode
+pub use Rattle.miner_runs.specs.OwnRuns
+pub use Rattle.miner_runs.specs.Places
+pub use Rattle.miner_runs.specs.RawCodes
+pub use Rattle.miner_runs.specs.Runs
+pub use Rattle.miner_runs.specs.Telling

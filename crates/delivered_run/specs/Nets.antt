@@ -1,5 +1,5 @@
 -- Three miners in a net: what they were made with, what a delivery of a net does, and what its miners have told.
-use Rattle.std.specs.Prelude.{◌≡◌, ◌-◌, ℕ, List, [], map, false, Some, Result, Ok, Err}
+use Rattle.std.specs.Prelude.{◌≡◌, ◌-◌, ℕ, List, [], map, false, Option, Some, Result, Ok, Err}
 use Rattle.sc_text.specs.declared.end.Ending.{Ending}
 use Rattle.proto_core.specs.declared.party.Number.TheVariants.{One}
 use Rattle.proto_core.specs.Strand.{Ends, told_in}
@@ -11,9 +11,11 @@ use Rattle.clear_eval.specs.Offers.{offered_with, part_given}
 use Rattle.verified_code.specs.Steps.{Function}
 use Rattle.driven_nodes.specs.Steps.{Stopped}
 use Rattle.miner_core.specs.Places.{Place}
-use Rattle.told_events.specs.Telling.{told_together}
+use Rattle.code_runs.specs.ClientTold.{told_beside, told_together}
 use Rattle.miner_core.specs.OwnCode.{Reached}
+use Rattle.miner_core.specs.declared.notice.Notice.{Notice}
 use Rattle.miner_core.specs.Story.{Story}
+use Rattle.miner_core.specs.Views.{notice_seen}
 use Rattle.link_schedule.specs.Answers.{net_walked}
 use Rattle.link_schedule.specs.Net.{NetState, Own, after, net_node}
 use Rattle.link_schedule.specs.Orders.{Makes}
@@ -72,6 +74,12 @@ pub record HasTold (net : NetState) (told : RunReport) : Type 0 where
   pub events : told.events.items ≡ told_together (λ i. told_in (net_node net i).acts)
   pub how : (p : Place) → StopsAt net p → p.ended ≡ Some told.end.how
   pub cost : (p : Place) → StopsAt net p → told.end.cost ≡ net.budget - p.stage.left
+
+-- so it is told where the three miners have told this, and the first has ended so, at this cost
+pub record IsToldBy (first second third : List Notice) (paid : ℕ) (ending : Option Ending) (told : RunReport) : Type 0 where
+  pub events : told.events.items ≡ told_beside (map notice_seen first) (map notice_seen second) (map notice_seen third)
+  pub how : ending ≡ Some told.end.how
+  pub cost : told.end.cost ≡ paid
 
 -- ---- what a miner knows
 

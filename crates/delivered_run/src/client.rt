@@ -1,18 +1,18 @@
 // What the client is told, by what the three miners tell.
 ghost use Rattle.std.specs.Prelude.{◌≡◌, drop, map, IfOk};
-ghost use Rattle.told_events.specs.Telling.{told_by_three, told_beside, first_words, words_of};
+ghost use Rattle.code_runs.specs.ClientTold.{told_by_three, told_beside, first_words, words_of};
 ghost use Rattle.miner_core.specs.Views.{notice_seen};
 ghost use Rattle.delivered_run.specs.Client.{handed_elements};
 
+use code_runs::all_added_up;
 use miner_core::Notice;
 use sc_text::{Elements, Event};
 use std::alloc::{AllocError, Global};
-use told_events::all_added_up;
 use typed_tree::Shape;
 use vector_ops::elements;
 
 /// The values of which three miners hand in these shares.
-#[tactic(auto, using(told_events::proofs::Types::same_type))]
+#[tactic(auto, using(code_runs::proofs::Types::same_type))]
 fn shared_elements(
     alloc: Global,
     shape: Shape,
@@ -27,7 +27,7 @@ fn shared_elements(
 }
 
 /// What the client is told by a notice of the first miner and the words of those of the two others beside it.
-#[tactic(auto, using(told_events::proofs::Types::same_type))]
+#[tactic(auto, using(code_runs::proofs::Types::same_type))]
 fn event_of(
     alloc: Global,
     notice: &Notice,

@@ -1,16 +1,19 @@
 // How a program's run goes.
-ghost use Rattle.std.specs.Prelude.{◌≡◌, ◌<◌, ◌≤◌};
+ghost use Rattle.std.specs.Prelude.{◌≡◌, ◌<◌, ◌≤◌, IfOk};
 ghost use Rattle.outside.specs.Tapes.{TapesState};
 ghost use Rattle.typed_tree.specs.Programs.{typed_program_tree};
 ghost use Rattle.value_file.specs.Input.{AreInputs};
 ghost use Rattle.program_run.specs.Accepted.{IsAccepted};
+ghost use Rattle.program_run.specs.Codes.{IsCodeOf};
 ghost use Rattle.delivered_run.specs.Courses.{IsCourseOf, run_told};
 ghost use Rattle.delivered_run.specs.Deliveries.{IsRunOf, delivery_seen};
 ghost use Rattle.delivered_run.specs.Drawing.{lengths_in, DealerDraws, CourseDraws};
+ghost use Rattle.delivered_run.specs.Lean.{told_only, AsKept};
+ghost use Rattle.delivered_run.specs.Premises.{IsMade};
 ghost use Rattle.delivered_run.specs.Sources.{RunsFrom};
 
 use crate::errors::CourseErr;
-use crate::running::{DeliveredRun, Job, NetRun, run_dealt, run_refused};
+use crate::running::{DeliveredRun, Job, NetRun, run_dealt, run_dealt_lean, run_refused};
 use counted_net::Delivery;
 use input_share::{Dealt, deal, need, see_entries};
 use miner_core::Lost;
@@ -19,6 +22,7 @@ use program_run::compile_program;
 use std::alloc::Global;
 use typed_tree::TypedProgram;
 use value_file::Inputs;
+use verified_code::Verified;
 
 /// How a program's run went.
 pub enum Course {
@@ -84,6 +88,36 @@ fn dealer_words<T: TapeSource>(
     Ok(words)
 }
 
+/// What a run begins with: its code, how many words the four tapes have, and the words of the dealer's tape for the inputs.
+#[derive(Drop)]
+struct Prepared {
+    code: Verified,
+    lengths: [u64; 4],
+    words: Vec<u64>,
+}
+
+/// The code is verified, and the dealer draws.
+fn start<T: TapeSource>(
+    alloc: Global,
+    program: &TypedProgram,
+    inputs: &Inputs,
+    tapes: &mut T,
+) -> Result<Prepared, Lost>
+    requires { IsAccepted (typed_program_tree program.now) }
+    ensures code { IfOk result (λ s. IsCodeOf (typed_program_tree program.now) s.code) }
+    ensures lengths { IfOk result (λ s. s.lengths ≡ lengths_in (T.state tapes.old)) }
+    ensures draws { DealerDraws (T.state tapes.old) (T.state tapes.new) inputs.now (λ s. s.words.items) result }
+{
+    let code = compile_program(alloc, program)?;
+    let lengths = lengths(tapes);
+    let words = dealer_words(alloc, inputs, tapes)?;
+    Ok(Prepared {
+        code,
+        lengths,
+        words,
+    })
+}
+
 /// The inputs are dealt with these words of the dealer's, and three miners run the code; or they can't be dealt.
 fn run_with<T: TapeSource>(
     alloc: Global,
@@ -103,6 +137,27 @@ fn run_with<T: TapeSource>(
         Err(refusal) => {
             let run = run_refused(alloc, refusal, delivery)?;
             Ok(Course::Undealt(run))
+        }
+    }
+}
+
+/// The same with miners that keep little, in an order that their net makes itself; what was dealt and the miners aren't kept.
+fn run_lean_with<T: TapeSource>(
+    alloc: Global,
+    job: &Job<'_>,
+    words: &[u64],
+    delivery: &Delivery,
+    tapes: &mut T,
+) -> Result<DeliveredRun, CourseErr>
+    requires inputs { AreInputs job.now.inputs.now }
+    requires made { IsMade (delivery_seen delivery.now) }
+    ensures { AsKept told_only (CourseDraws job.now words.now (delivery_seen delivery.now) (T.state tapes.old) (T.state tapes.new)) result }
+{
+    match deal(alloc, job.inputs, words, job.lengths) {
+        Ok(files) => run_dealt_lean(alloc, job, &files, delivery, tapes),
+        Err(refusal) => {
+            let run = run_refused(alloc, refusal, delivery)?;
+            Ok(run)
         }
     }
 }
@@ -128,19 +183,44 @@ pub fn run_in_net<T: TapeSource>(
         (λ t. IsCourseOf (typed_program_tree program.now) inputs.now t budget (delivery_seen delivery.now) result) }
 {
     see_entries(inputs.entries());
-    let code = compile_program(alloc, program)?;
-    let lengths = lengths(tapes);
-    let words = dealer_words(alloc, inputs, tapes)?;
+    let start = start(alloc, program, inputs, tapes)?;
     let job = Job {
-        code: &code,
+        code: &start.code,
         inputs,
-        lengths,
+        lengths: start.lengths,
         budget,
     };
-    run_with(alloc, &job, &words, delivery, tapes)
+    run_with(alloc, &job, &start.words, delivery, tapes)
 }
 
-/// Runs a program as `run_in_net` does, and keeps what the miners told and on which links messages were delivered.
+/// Runs a program as `run_in_net` does, in an order that the net makes itself, with miners that keep little.
+fn run_lean<T: TapeSource>(
+    alloc: Global,
+    program: &TypedProgram,
+    inputs: &Inputs,
+    tapes: &mut T,
+    budget: u64,
+    delivery: &Delivery,
+) -> Result<DeliveredRun, CourseErr>
+    requires accepted { IsAccepted (typed_program_tree program.now) }
+    requires inputs { AreInputs inputs.now }
+    requires made { IsMade (delivery_seen delivery.now) }
+    ensures { RunsFrom (T.state tapes.old) (T.state tapes.new) inputs.now result
+        (λ t. IsRunOf (typed_program_tree program.now) inputs.now t budget (delivery_seen delivery.now) result) }
+{
+    see_entries(inputs.entries());
+    let start = start(alloc, program, inputs, tapes)?;
+    let job = Job {
+        code: &start.code,
+        inputs,
+        lengths: start.lengths,
+        budget,
+    };
+    run_lean_with(alloc, &job, &start.words, delivery, tapes)
+}
+
+/// Runs a program as `run_in_net` does, and keeps what the miners told and on which links messages were delivered. In an order that the net makes
+/// itself the miners keep little: no message that was taken, and no word of a tape that was drawn.
 pub fn run_delivered<T: TapeSource>(
     alloc: Global,
     program: &TypedProgram,
@@ -154,6 +234,13 @@ pub fn run_delivered<T: TapeSource>(
     ensures { RunsFrom (T.state tapes.old) (T.state tapes.new) inputs.now result
         (λ t. IsRunOf (typed_program_tree program.now) inputs.now t budget (delivery_seen delivery.now) result) }
 {
-    let course = run_in_net(alloc, program, inputs, tapes, budget, delivery)?;
-    Ok(course.into_run())
+    match delivery {
+        Delivery::InTurn | Delivery::Shuffled(_) => {
+            run_lean(alloc, program, inputs, tapes, budget, delivery)
+        }
+        Delivery::Scheduled(_) => {
+            let course = run_in_net(alloc, program, inputs, tapes, budget, delivery)?;
+            Ok(course.into_run())
+        }
+    }
 }

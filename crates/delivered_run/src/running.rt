@@ -2,22 +2,26 @@
 ghost use Rattle.std.specs.Prelude.{◌≡◌, None, IfOk};
 ghost use Rattle.outside.specs.Tapes.{TapesState};
 ghost use Rattle.value_file.specs.Input.{AreInputs};
-ghost use Rattle.link_schedule.specs.Streams.{ForEachTapes, HasLeft};
+ghost use Rattle.link_schedule.specs.Lean.{ForEachState, IsLeanNet, IsLeanNetOf};
+ghost use Rattle.link_schedule.specs.Streams.{ForEachTapes, HasLeft, StreamNet};
 ghost use Rattle.delivered_run.specs.Deliveries.{delivery_seen};
 ghost use Rattle.delivered_run.specs.Drawing.{NetGoes, NetRuns, RunsDealt};
-ghost use Rattle.delivered_run.specs.Nets.{HasTold};
+ghost use Rattle.delivered_run.specs.Lean.{run_only, AsKept};
+ghost use Rattle.delivered_run.specs.Nets.{HasTold, IsToldBy};
+ghost use Rattle.delivered_run.specs.Premises.{IsMade};
 ghost use Rattle.delivered_run.specs.Undealt.{IsFirstEntry, IsUndealt, IsUndealtBy};
 
 use crate::client::told_to_client;
 use crate::errors::CourseErr;
-use crate::net::{Setting, deliver_all, net};
+use crate::net::{Setting, deliver_all, deliver_lean, lean_net, net};
 use counted_net::{Delivery, DeliveryErr};
 use input_share::{DealErr, Dealt};
-use link_schedule::Net3;
+use link_schedule::{LeanNet, Net3};
+use miner_core::Notice;
 use outside::TapeSource;
 use program_run::{RunReport, undealt};
 use proto_core::Link;
-use sc_text::End;
+use sc_text::{End, Ending};
 use std::alloc::{AllocError, Global};
 use value_file::{Inputs, public_part};
 use verified_code::Verified;
@@ -52,20 +56,19 @@ impl NetRun {
     }
 }
 
-// What the miners of a net have told that has come to its end.
-fn reported(alloc: Global, net: &Net3) -> Result<RunReport, AllocError>
-    requires { net.now.lost ≡ None }
-    ensures { IfOk result (λ told. ForEachTapes net.now (λ n. HasTold n told)) }
+// What the client is told where the three miners have told this, and the first has ended so, at this cost.
+fn report(
+    alloc: Global,
+    first: &[Notice],
+    second: &[Notice],
+    third: &[Notice],
+    cost: u64,
+    ending: Option<Ending>,
+) -> Result<RunReport, AllocError>
+    ensures { IfOk result (IsToldBy first.now second.now third.now cost ending) }
 {
-    let first = net.miner1();
-    let events = told_to_client(
-        alloc,
-        first.notices(),
-        net.miner2().notices(),
-        net.miner3().notices(),
-    )?;
-    let cost = first.cost();
-    match first.ending() {
+    let events = told_to_client(alloc, first, second, third)?;
+    match ending {
         Some(how) => Ok(RunReport {
             events,
             end: End { how, cost },
@@ -73,6 +76,29 @@ fn reported(alloc: Global, net: &Net3) -> Result<RunReport, AllocError>
         // No run of verified code ends otherwise.
         None => Err(AllocError),
     }
+}
+
+// What the miners of a net have told that has come to its end.
+fn reported(alloc: Global, net: &Net3) -> Result<RunReport, AllocError>
+    requires { net.now.lost ≡ None }
+    ensures { IfOk result (λ told. ForEachTapes net.now (λ n. HasTold n told)) }
+{
+    let first = net.miner1();
+    let second = net.miner2().notices();
+    let third = net.miner3().notices();
+    let cost = first.cost();
+    report(alloc, first.notices(), second, third, cost, first.ending())
+}
+
+// The same of a net that keeps little.
+fn reported_lean(alloc: Global, net: &LeanNet) -> Result<RunReport, AllocError>
+    ensures { (s : StreamNet) → IsLeanNetOf net.now s → IfOk result (λ told. ForEachTapes s (λ n. HasTold n told)) }
+{
+    let first = net.miner1();
+    let second = net.miner2().notices();
+    let third = net.miner3().notices();
+    let cost = first.cost();
+    report(alloc, first.notices(), second, third, cost, first.ending())
 }
 
 /// What a run needs: the code, the inputs, how many words the four tapes have, those of the dealer and of miners 1, 2 and 3, and the budget.
@@ -103,6 +129,25 @@ fn run_net<T: TapeSource>(
     Ok(NetRun { run, net })
 }
 
+/// The same of a net that keeps little, which isn't kept.
+fn run_lean_net<T: TapeSource>(
+    alloc: Global,
+    net: LeanNet,
+    delivery: &Delivery,
+    tapes: &mut T,
+) -> Result<DeliveredRun, CourseErr>
+    requires net { IsLeanNet net (T.state tapes.old) }
+    requires made { IsMade (delivery_seen delivery.now) }
+    ensures { ForEachState net (T.state tapes.old) (λ s.
+        AsKept run_only (NetGoes (T.state tapes.old) (T.state tapes.new) (delivery_seen delivery.now) s) result) }
+{
+    let mut net = net;
+    deliver_lean(&mut net, delivery, tapes)?;
+    let report = reported_lean(alloc, &net)?;
+    let delivered = Vec::from_slice(alloc, net.recorded())?;
+    Ok(DeliveredRun { report, delivered })
+}
+
 /// Three miners run the code on their shares, and draw their tapes.
 pub(crate) fn run_dealt<T: TapeSource>(
     alloc: Global,
@@ -123,6 +168,30 @@ pub(crate) fn run_dealt<T: TapeSource>(
     };
     let net = net(alloc, &setting, files, tapes)?;
     run_net(alloc, net, delivery, tapes)
+}
+
+/// The same with miners that keep little, in an order that their net makes itself.
+pub(crate) fn run_dealt_lean<T: TapeSource>(
+    alloc: Global,
+    job: &Job<'_>,
+    files: &Dealt,
+    delivery: &Delivery,
+    tapes: &mut T,
+) -> Result<DeliveredRun, CourseErr>
+    requires inputs { AreInputs job.now.inputs.now }
+    requires made { IsMade (delivery_seen delivery.now) }
+    ensures { AsKept run_only
+        (λ r. NetRuns (T.state tapes.old) (T.state tapes.new) r (RunsDealt job.now files.now (delivery_seen delivery.now) r)) result }
+{
+    let part = public_part(alloc, job.inputs)?;
+    let setting = Setting {
+        code: job.code,
+        part: &part,
+        lengths: job.lengths,
+        budget: job.budget,
+    };
+    let net = lean_net(alloc, &setting, files, tapes)?;
+    run_lean_net(alloc, net, delivery, tapes)
 }
 
 // The first link of a schedule.

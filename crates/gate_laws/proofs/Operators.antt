@@ -9,10 +9,10 @@ use Rattle.gates.specs.declared.gate.Gate.TheVariants as gates
 use Rattle.gates.specs.Clear.{each_two}
 use Rattle.gates.specs.Counts.{Miner, Miner1, Miner2, Miner3}
 use Rattle.gates.specs.WordTests.{zero_test, less_test}
-use Rattle.equality.specs.Plan.{eq_plan}
-use Rattle.equality.specs.Law as equality
-use Rattle.compare.specs.Plan.{less_plan}
-use Rattle.compare.specs.Law as compare
+use Rattle.plans.specs.Equality.{eq_plan}
+use Rattle.plans.specs.EqualityLaw as equality
+use Rattle.plans.specs.Compare.{less_plan}
+use Rattle.plans.specs.CompareLaw as compare
 use Rattle.shared_plans.specs.Plans.{zero_test_kinds, comparison_kinds}
 use Rattle.typed_tree.specs.declared.operators.WordOperator.{WordOperator}
 use Rattle.typed_tree.specs.declared.operators.WordOperator.TheVariants as word

@@ -3,15 +3,15 @@ use Rattle.std.proofs.Common.{◌≡◌, ℕ, Some, List, length, map, refl, ap,
 use Rattle.gates.specs.declared.ring_kind.RingKind.TheVariants.{Arithmetic, Boolean}
 use Rattle.gates.specs.Clear.{value, each_two}
 use Rattle.gates.specs.WordTests.{zero_test, less_test}
-use Rattle.equality.specs.Plan.{eq_plan}
-use Rattle.equality.specs.Law as equality
-use Rattle.equality.proofs.Laws as equality_laws
-use Rattle.bit_extract.specs.Plan.{bits_plan}
-use Rattle.bit_extract.specs.Law as bits
-use Rattle.bit_extract.proofs.Laws as bits_laws
-use Rattle.compare.specs.Plan.{less_plan}
-use Rattle.compare.specs.Law as compare
-use Rattle.compare.proofs.Laws as compare_laws
+use Rattle.plans.specs.Equality.{eq_plan}
+use Rattle.plans.specs.EqualityLaw as equality
+use Rattle.plans.proofs.EqualityLaws as equality_laws
+use Rattle.plans.specs.BitExtract.{bits_plan}
+use Rattle.plans.specs.BitExtractLaw as bits
+use Rattle.plans.proofs.BitExtractLaws as bits_laws
+use Rattle.plans.specs.Compare.{less_plan}
+use Rattle.plans.specs.CompareLaw as compare
+use Rattle.plans.proofs.CompareLaws as compare_laws
 use Rattle.shared_plans.specs.GateRuns.{GateRun, IsWellFormed, value_count, IsNumber}
 use Rattle.shared_plans.specs.Plans.{zero_test_kinds, bits_kinds, comparison_kinds}
 use Rattle.shared_plans.proofs.PlansOnShares.{zero-test-follows, bits-follow, comparison-follows}

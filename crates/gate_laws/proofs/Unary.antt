@@ -17,10 +17,10 @@ use Rattle.gates.specs.declared.gate.Gate.TheVariants as gates
 use Rattle.gates.specs.Clear.{bits_of}
 use Rattle.gates.specs.Counts.{Miner, Miner1, Miner2, Miner3, words_of_conversion}
 use Rattle.gates.specs.WordTests.{zero_test}
-use Rattle.equality.specs.Plan.{eq_plan}
-use Rattle.equality.specs.Law as equality
-use Rattle.bit_extract.specs.Plan.{bits_plan}
-use Rattle.bit_extract.specs.Law as bits
+use Rattle.plans.specs.Equality.{eq_plan}
+use Rattle.plans.specs.EqualityLaw as equality
+use Rattle.plans.specs.BitExtract.{bits_plan}
+use Rattle.plans.specs.BitExtractLaw as bits
 use Rattle.shared_plans.specs.Plans.{zero_test_kinds, bits_kinds}
 use Rattle.typed_tree.specs.declared.operators.Cast.{Cast}
 use Rattle.typed_tree.specs.declared.operators.Cast.TheVariants.{WordToWord, WordToBool, BoolToWord, BoolToBool}

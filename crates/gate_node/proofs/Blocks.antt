@@ -17,9 +17,9 @@ use Rattle.gates.specs.declared.gate.Gate.TheVariants.{Mul, And, Split, Conv, Op
 use Rattle.gates.specs.Counts.{size_of}
 use Rattle.gates.specs.Clear.{Values, value}
 use Rattle.blocked_protocol.specs.Blocked.{joined, emptied, no_elements, blocks_strand, Blockable}
-use Rattle.shared_gates.specs.LocalGates.{local_share, IsLocal}
-use Rattle.shared_gates.specs.Model.{SizesSuit}
-use Rattle.shared_gates.proofs.Models.{nth_value-value, size-value}
+use Rattle.joint_run.specs.LocalGates.{local_share, IsLocal}
+use Rattle.joint_run.specs.Model.{SizesSuit}
+use Rattle.joint_run.proofs.Models.{nth_value-value, size-value}
 use Rattle.joint_run.specs.declared.exchange.Exchange.{Exchange}
 use Rattle.joint_run.specs.declared.exchange.Exchange.TheVariants.{Product, Splitting, Conversion, Opening, Resharing}
 use Rattle.joint_run.specs.declared.exchanged.Exchanged.{Exchanged}

@@ -7,13 +7,10 @@ use Rattle.proto_core.specs.declared.party.Number.{Number}
 use Rattle.gates.specs.Clear.{Values, value}
 use Rattle.gates.specs.Held.{kept_only}
 use Rattle.gates.proofs.Held.{kept_length, kept_value}
-use Rattle.gate_node.specs.declared.engine.Work.TheVariants as work
 use Rattle.gate_node.specs.declared.engine.Engine.{Engine}
 use Rattle.gate_node.specs.OwnGates.{own_gates}
-use Rattle.gate_node.specs.Nodes.{work_left, filled, ComesTo}
-
-abbrev pub IsDone : {P : Type 0} → Engine P → Type 0
-IsDone e = (e.work ≡ work.Idle) × (length e.gates.items ≤ e.begun)
+use Rattle.gate_node.specs.Nodes.{work_left, filled, ComesTo, IsDone}
+use Rattle.gate_node.proofs.Plans.{all-left}
 
 module _
     {P : Type 0} (i : Number) (e f : Engine P) (same : f ≡ record e { values = f.values })
@@ -27,19 +24,20 @@ module _
           subst (λ v. ComesTo i v.values v more) (sym all) through
       by (inr done) =
           subst (λ v. ComesTo i v.values v more) (sym same)
-          (ap (work_left i (filled (record e { values = f.values }) more)) done.0
-          ∙ ap (λ l. own_gates i e.dealt l f.values (e.tape.1 ++ more)) (drop_all e.begun e.gates.items done.1))
+          (all-left i (filled (record e { values = f.values }) more) done.all
+          ∙ ap (work_left i (filled (record e { values = f.values }) more)) done.idle
+          ∙ ap (λ l. own_gates i e.dealt l f.values (e.tape.1 ++ more)) (drop_all e.begun e.gates.items done.through))
 
 module _
     {P : Type 0} (numbers : BTreeSet ℕ) (e : Engine P) (after : Values)
-    (go : e.work ≡ work.Idle → length e.gates.items ≤ e.begun → after ≡ kept_only numbers e.values)
+    (go : IsDone e → after ≡ kept_only numbers e.values)
     (then : (after ≡ e.values) ⊎ IsDone e) where
   pub as_many_still : length after ≡ length e.values
   as_many_still = by then
     where
       by : (after ≡ e.values) ⊎ IsDone e → length after ≡ length e.values
       by (inl is) = ap length is
-      by (inr done) = ap length (go done.0 done.1) ∙ kept_length numbers 0 e.values
+      by (inr done) = ap length (go done) ∙ kept_length numbers 0 e.values
 
   pub kept_still : (k : ℕ) → contains nat_cmp numbers k ≡ true → value after k ≡ value e.values k
   kept_still k h = by then
@@ -48,4 +46,4 @@ module _
       by (inl is) = ap (λ v. value v k) is
       by (inr done) =
           let here : 0 + k ≡ k = omega arith in
-          ap (λ v. value v k) (go done.0 done.1) ∙ kept_value numbers 0 e.values k (ap (contains nat_cmp numbers) here ∙ h)
+          ap (λ v. value v k) (go done) ∙ kept_value numbers 0 e.values k (ap (contains nat_cmp numbers) here ∙ h)

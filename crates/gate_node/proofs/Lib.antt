@@ -8,3 +8,6 @@ pub mod Turns
 pub mod LettingGo
 pub mod Storing
 pub mod Supplied
+pub mod Holding
+pub mod OneGate
+pub mod Plans

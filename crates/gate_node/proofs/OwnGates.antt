@@ -16,9 +16,9 @@ use Rattle.gates.specs.declared.gate.Gate.TheVariants.{Mul, And, Split, Conv, Op
 use Rattle.gates.specs.Counts.{size_of}
 use Rattle.gates.specs.Clear.{Values}
 use Rattle.blocked_protocol.specs.Blocked.{blocked, blocks_strand}
-use Rattle.shared_gates.specs.LocalGates.{local_share}
-use Rattle.shared_gates.specs.Model.{sizes_made, SizesSuit, AllSizesSuit, run_gate, run_gates}
-use Rattle.shared_gates.proofs.Models.{local-size}
+use Rattle.joint_run.specs.LocalGates.{local_share}
+use Rattle.joint_run.specs.Model.{sizes_made, SizesSuit, AllSizesSuit, run_gate, run_gates}
+use Rattle.joint_run.proofs.Models.{local-size}
 use Rattle.joint_run.specs.declared.exchange.Exchange.{Exchange}
 use Rattle.joint_run.specs.declared.exchange.Exchange.TheVariants.{Product, Splitting, Conversion, Opening, Resharing}
 use Rattle.joint_run.specs.Exchanges.{protocol_of}

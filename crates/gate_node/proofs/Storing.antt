@@ -8,23 +8,25 @@ use Rattle.protocol_model.specs.Gates.{sizes_of}
 use Rattle.gates.specs.declared.gate.Gate.{Gate}
 use Rattle.gates.specs.declared.gate.Gate.TheVariants.{Put}
 use Rattle.gates.specs.Clear.{Values, value, first_word}
-use Rattle.shared_gates.specs.Model.{SizesSuit}
-use Rattle.shared_gates.proofs.Models.{size-value}
+use Rattle.joint_run.specs.Model.{SizesSuit}
+use Rattle.joint_run.proofs.Models.{size-value}
 use Rattle.gate_node.specs.declared.engine.Work.TheVariants as work
+use Rattle.gate_node.specs.declared.wanted.Wanted.TheVariants as wanted
 use Rattle.gate_node.specs.declared.engine.Engine.{Engine}
 use Rattle.gate_node.specs.OwnGates.{Whole, own_gates}
 use Rattle.gate_node.specs.Nodes.{work_left, filled, StoresLast, HasStored, IsAhead}
 use Rattle.gate_node.proofs.Blocks.{drop-front, gate-alone, alone-can}
+use Rattle.gate_node.proofs.Plans.{all-left}
 
 module _ {P : Type 0} (i : Number) (e : Engine P) (array index v : ℕ) where
   abbrev store : Gate
   store = Put array index v
 
   pub stores-last :
-      (word : ℕ) (b : Bool) → e.work ≡ work.Idle → e.begun + 1 ≡ length e.gates.items → get_or e.gates.items e.begun store ≡ store →
+      (word : ℕ) (b : Bool) → e.work ≡ work.Idle → e.wanted ≡ wanted.All → e.begun + 1 ≡ length e.gates.items → get_or e.gates.items e.begun store ≡ store →
       IsTrue b ↔ SizesSuit (sizes_of e.dealt) (sizes_of e.values) store → b ≡ true → word ≡ first_word (value e.values v) →
       StoresLast i array index word e
-  stores-last word b idle last is tells told has =
+  stores-last word b idle all last is tells told has =
       let suit : SizesSuit (sizes_of e.dealt) (sizes_of e.values) store = tells.0 told in
       let some : e.begun < length e.gates.items = omega (arith, last) in
       let none : length e.gates.items ≤ e.begun + 1 = omega (arith, last) in
@@ -33,9 +35,11 @@ module _ {P : Type 0} (i : Number) (e : Engine P) (array index v : ℕ) where
       record {
         idle = idle;
         last = last;
+        all = all;
         left =
             λ more.
-            ap (work_left i (filled e more)) idle
+            all-left i (filled e more) all
+            ∙ ap (work_left i (filled e more)) idle
             ∙ ap (λ l. own_gates i e.dealt l e.values (e.tape.1 ++ more))
             (drop-front e.begun e.gates.items store some is ∙ ap (λ l. store ∷ l) (drop_all (e.begun + 1) e.gates.items none))
             ∙ gate-alone i e.dealt e.values (e.tape.1 ++ more) store [] (alone-can i e.dealt e.values (e.tape.1 ++ more) store b tells told tt) tt
@@ -61,7 +65,8 @@ module _ {P : Type 0} (i : Number) (array index word count : ℕ) (e : Engine P)
         stored = λ more. record {
           came = h.left more;
           left =
-              ap (work_left i (filled after more)) h.idle
+              all-left i (filled after more) h.all
+              ∙ ap (work_left i (filled after more)) h.idle
               ∙ ap (λ l. own_gates i e.dealt l values (e.tape.1 ++ more)) (drop_all begun e.gates.items none);
           let_go = is ∙ sym (set-append_left e.values (new ∷ []) array [] h.there);
           earlier = omega (arith, grown, h.there);

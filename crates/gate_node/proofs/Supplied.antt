@@ -1,5 +1,6 @@
 -- Words that are supplied little by little, and where none come any more.
-use Rattle.std.proofs.Common.{◌≡◌, List, [], ◌++◌, ℕ, ◌+◌, ◌-◌, ◌<◌, ◌∷◌, false, drop, length, length-append, length-drop, append_assoc, sym, ◌∙◌, ap, subst, arith}
+use Rattle.std.proofs.Common.{◌≡◌, List, [], ◌++◌, ℕ, ◌+◌, ◌-◌, ◌<◌, ◌∷◌, false, drop, length, length-append}
+use Rattle.std.proofs.Common.{length-drop, append_assoc, sym, ◌∙◌, ap, subst, arith}
 use Rattle.std.proofs.lemmas.Bool.{lt-leb}
 use Rattle.std.proofs.Math.Seq.{drop-append_seam}
 use Rattle.proto_core.specs.declared.party.Number.{Number}
@@ -11,8 +12,11 @@ use Rattle.gate_node.specs.declared.engine.Engine.{Engine}
 use Rattle.gate_node.specs.declared.stand.Stand.{Stand}
 use Rattle.gate_node.specs.declared.stand.Stand.TheVariants as stand
 use Rattle.gate_node.specs.OwnGates.{Whole, Stuck, own_gates}
-use Rattle.gate_node.specs.Nodes.{engine_left, engine_outcome, EngineStands, StandsWith, StandsAlways, settled, gates_left, work_left, first_can_run, ComesTo, DoesTheSame, HasTheSameLeft, filled, IsTapeOf, with_tape}
+use Rattle.gate_node.specs.Nodes.{engine_left, engine_outcome, EngineStands, StandsWith, StandsAlways, settled, gates_left, left_at, first_can_run}
+use Rattle.gate_node.specs.Nodes.{ComesTo, DoesTheSame, HasTheSameLeft, filled, IsTapeOf, with_tape}
+use Rattle.gate_node.specs.Plans.{then_wanted}
 use Rattle.gate_node.proofs.Blocks.{gate-stuck}
+use Rattle.gate_node.proofs.Plans.{wanted-stuck}
 
 module _ {P : Type 0} (e : Engine P) where
   pub filled-none : filled e [] ≡ e
@@ -34,7 +38,9 @@ module _ {P : Type 0} (e : Engine P) where
     -- where it wants words, with fewer it is stuck
     pub wants-fewer : (count : ℕ) (more : List ℕ) → StandsWith i (stand.Wants count) e more → length more < count → engine_left i (filled e more) ≡ Ends Stuck
     wants-fewer count more h fewer =
-        ap (work_left i (filled e more)) h.idle ∙ own-stuck (e.tape.1 ++ more) (gates_left i e) (h.exactly ∙ lt-leb _ _ fewer)
+        ap (left_at i (filled e more)) h.idle
+        ∙ ap (then_wanted i e.dealt e.wanted) (own-stuck (e.tape.1 ++ more) (gates_left i e) (h.exactly ∙ lt-leb _ _ fewer))
+        ∙ wanted-stuck i e.dealt e.wanted
 
     pub stands-here : (at : Stand) → StandsAlways i at e → EngineStands i (settled at) e
     stands-here stand.Through h = subst (EngineStands i stand.Through) filled-none (h [])

@@ -1,6 +1,7 @@
 -- Words that were drawn, and those that are left.
 use Rattle.std.proofs.Common.{◌≡◌, ℕ, ◌+◌, ◌≤◌, List, ◌++◌, take, drop, length, length-drop, sym, arith}
-use Rattle.std.proofs.lemmas.List.{drop-drop, drop-append-le, take-append-le, length-append}
+use Rattle.std.proofs.lemmas.List.{drop-drop, drop-append-le, drop_all, take-append-le, length-append}
+use Rattle.block_steps.proofs.Inboxes.{lets_go, lets_none_go}
 
 pub drop-more : (n drawn : ℕ) (xs : List ℕ) → drop (drawn + n) xs ≡ drop n (drop drawn xs)
 drop-more n drawn xs = sym (drop-drop n drawn xs)
@@ -13,3 +14,5 @@ pub further : (n : ℕ) (xs more : List ℕ) → n ≤ length xs → n ≤ lengt
 further n xs more h = let l : length (xs ++ more) ≡ length xs + length more = length-append xs more in omega (arith, l, h)
 
 pub ruleset tape_steps = (drop-more, length-drop, drop-append-le)
+
+pub ruleset letting_go = (lets_go, lets_none_go, drop_all)

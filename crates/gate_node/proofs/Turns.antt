@@ -1,6 +1,6 @@
 -- One step of a block changes nothing of what a miner has done and will do.
-use Rattle.std.proofs.Common.{◌≡◌, ℕ, ◌+◌, ◌-◌, ◌<◌, ◌≤◌, min, true, get_or, List, [], ◌∷◌, ◌++◌, length, take, drop, refl, sym, ◌∙◌, ap, subst, arith, length-drop, Option}
-use Rattle.std.proofs.Common.{Some, None, Vec, Global, ◌⊎◌, inl, inr}
+use Rattle.std.proofs.Common.{◌≡◌, ℕ, ◌+◌, ◌-◌, ◌<◌, ◌≤◌, min, true, get_or, List, [], ◌∷◌, ◌++◌, length, take, drop, refl, sym, ◌∙◌, ap, subst, arith}
+use Rattle.std.proofs.Common.{length-drop, Option, Some, None, Vec, Global, ◌⊎◌, inl, inr}
 use Rattle.std.proofs.lemmas.List.{length-take-le, drop-append-le}
 use Rattle.proto_core.specs.declared.party.Number.{Number}
 use Rattle.proto_core.specs.declared.refused.BadMessage.{BadMessage}
@@ -9,7 +9,7 @@ use Rattle.gates.specs.Blocks.{block_sizes}
 use Rattle.gates.specs.declared.gate.Gate.{Gate}
 use Rattle.gates.specs.Clear.{Values, value}
 use Rattle.blocked_protocol.specs.Blocked.{joined, blocks_strand}
-use Rattle.shared_gates.specs.LocalGates.{local_share, IsLocal}
+use Rattle.joint_run.specs.LocalGates.{local_share, IsLocal}
 use Rattle.joint_run.specs.declared.exchange.Exchange.{Exchange}
 use Rattle.joint_run.specs.Exchanges.{protocol_of}
 use Rattle.joint_run.specs.Steps.{second_value}
@@ -26,7 +26,8 @@ use Rattle.gate_node.specs.declared.engine.Work.TheVariants as work
 use Rattle.gate_node.specs.declared.engine.Engine.{Engine}
 use Rattle.gate_node.specs.OwnGates.{Halted, can_run, own_gates, then_gates}
 use Rattle.gate_node.specs.Shares.{shares_of}
-use Rattle.gate_node.specs.Nodes.{blocks_then, protocol_at, size_at, gates_left, running_left, work_left, engine_left, engine_outcome, filled}
+use Rattle.gate_node.specs.Nodes.{blocks_then, protocol_at, size_at, gates_left, running_left, work_left, left_at, engine_left, engine_outcome, filled}
+use Rattle.gate_node.specs.Plans.{then_wanted}
 use Rattle.gate_node.specs.Nodes.{IsSoundWork}
 use Rattle.gate_node.proofs.Always.{then-all, then-assoc}
 use Rattle.gate_node.proofs.OwnGates.{run-behind}
@@ -77,7 +78,8 @@ module _ (i : Number) (x : Exchange) (from size : ℕ) (u v tape : List ℕ) (ma
 module _ (i : Number) (x : Exchange) (from size : ℕ) (u v tape : List ℕ) (made : List (List ℕ)) (go : List (List ℕ) → List ℕ → Strand Halted) where
   pub next-turn :
       (a b : Links) (s : Strand (List (List ℕ))) (tape2 w w2 t : List ℕ) (f n count : ℕ) →
-      w ≡ u → w2 ≡ v → take count t ≡ take count tape → f ≡ (protocol_of x).second from → n ≡ (protocol_of x).second size → count ≡ (protocol_of x).draws size i →
+      w ≡ u → w2 ≡ v → take count t ≡ take count tape → f ≡ (protocol_of x).second from → n ≡ (protocol_of x).second size →
+      count ≡ (protocol_of x).draws size i →
       tape2 ≡ drop count tape → from < length w → size ≡ min (length w - from) 512 → (protocol_of x).draws (length u - from) i ≤ length tape →
       outcome_of i b s
       ≡ outcome_of i a ((protocol_of x).strand (length (take ((from + size) - from) (drop from w))) i (take ((from + size) - from) (drop from w))
@@ -128,8 +130,8 @@ begun-left left to state (inr is) = ap (progress_left left) is
 -- ---- what is put to work
 
 module _ {P : Type 0} (i : Number) (e : Engine P) (w : Work P) (is : e.work ≡ w) where
-  pub put-to-work : engine_outcome i e ≡ outcome_of i e.links (work_left i e w)
-  put-to-work = ap (λ v. outcome_of i e.links (work_left i e v)) is
+  pub put-to-work : engine_outcome i e ≡ outcome_of i e.links (left_at i e w)
+  put-to-work = ap (λ v. outcome_of i e.links (left_at i e v)) is
 
   pub sound-work : IsSoundWork i e w → IsSoundWork i e e.work
   sound-work = subst (IsSoundWork i e) (sym is)
@@ -142,11 +144,12 @@ pub runs-alone :
     engine_left i (filled (record e { values = values; begun = e.begun + 1 }) more) ≡ engine_left i (filled e more)
 runs-alone i e gate values idle some is can local made more =
     let rest = drop (e.begun + 1) e.gates.items in
-    ap (work_left i (filled (record e { values = values; begun = e.begun + 1 }) more)) idle
+    ap (then_wanted i e.dealt e.wanted)
+    (ap (work_left i (filled (record e { values = values; begun = e.begun + 1 }) more)) idle
     ∙ ap (λ v. own_gates i e.dealt rest v (e.tape.1 ++ more)) made
     ∙ sym (ap (work_left i (filled e more)) idle
     ∙ ap (λ l. own_gates i e.dealt l e.values (e.tape.1 ++ more)) (drop-front e.begun e.gates.items gate some is)
-    ∙ gate-alone i e.dealt e.values (e.tape.1 ++ more) gate rest (can-more i e.dealt e.values e.tape.1 gate can more) local)
+    ∙ gate-alone i e.dealt e.values (e.tape.1 ++ more) gate rest (can-more i e.dealt e.values e.tape.1 gate can more) local))
 
 -- ---- gates are added
 
@@ -198,7 +201,9 @@ module _ {P : Type 0} (i : Number) (e f : Engine P) (same : f.gates.items ≡ e.
 
 -- gates that have begun are let go
 module _ {P : Type 0} (i : Number) (e : Engine P) (f : Engine P) (same : drop f.begun f.gates.items ≡ drop e.begun e.gates.items) where
-  work-kept : (t : List ℕ × List ℕ) (w : Work P) → work_left i (record e { gates = f.gates; begun = f.begun; tape = t }) w ≡ work_left i (record e { tape = t }) w
+  work-kept :
+      (t : List ℕ × List ℕ) (w : Work P) →
+      work_left i (record e { gates = f.gates; begun = f.begun; tape = t }) w ≡ work_left i (record e { tape = t }) w
   work-kept t work.Idle = ap (λ l. own_gates i e.dealt l e.values t.1) same
   work-kept t (work.Between r) =
       ap (λ l.
@@ -214,4 +219,5 @@ module _ {P : Type 0} (i : Number) (e : Engine P) (f : Engine P) (same : drop f.
 
   pub engine-kept : f ≡ record e { gates = f.gates; begun = f.begun } → (more : List ℕ) → engine_left i (filled f more) ≡ engine_left i (filled e more)
   engine-kept is more =
-      subst (λ v. engine_left i (filled v more) ≡ engine_left i (filled e more)) (sym is) (work-kept (e.tape.0 ++ more, e.tape.1 ++ more) e.work)
+      subst (λ v. engine_left i (filled v more) ≡ engine_left i (filled e more)) (sym is)
+      (ap (then_wanted i e.dealt e.wanted) (work-kept (e.tape.0 ++ more, e.tape.1 ++ more) e.work))

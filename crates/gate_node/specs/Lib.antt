@@ -2,4 +2,5 @@ pub mod Suiting
 pub mod OwnGates
 pub mod Laws
 pub mod Shares
+pub mod Plans
 pub mod Nodes

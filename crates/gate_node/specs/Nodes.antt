@@ -3,14 +3,16 @@
 -- Of its tape it has the words that were supplied. What it does is the same whatever words come behind them, so all that is said of what it does
 -- is said with any further words.
 use Rattle.std.specs.Prelude.{◌≡◌, ℕ, ◌+◌, ◌-◌, ◌*◌, ◌<◌, ◌≤◌, Bool, true, false, nat_le, List, [], ◌∷◌, ◌++◌, length, take, drop, set}
+use Rattle.std.specs.BTreeSet.{BTreeSet}
 use Rattle.proto_core.specs.declared.party.Number.{Number}
 use Rattle.proto_core.specs.Protocol.{Protocol}
 use Rattle.proto_core.specs.Strand.{Strand, Ends, then_do}
 use Rattle.gates.specs.Blocks.{block_sizes}
 use Rattle.gates.specs.declared.gate.Gate.{Gate}
 use Rattle.gates.specs.Clear.{Values, value}
+use Rattle.gates.specs.Counts.{made_by_all}
 use Rattle.blocked_protocol.specs.Blocked.{joined, blocks_strand}
-use Rattle.shared_gates.specs.LocalGates.{IsLocal}
+use Rattle.joint_run.specs.LocalGates.{IsLocal}
 use Rattle.joint_run.specs.Exchanges.{protocol_of}
 use Rattle.joint_run.specs.Steps.{IsExchanged, second_value}
 use Rattle.block_steps.specs.Outcomes.{Outcome, outcome_of, waiting, Holds, StandsAt, AwaitsOn}
@@ -22,9 +24,11 @@ use Rattle.gate_node.specs.declared.running.Running.{Running}
 use Rattle.gate_node.specs.declared.engine.Work.{Work}
 use Rattle.gate_node.specs.declared.engine.Work.TheVariants as work
 use Rattle.gate_node.specs.declared.engine.Engine.{Engine}
+use Rattle.gate_node.specs.declared.wanted.Wanted.TheVariants as wanted
 use Rattle.gate_node.specs.declared.stand.Stand.{Stand}
 use Rattle.gate_node.specs.declared.stand.Stand.TheVariants as stand
 use Rattle.gate_node.specs.OwnGates.{Halted, Whole, Stuck, can_run, own_gates}
+use Rattle.gate_node.specs.Plans.{with_these, then_wanted, later_count, IsUnwanted, any_takes}
 
 -- ---- how a gate begins
 
@@ -91,8 +95,16 @@ module _ {P : Type 0} (i : Number) where
   work_left e (work.Within r block) = then_do (pending_left i block) (λ here. running_left e r (joined r.made here))
   work_left e work.Halt = Ends Stuck
 
+  -- and behind the gates, where they are at this
+  abbrev pub left_at : Engine P → Work P → Strand Halted
+  left_at e w = then_wanted i e.dealt e.wanted (work_left e w)
+
   abbrev pub engine_left : Engine P → Strand Halted
-  engine_left e = work_left e e.work
+  engine_left e = left_at e e.work
+
+  -- how many gates have not begun, also of those behind a plan, and the plan's end
+  abbrev pub to_come : Engine P → ℕ
+  to_come e = length (gates_left e) + later_count e.wanted
 
   -- what it has done, and what it does with the messages that it has
   abbrev pub engine_outcome : Engine P → Outcome Halted
@@ -108,6 +120,22 @@ module _ {P : Type 0} (i : Number) where
   -- it comes to these values, with no message
   abbrev pub ComesTo : Values → Engine P → (more : List ℕ) → Type 0
   ComesTo values e more = engine_left (filled e more) ≡ Ends (Whole values (e.tape.1 ++ more))
+
+  -- ---- plans
+
+  -- a value that isn't wanted, and that no gate takes which is left
+  pub record IsSpent (k : ℕ) (e : Engine P) : Type 0 where
+    pub unwanted : IsUnwanted k e.wanted
+    pub untaken : any_takes k (gates_left e) ≡ false
+
+  -- with those of its gates that are left there are so many values, and behind them the values of these numbers alone are wanted from then on
+  pub record IsPlanOf (numbers : BTreeSet ℕ) (count : ℕ) (before after : Engine P) : Type 0 where
+    pub gates : (more : List ℕ) → engine_left (filled before more) ≡ own_gates i before.dealt (gates_left before) before.values (before.tape.1 ++ more)
+    pub counted : length before.values + made_by_all (gates_left before) ≡ count
+    pub left : (more : List ℕ) → engine_left (filled after more) ≡ then_do (engine_left (filled before more)) (λ h. Ends (with_these numbers h))
+    pub links : after.links ≡ before.links
+    pub dealt : after.dealt ≡ before.dealt
+    pub tape : after.tape ≡ before.tape
 
   -- ---- what holds of it
 
@@ -149,6 +177,12 @@ module _ {P : Type 0} (i : Number) where
   RunStands stand.Through e = e.work ≡ work.Idle
   RunStands s e = StandsAlways s e
 
+-- no gate is at work, none is left, and all values are wanted
+pub record IsDone {P : Type 0} (e : Engine P) : Type 0 where
+  pub idle : e.work ≡ work.Idle
+  pub through : length e.gates.items ≤ e.begun
+  pub all : e.wanted ≡ wanted.All
+
 -- the same is left to do, and no message was taken or sent
 pub record IsAhead {P : Type 0} (i : Number) (before after : Engine P) : Type 0 where
   pub left : HasTheSameLeft i before after
@@ -160,6 +194,7 @@ pub record IsAhead {P : Type 0} (i : Number) (before after : Engine P) : Type 0 
 pub record StoresLast {P : Type 0} (i : Number) (array index word : ℕ) (e : Engine P) : Type 0 where
   pub idle : e.work ≡ work.Idle
   pub last : e.begun + 1 ≡ length e.gates.items
+  pub all : e.wanted ≡ wanted.All
   pub left : (more : List ℕ) → ComesTo i (e.values ++ set (value e.values array) index word ∷ []) e more
   pub there : array < length e.values
   pub within : index < length (value e.values array)
@@ -199,6 +234,7 @@ pub record KeepsGates {P : Type 0} (before after : Engine P) : Type 0 where
   pub kept : Keeps before after
   pub gates : after.gates.items ≡ before.gates.items
   pub begun : after.begun ≡ before.begun
+  pub wanted : after.wanted ≡ before.wanted
 
 -- all is as before but the gates
 pub record IsSameButGates {P : Type 0} (before after : Engine P) : Type 0 where

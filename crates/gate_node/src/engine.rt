@@ -1,15 +1,19 @@
 // A miner's gates, block by block.
-ghost use Rattle.std.specs.Prelude.{◌≡◌, ◌≢◌, ◌+◌, ◌≤◌, ◌<◌, ◌⊎◌, ℕ, List, length, true, false, None, IfSome, IfOk, OnOk};
+ghost use Rattle.std.specs.Prelude.{◌≡◌, ◌≢◌, ◌+◌, ◌≤◌, ◌<◌, ◌⊎◌, ℕ, List, length, true, false, None, IfSome, IfOk, OnOk, OnErr};
+ghost use Rattle.proto_core.specs.Strand.{then_do};
 ghost use Rattle.gates.specs.Held.{kept_only};
 ghost use Rattle.block_steps.specs.Outcomes.{outcome_of};
-ghost use Rattle.gate_node.specs.Nodes.{gates_left, work_left, engine_outcome, IsSoundRun, IsSound, StandsAlways, RunStands, Keeps, KeepsGates, measure};
-ghost use Rattle.gate_node.specs.Nodes.{StoresLast, HasStored, IsAhead, DoesTheSame, filled};
+ghost use Rattle.gate_node.specs.OwnGates.{then_gates};
+ghost use Rattle.gate_node.specs.Nodes.{gates_left, left_at, to_come, engine_left, engine_outcome};
+ghost use Rattle.gate_node.specs.Nodes.{IsSoundRun, IsSound, StandsAlways, RunStands, Keeps, KeepsGates, measure};
+ghost use Rattle.gate_node.specs.Nodes.{StoresLast, HasStored, IsAhead, IsDone, HasTheSameLeft, DoesTheSame, filled};
 
 use crate::beginning::{Beginning, begins};
 use crate::made::Made;
 use crate::running::Running;
 use crate::stand::Stand;
 use crate::tape::Tape;
+use crate::wanted::Wanted;
 use block_steps::{Links, Pending, Progress, begin};
 use gates::{BLOCK_LEN, Gate, Values};
 use joint_run::{local_share, second_value, suits};
@@ -38,7 +42,7 @@ struct Store {
     word: u64,
 }
 
-/// A miner's shares, its tape, its gates, of which so many have begun, what it is at, and its links.
+/// A miner's shares, its tape, its gates, of which so many have begun, what it is at, which values are wanted, and its links.
 #[derive(Drop)]
 pub(crate) struct Engine<P: Party> {
     pub alloc: Global,
@@ -48,12 +52,13 @@ pub(crate) struct Engine<P: Party> {
     pub gates: Vec<Gate>,
     pub begun: usize,
     pub work: Work<P>,
+    pub wanted: Wanted,
     pub links: Links,
 }
 
 impl<P: Party> Engine<P> {
     /// Once all its gates have begun, they are let go.
-    pub fn let_go_gates(&mut self)
+    fn let_go_gates(&mut self)
         requires within { self.old.begun ≤ length self.old.gates.items }
         ensures left { gates_left P.me self.new ≡ gates_left P.me self.old }
         ensures same { self.new ≡ record self.old { gates = self.new.gates; begun = self.new.begun } }
@@ -65,13 +70,35 @@ impl<P: Party> Engine<P> {
         }
     }
 
-    /// Lets go the shares of all values but those of these numbers, where no gate is at work and none is left.
-    pub fn keep_only(&mut self, numbers: &BTreeSet<u64>)
-        ensures let_go { self.old.work ≡ Work.Idle → length self.old.gates.items ≤ self.old.begun → self.new.values ≡ kept_only numbers.now self.old.values }
-        ensures same { self.new ≡ record self.old { values = self.new.values } }
-        ensures only_then { (self.new.values ≡ self.old.values) ⊎ ((self.old.work ≡ Work.Idle) × (length self.old.gates.items ≤ self.old.begun)) }
+    /// Further gates, behind those before, and behind a plan.
+    pub fn add(&mut self, gates: Vec<Gate>) -> Result<(), AllocError>
+        requires within { self.old.begun ≤ length self.old.gates.items }
+        ensures left { OnOk result ((more : List ℕ) → engine_left P.me (filled self.new more)
+            ≡ then_do (engine_left P.me (filled self.old more)) (then_gates P.me self.old.dealt gates.items)) }
+        ensures err { OnErr result (HasTheSameLeft P.me self.old self.new) }
+        ensures same { self.new ≡ record self.old { gates = self.new.gates; begun = self.new.begun; wanted = self.new.wanted } }
+        ensures within { self.new.begun ≤ length self.new.gates.items }
     {
-        if self.is_idle() && self.begun >= self.gates.len() {
+        let mut gates = gates;
+        match &mut self.wanted {
+            Wanted::All => {}
+            Wanted::These { later, .. } => {
+                later.append(&mut gates)?;
+                return Ok(());
+            }
+        }
+        self.let_go_gates();
+        self.gates.append(&mut gates)?;
+        Ok(())
+    }
+
+    /// Lets go the shares of all values but those of these numbers, where no gate is at work, none is left, and all values are wanted.
+    pub fn keep_only(&mut self, numbers: &BTreeSet<u64>)
+        ensures let_go { IsDone self.old → self.new.values ≡ kept_only numbers.now self.old.values }
+        ensures same { self.new ≡ record self.old { values = self.new.values } }
+        ensures only_then { (self.new.values ≡ self.old.values) ⊎ IsDone self.old }
+    {
+        if self.is_idle() && self.wanted.is_all() && self.begun >= self.gates.len() {
             self.values.keep_only(numbers);
         }
     }
@@ -81,7 +108,7 @@ impl<P: Party> Engine<P> {
         requires within { self.now.begun ≤ length self.now.gates.items }
         ensures stores { IfSome result (λ s. StoresLast P.me array s.index s.word self.now) }
     {
-        if !self.is_idle() || self.gates.len() - self.begun != 1 {
+        if !self.is_idle() || !self.wanted.is_all() || self.gates.len() - self.begun != 1 {
             return None;
         }
         let gate = &self.gates[self.begun];
@@ -171,7 +198,7 @@ impl<P: Party> Engine<P> {
     }
 
     /// Whether no gate is at work. It is looked at first, since what a gate has at work is moved as often as it is gone on with.
-    fn is_idle(&self) -> bool
+    pub fn is_idle(&self) -> bool
         ensures idle { result ≡ true → self.now.work ≡ Work.Idle }
         ensures at_work { result ≡ false → self.now.work ≢ Work.Idle }
     {
@@ -186,7 +213,8 @@ impl<P: Party> Engine<P> {
         requires idle { self.old.work ≡ Work.Idle }
         requires gates { self.old.begun ≤ length self.old.gates.items }
         requires sound { IsSoundRun P.me self.old running }
-        ensures same { OnOk result ((more : List ℕ) → engine_outcome P.me (filled self.new more) ≡ outcome_of P.me self.old.links (work_left P.me (filled self.old more) (Work.Between running))) }
+        ensures same { OnOk result ((more : List ℕ) → engine_outcome P.me (filled self.new more)
+            ≡ outcome_of P.me self.old.links (left_at P.me (filled self.old more) (Work.Between running))) }
         ensures falls { OnOk result (measure self.new self.new.work < measure self.old (Work.Between running)) }
         ensures sound { IsSound P.me self.new }
         ensures kept { OnOk result (KeepsGates self.old self.new) }
@@ -232,7 +260,8 @@ impl<P: Party> Engine<P> {
         requires idle { self.old.work ≡ Work.Idle }
         requires gates { self.old.begun ≤ length self.old.gates.items }
         requires sound { IsSoundRun P.me self.old running }
-        ensures same { OnOk result ((more : List ℕ) → engine_outcome P.me (filled self.new more) ≡ outcome_of P.me self.old.links (work_left P.me (filled self.old more) (Work.Within running block))) }
+        ensures same { OnOk result ((more : List ℕ) → engine_outcome P.me (filled self.new more)
+            ≡ outcome_of P.me self.old.links (left_at P.me (filled self.old more) (Work.Within running block))) }
         ensures stands { IfOk result (λ at. IfSome at (λ at. StandsAlways P.me (Stand.Waits at.0 at.1) self.new)) }
         ensures falls { IfOk result (λ at. at ≡ None → measure self.new self.new.work < measure self.old (Work.Within running block)) }
         ensures sound { IsSound P.me self.new }
@@ -294,7 +323,7 @@ impl<P: Party> Engine<P> {
         requires sound { IsSound P.me self.old }
         ensures same { OnOk result (DoesTheSame P.me self.old self.new) }
         ensures wants { IfOk result (λ wants. IfSome wants (λ count. StandsAlways P.me (Stand.Wants count) self.new)) }
-        ensures falls { IfOk result (λ wants. wants ≡ None → length (gates_left P.me self.new) < length (gates_left P.me self.old)) }
+        ensures falls { IfOk result (λ wants. wants ≡ None → to_come P.me self.new < to_come P.me self.old) }
         ensures sound { IsSound P.me self.new }
         ensures kept { OnOk result (Keeps self.old self.new) }
     {
@@ -330,17 +359,21 @@ impl<P: Party> Engine<P> {
         Ok(None)
     }
 
-    /// The oldest gate begins that hasn't; else it is told where the miner stands: there is none, or words are wanting for it.
+    /// The oldest gate begins that hasn't, or a plan ends whose gates are through; else it is told where the miner stands: there is no gate, or
+    /// words are wanting for it.
     fn begin_gate(&mut self) -> Result<Option<Stand>, AllocError>
         requires idle { self.old.work ≡ Work.Idle }
         requires sound { IsSound P.me self.old }
         ensures same { OnOk result (DoesTheSame P.me self.old self.new) }
         ensures stands { IfOk result (λ at. IfSome at (λ stand. StandsAlways P.me stand self.new)) }
-        ensures falls { IfOk result (λ at. at ≡ None → length (gates_left P.me self.new) < length (gates_left P.me self.old)) }
+        ensures falls { IfOk result (λ at. at ≡ None → to_come P.me self.new < to_come P.me self.old) }
         ensures sound { IsSound P.me self.new }
         ensures kept { OnOk result (Keeps self.old self.new) }
     {
         if self.begun >= self.gates.len() {
+            if self.end_plan() {
+                return Ok(None);
+            }
             return Ok(Some(Stand::Through));
         }
         match self.begin_next()? {
@@ -349,7 +382,8 @@ impl<P: Party> Engine<P> {
         }
     }
 
-    /// All gates, as far as the messages and the words that were supplied lead.
+    /// All gates, as far as the messages and the words that were supplied lead. Behind each gate of a plan, what it has taken is let go where
+    /// no later one takes it.
     pub fn advance(&mut self) -> Result<Stand, AllocError>
         requires sound { IsSound P.me self.old }
         ensures same { OnOk result (DoesTheSame P.me self.old self.new) }
@@ -365,6 +399,7 @@ impl<P: Party> Engine<P> {
                     Stand::Waits(..) | Stand::Stuck | Stand::Wants(_) => return Ok(stand),
                 }
             }
+            self.let_go_operands();
             if let Some(stand) = self.begin_gate()? {
                 return Ok(stand);
             }

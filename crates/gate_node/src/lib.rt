@@ -10,9 +10,11 @@ mod engine;
 mod laws;
 mod made;
 mod node;
+mod plan;
 mod running;
 mod stand;
 mod tape;
+mod wanted;
 
 pub use laws::{gates_are_its_part_of_the_run, later_gates_are_run_behind, the_test_is_right};
 pub use node::GateNode;

@@ -4,14 +4,17 @@ ghost use Rattle.std.specs.BTreeSet.{contains};
 ghost use Rattle.gates.specs.Clear.{value};
 ghost use Rattle.gates.specs.Held.{kept_only};
 ghost use Rattle.proto_core.specs.Strand.{then_do};
+ghost use Rattle.block_steps.specs.Inboxes.{LetsGo};
 ghost use Rattle.block_steps.specs.Outcomes.{came_from_previous, came_from_next};
 ghost use Rattle.gate_node.specs.OwnGates.{then_gates};
 ghost use Rattle.gate_node.specs.Nodes.{engine_left, StandsAlways, Keeps, HasStored, IsAhead, IsSameButGates, IsSameButValues, with_links};
-ghost use Rattle.gate_node.specs.Nodes.{filled, DoesTheSame, HasTheSameLeft, ComesTo};
+ghost use Rattle.gate_node.specs.Nodes.{gates_left, filled, DoesTheSame, HasTheSameLeft, ComesTo, IsDone, IsPlanOf};
+ghost use Rattle.gate_node.specs.Plans.{is_large_plan};
 
 use crate::engine::{Engine, Work};
 use crate::stand::Stand;
 use crate::tape::Tape;
+use crate::wanted::Wanted;
 use block_steps::Links;
 use gates::{Gate, Values};
 use proto_core::{Msg, Party};
@@ -70,6 +73,7 @@ impl<P: Party> GateNode<P> {
                 gates: Vec::new(alloc),
                 begun: 0,
                 work: Work::Idle,
+                wanted: Wanted::All,
                 links: Links::new(alloc),
             },
         }
@@ -86,21 +90,19 @@ impl<P: Party> GateNode<P> {
     /// Further gates, behind those before; with no memory left nothing else is to be done than before. Gates that have begun are let go once
     /// all have.
     pub fn add(&mut self, gates: Vec<Gate>) -> Result<(), AllocError>
-        ensures left { OnOk result ((more : List ℕ) → engine_left P.me (filled self.new more) ≡ then_do (engine_left P.me (filled self.old more)) (then_gates P.me self.old.dealt gates.items)) }
+        ensures left { OnOk result ((more : List ℕ) → engine_left P.me (filled self.new more)
+            ≡ then_do (engine_left P.me (filled self.old more)) (then_gates P.me self.old.dealt gates.items)) }
         ensures err { OnErr result (HasTheSameLeft P.me self.old self.new) }
         ensures kept { IsSameButGates self.old self.new }
     {
-        let mut gates = gates;
-        self.engine.let_go_gates();
-        self.engine.gates.append(&mut gates)?;
-        Ok(())
+        self.engine.add(gates)
     }
 
-    /// Lets go its shares of all values but those of these numbers, where all gates are through: a value that was let go has no words from
-    /// then on.
+    /// Lets go its shares of all values but those of these numbers, where all gates are through and all values are wanted: a value that was let
+    /// go has no words from then on.
     pub fn keep_only(&mut self, numbers: &BTreeSet<u64>)
         ensures through { (more : List ℕ) → ComesTo P.me self.old.values self.old more → ComesTo P.me self.new.values self.new more }
-        ensures let_go { self.old.work ≡ Work.Idle → length self.old.gates.items ≤ self.old.begun → self.new.values ≡ kept_only numbers.now self.old.values }
+        ensures let_go { IsDone self.old → self.new.values ≡ kept_only numbers.now self.old.values }
         ensures as_many { length self.new.values ≡ length self.old.values }
         ensures kept { (k : ℕ) → IsTrue (contains nat_cmp numbers.now k) → value self.new.values k ≡ value self.old.values k }
         ensures same { IsSameButValues self.old self.new }
@@ -118,6 +120,25 @@ impl<P: Party> GateNode<P> {
         self.engine.store_in_place(array, count)
     }
 
+    /// Whether eight gates or more are left, of which the first takes a value of 256 words or more.
+    pub fn is_large_plan(&self) -> bool
+        ensures { result ≡ is_large_plan self.now.values (gates_left P.me self.now) }
+    {
+        self.engine.is_large_plan()
+    }
+
+    /// The gates that are left are a plan, behind which its shares of the values of these numbers alone are wanted: each other value is let go
+    /// once no later gate of the plan takes it, at the latest once all are through. It has no words from then on.
+    ///
+    /// With those of these gates there must be `count` values in all, and no gate may be at work, and no plan; else all is as before, and
+    /// `false` is answered.
+    pub fn want_these(&mut self, numbers: BTreeSet<u64>, count: u64) -> bool
+        ensures plan { result ≡ true → IsPlanOf P.me numbers count self.old self.new }
+        ensures same { result ≡ false → self.new ≡ self.old }
+    {
+        self.engine.want_these(numbers, count)
+    }
+
     /// A message comes from the previous miner; with no memory left all is as before.
     pub fn receive_from_previous(&mut self, message: &Msg) -> Result<(), AllocError>
         ensures ok { OnOk result (self.new ≡ with_links self.old (came_from_previous self.old.links message.now)) }
@@ -132,6 +153,59 @@ impl<P: Party> GateNode<P> {
         ensures err { OnErr result (self.new ≡ self.old) }
     {
         self.engine.links.receive_from_next(message)
+    }
+
+    /// A message of these words comes from the previous miner; with no memory left all is as before.
+    pub fn receive_words_from_previous(&mut self, words: &[u64]) -> Result<(), AllocError>
+        requires { length words.now ≤ 2048 }
+        ensures ok { OnOk result (self.new ≡ with_links self.old (came_from_previous self.old.links words.now)) }
+        ensures err { OnErr result (self.new ≡ self.old) }
+    {
+        self.engine.links.receive_words_from_previous(words)
+    }
+
+    /// A message of these words comes from the next miner; with no memory left all is as before.
+    pub fn receive_words_from_next(&mut self, words: &[u64]) -> Result<(), AllocError>
+        requires { length words.now ≤ 2048 }
+        ensures ok { OnOk result (self.new ≡ with_links self.old (came_from_next self.old.links words.now)) }
+        ensures err { OnErr result (self.new ≡ self.old) }
+    {
+        self.engine.links.receive_words_from_next(words)
+    }
+
+    /// Lets go the messages that came, of each link on which all were taken.
+    pub fn let_go_taken(&mut self)
+        ensures previous { LetsGo self.old.links.from_previous self.new.links.from_previous }
+        ensures next { LetsGo self.old.links.from_next self.new.links.from_next }
+        ensures previous_left { self.new.links.from_previous.1 ≡ self.old.links.from_previous.1 }
+        ensures next_left { self.new.links.from_next.1 ≡ self.old.links.from_next.1 }
+        ensures same { self.new ≡ with_links self.old
+            (record self.old.links { from_previous = self.new.links.from_previous; from_next = self.new.links.from_next }) }
+    {
+        self.engine.links.let_go_taken();
+    }
+
+    /// Lets go the messages that went to the next miner.
+    pub fn let_go_sent_to_next(&mut self)
+        ensures { self.new ≡ with_links self.old (record self.old.links { to_next = [] }) }
+    {
+        self.engine.links.let_go_sent_to_next();
+    }
+
+    /// Lets go the messages that went to the previous miner.
+    pub fn let_go_sent_to_previous(&mut self)
+        ensures { self.new ≡ with_links self.old (record self.old.links { to_previous = [] }) }
+    {
+        self.engine.links.let_go_sent_to_previous();
+    }
+
+    /// Lets go the words of its tape that were supplied, once all were drawn.
+    pub fn let_go_drawn(&mut self)
+        ensures lets_go { LetsGo self.old.tape self.new.tape }
+        ensures left { self.new.tape.1 ≡ self.old.tape.1 }
+        ensures same { self.new ≡ record self.old { tape = self.new.tape } }
+    {
+        self.engine.tape.let_go();
     }
 
     /// Does all that the messages and the words that were supplied lead to, and answers where it then stands. What it has done, and does with

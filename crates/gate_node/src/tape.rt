@@ -1,5 +1,6 @@
 // A miner's random words.
 ghost use Rattle.std.specs.Prelude.{◌≡◌, ◌≤◌, ◌++◌, length, drop, OnOk, OnErr};
+ghost use Rattle.block_steps.specs.Inboxes.{LetsGo};
 
 use std::alloc::AllocError;
 use std::marker::Model;
@@ -61,5 +62,16 @@ impl Tape {
         ensures left { self.new.1 ≡ drop count self.old.1 }
     {
         self.drawn += count;
+    }
+    /// Lets go all words, if all were drawn; else it is as before.
+    #[tactic(auto, using(crate::proofs::Tapes::letting_go))]
+    pub fn let_go(&mut self)
+        ensures lets_go { LetsGo self.old self.new }
+        ensures left { self.new.1 ≡ self.old.1 }
+    {
+        if self.drawn == self.words.len() {
+            self.words.clear();
+            self.drawn = 0;
+        }
     }
 }

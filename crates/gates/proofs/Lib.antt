@@ -7,3 +7,4 @@ pub mod BlockSizes
 pub mod Growing
 pub mod WordSteps
 pub mod Held
+pub mod Taken

@@ -55,7 +55,9 @@ within_set_apart words span i w apart = by_place (cases_lt i span.place)
         let j = i - span.place in
         let place : i ≡ span.place + j = omega arith in
         let le : span.len ≤ j = omega arith in
-        ap (λ k. within (set words k w) span) place ∙ ap (take span.len) (drop-set-add span.place words j w) ∙ take-set-le span.len (drop span.place words) j w le
+        ap (λ k. within (set words k w) span) place
+        ∙ ap (take span.len) (drop-set-add span.place words j w)
+        ∙ take-set-le span.len (drop span.place words) j w le
 
     by_place : (i < span.place) ⊎ (span.place ≤ i) → within (set words i w) span ≡ within words span
     by_place (inl below) = ap (take span.len) (drop-set-lt span.place words i w below)
@@ -94,6 +96,17 @@ spans_fewer words old new h spans =
       end = λ k span is. spans.end k span (h k span is);
       apart = λ j k a b i x y. spans.apart j k a b i (h j a x) (h k b y);
     }
+
+-- ---- one list fewer
+
+pub fewer_found :
+    (old new : ℕ → Option Span) (number : ℕ) → new number ≡ None → ((k : ℕ) → k ≢ number → new k ≡ old k) → (k : ℕ) (span : Span) → new k ≡ Some span →
+    old k ≡ Some span
+fewer_found old new number none others k span h = by_number (cases_eq k number)
+  where
+    by_number : (k ≡ number) ⊎ (k ≡ number → ⊥) → old k ≡ Some span
+    by_number (inl is) = absurd (none-some span (sym none ∙ ap new (sym is) ∙ h))
+    by_number (inr apart) = sym (others k apart) ∙ h
 
 -- ---- one more list
 
@@ -273,7 +286,8 @@ free_next old new n s left rest is all =
     let there : found left n ≡ Some s = ap (λ es. found es n) is ∙ lookup_head (is_at (nat_cmp n)) (n, s) rest (is_own n) in
     MatchOption-at_some (new n ≡ old n) (λ span. new n ≡ []) s there (all n)
 
-pub all_but_rest : (old new more : ℕ → List ℕ) (n : ℕ) (s : Span) (left rest : List (ℕ × Span)) → left ≡ (n, s) ∷ rest → IsStrictlySortedBy nat_cmp (keys_of left) →
+pub all_but_rest : (old new more : ℕ → List ℕ) (n : ℕ) (s : Span) (left rest : List (ℕ × Span)) → left ≡ (n, s) ∷ rest →
+    IsStrictlySortedBy nat_cmp (keys_of left) →
     HasAllBut old new left → HasPut new more n (old n) → HasAllBut old more rest
 all_but_rest old new more n s left rest is sorted all put q = by_number (cases_eq q n)
   where
@@ -292,6 +306,7 @@ all_but_rest old new more n s left rest is sorted all put q = by_number (cases_e
         subst (λ o. MatchOption o (new q ≡ old q) (λ span. new q ≡ [])) same (all q) in
         subst (λ ws. MatchOption (found rest q) (ws ≡ old q) (λ span. ws ≡ [])) (sym (put.others q apart)) before
 
-pub sorted_rest : (n : ℕ) (s : Span) (left rest : List (ℕ × Span)) → left ≡ (n, s) ∷ rest → IsStrictlySortedBy nat_cmp (keys_of left) →
+pub sorted_rest : (n : ℕ) (s : Span) (left rest : List (ℕ × Span)) → left ≡ (n, s) ∷ rest →
+    IsStrictlySortedBy nat_cmp (keys_of left) →
     IsStrictlySortedBy nat_cmp (keys_of rest)
 sorted_rest n s left rest is sorted = sorted_tail nat_cmp n (keys_of rest) (subst (λ es. IsStrictlySortedBy nat_cmp (keys_of es)) is sorted)

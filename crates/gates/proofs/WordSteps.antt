@@ -9,7 +9,7 @@ use Rattle.std.proofs.lemmas.List.{get_or-take, length-take-le, take_more, take_
 use Rattle.std.proofs.lemmas.List.FromFn.{map-range_with_len_more}
 use Rattle.std.proofs.lemmas.Slice.Zip.{length-zip}
 use Rattle.std.proofs.lemmas.Nat.{pow-add, pow_pos, shr_below}
-use Rattle.proto_core.proofs.Each.{each-is}
+use Rattle.lane_kernel.proofs.Each.{each-is}
 use Rattle.lane_kernel.specs.Lanewise.{placewise}
 use Rattle.gates.specs.Clear.{each_two, bits_of}
 use Rattle.gates.proofs.Columns.{word}

@@ -4,6 +4,7 @@ pub mod Clear
 pub mod WordTests
 pub mod Evaluated
 pub mod Held
+pub mod Taken
 pub mod inner
 pub mod Vectors
 pub use Rattle.share_ring.specs.Rings

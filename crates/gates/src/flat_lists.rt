@@ -105,6 +105,17 @@ impl FlatLists {
         Ok(())
     }
 
+    /// Lets go the list of a number.
+    pub fn let_go(&mut self, number: u64)
+        ensures own { list_at self.new number ≡ [] }
+        ensures others { (k : ℕ) → k ≢ number → list_at self.new k ≡ list_at self.old k }
+    {
+        if let Some(span) = self.spans.remove(&number) {
+            self.live -= span.len;
+            self.close_up();
+        }
+    }
+
     /// Lets go all lists but those of these numbers.
     pub fn keep_only(&mut self, numbers: &BTreeSet<u64>)
         ensures { (k : ℕ) → list_at self.new k ≡ if_kept numbers.now k (list_at self.old k) }
@@ -114,12 +125,14 @@ impl FlatLists {
         self.close_up();
     }
 
-    /// Where more than half of the words are in no list, the lists move together, as far as there is memory for it.
+    /// Where more than half of the words are in no list, the lists move together, as far as there is memory for it: to a vector with room for as
+    /// many words more, since lists come before others go.
     fn close_up(&mut self)
         ensures { (k : ℕ) → list_at self.new k ≡ list_at self.old k }
     {
         if self.words.len() - self.live > self.live {
-            if let Ok(lists) = closed_up(self.alloc, &self.words, &self.spans, self.live) {
+            let room = self.live.saturating_mul(2);
+            if let Ok(lists) = closed_up(self.alloc, &self.words, &self.spans, room) {
                 *self = lists;
             }
         }

@@ -84,6 +84,13 @@ impl Values {
         Ok(())
     }
 
+    /// Lets go the words of the value of a number.
+    pub fn let_go(&mut self, number: u64)
+        ensures { self.new ≡ set self.old number [] }
+    {
+        self.held.let_go(number);
+    }
+
     /// Lets go the words of all values but those of these numbers.
     pub fn keep_only(&mut self, numbers: &BTreeSet<u64>)
         ensures { self.new ≡ kept_only numbers.now self.old }

@@ -16,7 +16,7 @@ use Rattle.tape_file.specs.Tapes.{FourTapes}
 use Rattle.language_model.specs.Reports.{Report}
 use Rattle.program_run.specs.Reports.{eval_with}
 use Rattle.miner_text.specs.Lines.{text_of}
-use Rattle.told_text.specs.Told.{lines_told}
+use Rattle.served_miners.specs.Told.{lines_told}
 use Rattle.miner_node.specs.Serving.{Outcome, Serving}
 use Rattle.served_miners.specs.Nodes.{Outgoing, Own, end_in, own_bytes, own_serving}
 use Rattle.served_miners.specs.Served.{AgreeWithTheRun, AreServed, HasEndedSo, WaitsOrHasEnded, has_ended, part_of, run_bytes, served, waits}

@@ -13,7 +13,7 @@ use Rattle.tape_file.specs.Tapes.{FourTapes}
 use Rattle.program_run.specs.Reports.{eval_with}
 use Rattle.program_commands.proofs.Refusals.{steps}
 use Rattle.miner_text.specs.Lines.{text_of}
-use Rattle.told_text.specs.Told.{lines_told}
+use Rattle.served_miners.specs.Told.{lines_told}
 use Rattle.miner_node.specs.Laws.{AreHonest}
 use Rattle.miner_node.specs.Serving.{Outcome, Serving}
 use Rattle.served_miners.specs.Nodes.{own_hello, own_serving}

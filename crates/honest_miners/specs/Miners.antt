@@ -18,7 +18,7 @@ use Rattle.program_run.specs.Dealt.{CanBeDealt}
 use Rattle.program_run.specs.Reports.{eval_with}
 use Rattle.code_runs.specs.Telling.{Tells}
 use Rattle.miner_text.specs.Lines.{text_of}
-use Rattle.told_text.specs.Told.{lines_told}
+use Rattle.served_miners.specs.Told.{lines_told}
 use Rattle.miner_node.specs.Laws.{AreHonest}
 use Rattle.served_miners.specs.Nodes.{own_hello}
 use Rattle.served_miners.specs.Honest.{run_messages}

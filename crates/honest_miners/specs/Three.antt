@@ -24,7 +24,7 @@ use Rattle.program_run.specs.Reports.{eval_with}
 use Rattle.code_runs.specs.Telling.{Tells}
 use Rattle.miner_text.specs.Lines.{text_of}
 use Rattle.miner_text.specs.Texts.{IsText}
-use Rattle.told_text.specs.Told.{lines_told}
+use Rattle.served_miners.specs.Told.{lines_told}
 use Rattle.trio.specs.Answers.{join_of}
 use Rattle.served_miners.specs.Nodes.{Outgoing}
 use Rattle.served_miners.specs.Served.{part_of, run_bytes}

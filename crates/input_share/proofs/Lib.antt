@@ -8,3 +8,4 @@ pub mod RoundTrip
 pub mod FormLaws
 pub mod OfWords
 pub mod PartAgain
+pub mod SharesOfWords

@@ -46,30 +46,30 @@ if_map : {A B : Type 0} (P : A → Type 0) (Q : B → Type 0) (f : A → B) (o :
 if_map P Q f None h up = tt
 if_map P Q f (Some x) h up = up x h
 
-if_then : {A B : Type 0} (P : A → Type 0) (Q : B → Type 0) (f : A → Option B) (o : Option A) → IfSome o P → ((x : A) → P x → IfSome (f x) Q)
+pub if_then : {A B : Type 0} (P : A → Type 0) (Q : B → Type 0) (f : A → Option B) (o : Option A) → IfSome o P → ((x : A) → P x → IfSome (f x) Q)
     → IfSome (option_and_then f o) Q
 if_then P Q f None h up = tt
 if_then P Q f (Some x) h up = up x h
 
-any : {A : Type 0} (o : Option A) → IfSome o (λ _. ⊤)
+pub any : {A : Type 0} (o : Option A) → IfSome o (λ _. ⊤)
 any None = tt
 any (Some x) = tt
 
-if_both : {A : Type 0} (P : A → Type 0) (b : Bool) (x y : Option A) → (b ≡ true → IfSome x P) → IfSome y P → IfSome (if b then x else y) P
+pub if_both : {A : Type 0} (P : A → Type 0) (b : Bool) (x y : Option A) → (b ≡ true → IfSome x P) → IfSome y P → IfSome (if b then x else y) P
 if_both P true x y h g = h refl
 if_both P false x y h g = g
 
 -- the same of results
-ok_then : {A B : Type 0} (P : A → Type 0) (Q : B → Type 0) (r : Result A ReadErr) (f : A → Result B ReadErr) → IfOk r P
+pub ok_then : {A B : Type 0} (P : A → Type 0) (Q : B → Type 0) (r : Result A ReadErr) (f : A → Result B ReadErr) → IfOk r P
     → ((x : A) → P x → IfOk (f x) Q) → IfOk (r >>= f) Q
 ok_then P Q (Ok x) f h up = up x h
 ok_then P Q (Err e) f h up = tt
 
-found_ok : {A : Type 0} (P : A → Type 0) (refusal : ReadErr) (o : Option A) → IfSome o P → IfOk (found_or refusal o) P
+pub found_ok : {A : Type 0} (P : A → Type 0) (refusal : ReadErr) (o : Option A) → IfSome o P → IfOk (found_or refusal o) P
 found_ok P refusal (Some x) h = h
 found_ok P refusal None h = tt
 
-ok_else : {A : Type 0} (P : A → Type 0) (b : Bool) (refusal : ReadErr) (x : A) → (b ≡ false → P x) → IfOk (if b then Err refusal else Ok x) P
+pub ok_else : {A : Type 0} (P : A → Type 0) (b : Bool) (refusal : ReadErr) (x : A) → (b ≡ false → P x) → IfOk (if b then Err refusal else Ok x) P
 ok_else P true refusal x h = tt
 ok_else P false refusal x h = h refl
 
@@ -81,7 +81,7 @@ IsSmall (negative z) = ⊤
 IsSmall (float x) = ⊤
 
 abbrev mutual
-  AreSmall : Data → Type 0
+  pub AreSmall : Data → Type 0
   AreSmall null = ⊤
   AreSmall (boolean b) = ⊤
   AreSmall (number n) = IsSmall n
@@ -89,7 +89,7 @@ abbrev mutual
   AreSmall (array ds) = SmallItems ds
   AreSmall (object ms) = SmallMembers ms
 
-  SmallItems : Items → Type 0
+  pub SmallItems : Items → Type 0
   SmallItems no_items = ⊤
   SmallItems (item d ds) = AreSmall d × SmallItems ds
 
@@ -156,7 +156,7 @@ read_small : (o : Option json.Json) → IfSome (option_and_then of_json o) AreSm
 read_small None = tt
 read_small (Some j) = json_small j
 
-data_small : (bytes : List ℕ) → IfSome (json_of bytes) AreSmall
+pub data_small : (bytes : List ℕ) → IfSome (json_of bytes) AreSmall
 unfolding json_of
 data_small bytes =
     if_then (λ _. ⊤) AreSmall read (text_of bytes) (any (text_of bytes))
@@ -186,12 +186,12 @@ array_small (string s) h = tt
 array_small (array ds) h = h
 array_small (object ms) h = tt
 
-list_small : (k : List ℕ) (d : Data) → AreSmall d → IfSome (list_in k d) SmallItems
+pub list_small : (k : List ℕ) (d : Data) → AreSmall d → IfSome (list_in k d) SmallItems
 list_small k d h = if_then AreSmall SmallItems as_array (get k d) (get_small k d h) array_small
 
 -- ---- values, each element as a word
 
-abbrev IsBelow : ℕ → Type 0
+abbrev pub IsBelow : ℕ → Type 0
 IsBelow n = n < 2 ^ 64
 
 u64_small : (n : Num) → IsSmall n → IfSome (as_u64 n) IsBelow
@@ -212,7 +212,7 @@ joined_small (Some x) (Some xs) h all = All-cons IsBelow x xs h all
 joined_small (Some x) None h all = tt
 joined_small None os h all = tt
 
-all_small : (ds : Items) → SmallItems ds → IfSome (all_in number_in ds) (All IsBelow)
+pub all_small : (ds : Items) → SmallItems ds → IfSome (all_in number_in ds) (All IsBelow)
 all_small no_items all = All-nil IsBelow
 all_small (item d ds) all = joined_small (number_in d) (all_in number_in ds) (number_in_small d all.0) (all_small ds all.1)
 
@@ -236,12 +236,12 @@ value_small : (kind : DataType) (d : Data) → AreSmall d → IfSome (value_of k
 value_small data_type.Uint64 d h = numbers_small (as_array d) d h (array_small d h)
 value_small data_type.Bool d h = truths_small (as_array d) d
 
-field_small : (kind : DataType) (d : Data) → AreSmall d → IfSome (value_in kind d) IsOfWords
+pub field_small : (kind : DataType) (d : Data) → AreSmall d → IfSome (value_in kind d) IsOfWords
 field_small kind d h = if_then AreSmall IsOfWords (value_of kind) (get (codes "value") d) (get_small (codes "value") d h) (value_small kind)
 
 -- ---- entries
 
-abbrev IsFresh : List (List ℕ) → List ℕ → Type 0
+abbrev pub IsFresh : List (List ℕ) → List ℕ → Type 0
 IsFresh earlier name = new_name earlier name ≡ Some name
 
 fresh_so : (earlier : List (List ℕ)) (text : List ℕ) → IfSome (new_name earlier text) (IsFresh earlier)
@@ -254,7 +254,7 @@ name_so earlier d =
     if_then (λ _. ⊤) (IsFresh earlier) (new_name earlier) (text_in (codes "name") d) (any (text_in (codes "name") d))
     (λ text _. fresh_so earlier text)
 
-head_so : (place : ℕ) (earlier : List (List ℕ)) (d : Data) → IfOk (head_of place earlier d) (λ head. IsFresh earlier head.name)
+pub head_so : (place : ℕ) (earlier : List (List ℕ)) (d : Data) → IfOk (head_of place earlier d) (λ head. IsFresh earlier head.name)
 head_so place earlier d =
     ok_then (IsFresh earlier) (λ head. IsFresh earlier head.name) (field_or place field.Name (name_in earlier d)) _
     (found_ok (IsFresh earlier) (BadField (Some place) field.Name) (name_in earlier d) (name_so earlier d))
@@ -283,10 +283,10 @@ entry_good place earlier d small =
 
 module _ {E : Type 0} (one : ℕ → List (List ℕ) → Data → Result E ReadErr) (name : E → List ℕ) (count : E → ℕ) (P : E → Type 0) where
   -- an entry that is read, behind entries of these names
-  abbrev IsGood : List (List ℕ) → E → Type 0
+  abbrev pub IsGood : List (List ℕ) → E → Type 0
   IsGood earlier e = IsEntry earlier (name e) (count e) × P e
 
-  abbrev AreGood : List E → Type 0
+  abbrev pub AreGood : List E → Type 0
   AreGood es = AreEntries name count [] es × All P es
 
   module _ (good : (place : ℕ) (earlier : List (List ℕ)) (d : Data) → AreSmall d → IfOk (one place earlier d) (IsGood earlier)) where
@@ -297,7 +297,7 @@ module _ {E : Type 0} (one : ℕ → List (List ℕ) → Data → Result E ReadE
         (good (length before) (map name before) d all.0)
         (λ entry is. after_so (before ++ entry ∷ []) ds all.1 (AreEntries-push name count [] before entry are.0 is.0, All-push P before entry are.1 is.1))
 
-    inputs_so : (d : Data) → AreSmall d → IfOk (inputs_in one name d) AreGood
+    pub inputs_so : (d : Data) → AreSmall d → IfOk (inputs_in one name d) AreGood
     unfolding inputs_in
     inputs_so d small =
         ok_then SmallItems AreGood (found_or (BadField None field.Inputs) (list_in (codes "inputs") d)) (entries_after one name [])

@@ -7,7 +7,11 @@ use Rattle.value_file.specs.declared.public.PublicValue.TheVariants.{Known, Hidd
 use Rattle.value_file.specs.declared.public.PublicEntry.{PublicEntry}
 use Rattle.value_file.specs.Input.{AreInputs}
 use Rattle.value_file.specs.PublicFile.{IsWritable}
+use Rattle.input_share.specs.declared.entry.Part.{Part}
+use Rattle.input_share.specs.declared.entry.Part.TheVariants.{Public, Private}
+use Rattle.input_share.specs.declared.entry.ShareEntry.{ShareEntry}
 use Rattle.input_share.specs.AddUp.{HasWords}
+use Rattle.input_share.specs.Reading.{AreWritable}
 use Rattle.input_share.specs.Values.{elements_of}
 
 abbrev pub IsOfWords : Value → Type 0
@@ -27,3 +31,13 @@ pub record AreRead (entries : List Entry) : Type 0 where
 pub record ArePublicRead (part : List PublicEntry) : Type 0 where
   pub form : IsWritable part
   pub words : All (λ e. IsShownOfWords e.value) part
+
+-- of what a miner has of an input: the elements of a public value, the share words of a private one
+abbrev pub IsPartOfWords : Part → Type 0
+IsPartOfWords (Public value) = IsOfWords value
+IsPartOfWords (Private shared) = All (λ n. n < 2 ^ 64) shared.words
+
+-- entries that may stand in a share file, of words
+pub record AreSharesRead (entries : List ShareEntry) : Type 0 where
+  pub form : AreWritable entries
+  pub words : All (λ e. IsPartOfWords e.part) entries

@@ -15,7 +15,9 @@ mod words;
 mod writing;
 
 pub use add_up::shares_add_up;
-pub use bounds::{public_parts_are_read_again, read_entries_are_of_words};
+pub use bounds::{
+    public_parts_are_read_again, read_entries_are_of_words, read_shares_are_of_words,
+};
 pub use dealing::{DealErr, Dealt, deal, draws, need};
 pub use entry::{Part, ShareEntry, Shared};
 pub use forms::dealt_files_are_writable;

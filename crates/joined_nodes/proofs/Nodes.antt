@@ -25,13 +25,13 @@ use Rattle.verified_code.specs.Steps.{Function}
 use Rattle.code_places.specs.Dealt.{Dealt}
 use Rattle.view_model.specs.TapeMaps.{miners_of}
 use Rattle.driven_nodes.specs.Steps.{Stopped}
-use Rattle.program_run.specs.Accepted.{IsAccepted}
-use Rattle.program_run.specs.Codes.{IsCodeOf}
-use Rattle.program_run.specs.Dealt.{CanBeDealt}
-use Rattle.program_run.specs.Inputs.{dealt_of}
-use Rattle.program_run.specs.Offers.{offered}
-use Rattle.program_run.specs.Reports.{lengths_of}
-use Rattle.program_run.proofs.Shared.{can_run_so, report_so}
+use Rattle.miner_runs.specs.Accepted.{IsAccepted}
+use Rattle.miner_runs.specs.Codes.{IsCodeOf}
+use Rattle.miner_runs.specs.Dealt.{CanBeDealt}
+use Rattle.miner_runs.specs.Inputs.{dealt_of}
+use Rattle.miner_runs.specs.Offers.{offered}
+use Rattle.miner_runs.specs.Reports.{lengths_of}
+use Rattle.miner_runs.proofs.Shared.{can_run_so, report_so}
 use Rattle.miner_core.specs.Meaning.{mean}
 use Rattle.miner_core.specs.OwnCode.{Ended, Reached}
 use Rattle.miner_core.specs.declared.answer.End.TheVariants as end

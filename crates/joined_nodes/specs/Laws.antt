@@ -13,12 +13,12 @@ use Rattle.verified_code.specs.Steps.{Function}
 use Rattle.code_places.specs.Dealt.{Dealt}
 use Rattle.code_runs.specs.Laws.{MayRunShared}
 use Rattle.view_model.specs.TapeMaps.{miners_of}
-use Rattle.program_run.specs.Accepted.{IsAccepted}
-use Rattle.program_run.specs.Codes.{IsCodeOf}
-use Rattle.program_run.specs.Dealt.{CanBeDealt}
-use Rattle.program_run.specs.Inputs.{dealt_of}
-use Rattle.program_run.specs.Offers.{offered}
-use Rattle.program_run.specs.Reports.{eval_with, lengths_of}
+use Rattle.miner_runs.specs.Accepted.{IsAccepted}
+use Rattle.miner_runs.specs.Codes.{IsCodeOf}
+use Rattle.miner_runs.specs.Dealt.{CanBeDealt}
+use Rattle.miner_runs.specs.Inputs.{dealt_of}
+use Rattle.miner_runs.specs.Offers.{offered}
+use Rattle.miner_runs.specs.Reports.{eval_with, lengths_of}
 use Rattle.miner_core.specs.Meaning.{mean}
 use Rattle.miner_core.specs.Story.{Story}
 use Rattle.joined_nodes.specs.Joined.{AreJoined, AgreeWith}

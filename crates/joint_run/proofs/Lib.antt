@@ -4,3 +4,4 @@ pub mod Sizes
 pub mod GateSteps
 pub mod OutputSizes
 pub mod GateLists
+pub use Rattle.shared_gates.proofs.Models

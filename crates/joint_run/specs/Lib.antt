@@ -7,3 +7,6 @@ pub mod Steps
 pub mod States
 pub mod JointRuns
 pub mod GateByGate
+pub use Rattle.shared_gates.specs.Blocked
+pub use Rattle.shared_gates.specs.LocalGates
+pub use Rattle.shared_gates.specs.Model

@@ -14,6 +14,7 @@ use crate::outputs::Outputs;
 use crate::own_operands::Operands;
 use crate::transcript::Transcript;
 use gates::RingKind;
+use lane_kernel::LaneRing;
 use multiply::{Operands as Factors, multiply_together};
 use open_result::open_together;
 use proto_core::{Block, Link};
@@ -24,7 +25,7 @@ use split_share::split_together;
 use std::alloc::AllocError;
 
 /// A block of a product.
-fn add_product<R: ShareRing>(
+fn add_product<R: LaneRing>(
     operands: &Operands,
     transcript: &mut Transcript,
     outputs: &mut Outputs,

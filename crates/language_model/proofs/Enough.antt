@@ -6,7 +6,7 @@ use Rattle.sc_text.specs.declared.end.Ending.TheVariants.{Tape}
 use Rattle.sc_text.specs.declared.end.TapeOwner.{TapeOwner}
 use Rattle.sc_text.specs.declared.event.Event.TheVariants as event
 use Rattle.sc_text.specs.declared.end.TapeOwner.TheVariants.{Miner1, Miner2, Miner3}
-use Rattle.typed_tree.specs.Programs.{TypedProgramTree}
+use Rattle.reached_instances.specs.Programs.{TypedProgramTree}
 use Rattle.language_model.specs.Effects.{Words, World, Stage, Ended, Run, Effect, ◌>>=◌, carry, with_more, fits, take_words, draw}
 use Rattle.language_model.specs.Values.{Value}
 use Rattle.language_model.specs.Evaluation.{Frame, Flow, turns, repeats}

@@ -9,8 +9,8 @@ use Rattle.sc_text.specs.declared.end.TapeOwner.{TapeOwner}
 use Rattle.sc_text.specs.declared.end.TapeOwner.TheVariants.{Miner1, Miner2, Miner3}
 use Rattle.sc_text.specs.declared.event.Event.{Event}
 use Rattle.sc_text.specs.declared.event.Event.TheVariants as event
-use Rattle.gates.specs.declared.gate.Gate.{Gate}
-use Rattle.typed_tree.specs.Programs.{TypedProgramTree}
+use Rattle.plans.specs.Gate.{Gate}
+use Rattle.reached_instances.specs.Programs.{TypedProgramTree}
 use Rattle.language_model.specs.Effects.{Words, World, Stage, RunStop, Ended, Short, Run, Effect, ◌>>=◌, carry, done, end, charge, test, fits, draw}
 use Rattle.language_model.specs.Effects.{gate, next_number, put_gates, emit, next_answers, show}
 use Rattle.language_model.specs.Values.{Value, elements_of, is_true, plain}

@@ -7,37 +7,37 @@ use Rattle.sc_text.specs.declared.end.TrapKind.{TrapKind}
 use Rattle.sc_text.specs.declared.end.TrapKind.TheVariants as trap
 use Rattle.sc_text.specs.declared.elements.Element.{Element}
 use Rattle.sc_text.specs.declared.event.Event.TheVariants as event
-use Rattle.gates.specs.declared.gate.Gate.{Gate}
-use Rattle.gates.specs.declared.gate.Gate.TheVariants.{Const, Sub, And, Xor, Spread}
-use Rattle.gates.specs.Clear.{bits_of}
-use Rattle.equality.specs.Plan.{eq_plan}
-use Rattle.bit_extract.specs.Plan.{bits_plan}
-use Rattle.compare.specs.Plan.{less_plan}
+use Rattle.plans.specs.Gate.{Gate}
+use Rattle.plans.specs.Gate.TheVariants.{Const, Sub, And, Xor, Spread}
+use Rattle.plans.specs.Clear.{bits_of}
+use Rattle.plans.specs.Equality.{eq_plan}
+use Rattle.plans.specs.BitExtract.{bits_plan}
+use Rattle.plans.specs.Compare.{less_plan}
 use Rattle.secrec_ast.specs.declared.expression.DataType.TheVariants as datatype
-use Rattle.typed_tree.specs.declared.kinds.Shape.{Shape}
-use Rattle.typed_tree.specs.declared.kinds.Slot.{Slot}
-use Rattle.typed_tree.specs.declared.operators.WordOperator.{WordOperator}
-use Rattle.typed_tree.specs.declared.operators.WordOperator.TheVariants as word
-use Rattle.typed_tree.specs.declared.operators.BoolOperator.{BoolOperator}
-use Rattle.typed_tree.specs.declared.operators.BoolOperator.TheVariants as truth
-use Rattle.typed_tree.specs.declared.operators.BinaryOperator.{BinaryOperator}
-use Rattle.typed_tree.specs.declared.operators.BinaryOperator.TheVariants as binary
-use Rattle.typed_tree.specs.declared.operators.Operands.{Operands}
-use Rattle.typed_tree.specs.declared.operators.Operands.TheVariants.{Scalars}
-use Rattle.typed_tree.specs.declared.operators.Cast.{Cast}
-use Rattle.typed_tree.specs.declared.operators.Cast.TheVariants.{WordToWord, WordToBool, BoolToWord, BoolToBool}
-use Rattle.typed_tree.specs.declared.operators.Connective.{Connective}
-use Rattle.typed_tree.specs.Tree.{TypedTree, TypedTrees, word_node, truth_node, slot_node, call_node, size_node, cat_node, sum_node, bits_node}
-use Rattle.typed_tree.specs.Tree.{element_node, not_node, cast_node, binary_node, cut_node, declassify_node}
-use Rattle.typed_tree.specs.Tree as Tree'
-use Rattle.typed_tree.specs.Statements.{TypedStatementTree, TypedStatementTrees, empty_statement, block_statement, if_statement, loop_statement, do_statement}
-use Rattle.typed_tree.specs.Statements.{break_statement, continue_statement, return_statement, assert_statement, store_statement, default_statement}
-use Rattle.typed_tree.specs.Statements.{fill_statement, input_statement, element_statement, publish_statement, evaluate_statement}
-use Rattle.typed_tree.specs.Statements as Statements'
-use Rattle.typed_tree.specs.Programs.{TypedFunctionTree, TypedProgramTree}
+use Rattle.reached_instances.specs.Shape.{Shape}
+use Rattle.reached_instances.specs.Slot.{Slot}
+use Rattle.reached_instances.specs.WordOperator.{WordOperator}
+use Rattle.reached_instances.specs.WordOperator.TheVariants as word
+use Rattle.reached_instances.specs.BoolOperator.{BoolOperator}
+use Rattle.reached_instances.specs.BoolOperator.TheVariants as truth
+use Rattle.reached_instances.specs.BinaryOperator.{BinaryOperator}
+use Rattle.reached_instances.specs.BinaryOperator.TheVariants as binary
+use Rattle.reached_instances.specs.Operands.{Operands}
+use Rattle.reached_instances.specs.Operands.TheVariants.{Scalars}
+use Rattle.reached_instances.specs.Cast.{Cast}
+use Rattle.reached_instances.specs.Cast.TheVariants.{WordToWord, WordToBool, BoolToWord, BoolToBool}
+use Rattle.reached_instances.specs.Connective.{Connective}
+use Rattle.reached_instances.specs.Tree.{TypedTree, TypedTrees, word_node, truth_node, slot_node, call_node, size_node, cat_node, sum_node, bits_node}
+use Rattle.reached_instances.specs.Tree.{element_node, not_node, cast_node, binary_node, cut_node, declassify_node}
+use Rattle.reached_instances.specs.Tree as Tree'
+use Rattle.reached_instances.specs.Statements.{TypedStatementTree, TypedStatementTrees, empty_statement, block_statement, if_statement, loop_statement, do_statement}
+use Rattle.reached_instances.specs.Statements.{break_statement, continue_statement, return_statement, assert_statement, store_statement, default_statement}
+use Rattle.reached_instances.specs.Statements.{fill_statement, input_statement, element_statement, publish_statement, evaluate_statement}
+use Rattle.reached_instances.specs.Statements as Statements'
+use Rattle.reached_instances.specs.Programs.{TypedFunctionTree, TypedProgramTree}
 use Rattle.reached_instances.specs.declared.instance.BoundDomain.{BoundDomain}
 use Rattle.reached_instances.specs.Domains.{Setting, domains}
-use Rattle.typed_tree.specs.Shapes.{shape_of}
+use Rattle.reached_instances.specs.Shapes.{shape_of}
 use Rattle.language_model.specs.Effects.{Words, World, GivenInput, Source, Clear, Answers, Effect, ◌>>=◌, done, end, charge, test, draw, gate, next_number}
 use Rattle.language_model.specs.Effects.{put_gates, planned, emit, next_answers, answer, show}
 use Rattle.language_model.specs.Values.{Secrecy, Plain, Private, Value, plain, hidden, size, visible_words, default_words, elements_of}

@@ -6,9 +6,9 @@ use Rattle.sc_text.specs.declared.end.TrapKind.{TrapKind}
 use Rattle.sc_text.specs.declared.end.TapeOwner.{TapeOwner}
 use Rattle.sc_text.specs.declared.end.TapeOwner.TheVariants.{Miner1, Miner2, Miner3}
 use Rattle.sc_text.specs.declared.event.Event.{Event}
-use Rattle.gates.specs.declared.gate.Gate.{Gate}
-use Rattle.gates.specs.Counts.{made_by_all}
-use Rattle.typed_tree.specs.declared.kinds.Shape.{Shape}
+use Rattle.plans.specs.Gate.{Gate}
+use Rattle.plans.specs.Counts.{made_by_all}
+use Rattle.reached_instances.specs.Shape.{Shape}
 
 -- numbers of words of the three miners' tapes
 pub record Words : Type 0 where

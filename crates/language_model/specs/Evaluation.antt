@@ -7,26 +7,26 @@ use Rattle.sc_text.specs.declared.end.TrapKind.TheVariants as trap
 use Rattle.secrec_ast.specs.declared.expression.DataType.{DataType}
 use Rattle.secrec_ast.specs.declared.expression.DataType.TheVariants.{Uint64}
 use Rattle.secrec_ast.specs.declared.expression.DataType.TheVariants as datatype
-use Rattle.typed_tree.specs.declared.kinds.Shape.{Shape}
-use Rattle.typed_tree.specs.declared.kinds.Slot.{Slot}
-use Rattle.typed_tree.specs.declared.operators.BinaryOperator.TheVariants as binary
-use Rattle.typed_tree.specs.declared.operators.Operands.TheVariants.{Scalars}
-use Rattle.typed_tree.specs.declared.operators.Connective.{Connective}
-use Rattle.typed_tree.specs.declared.operators.Connective.TheVariants.{AndAlso, OrElse}
-use Rattle.typed_tree.specs.Tree.{TypedTree, TypedTrees, word_node, truth_node, slot_node, call_node, size_node, cat_node, sum_node, bits_node}
-use Rattle.typed_tree.specs.Tree.{element_node, not_node, cast_node, binary_node, cut_node, declassify_node}
-use Rattle.typed_tree.specs.Tree as Tree'
-use Rattle.typed_tree.specs.Statements.{TypedStatementTree, TypedStatementTrees, empty_statement, block_statement, if_statement, loop_statement, do_statement}
-use Rattle.typed_tree.specs.Statements.{break_statement, continue_statement, return_statement, assert_statement, store_statement, default_statement}
-use Rattle.typed_tree.specs.Statements.{fill_statement, input_statement, element_statement, publish_statement, evaluate_statement}
-use Rattle.typed_tree.specs.Statements as Statements'
-use Rattle.typed_tree.specs.Programs.{TypedFunctionTree}
+use Rattle.reached_instances.specs.Shape.{Shape}
+use Rattle.reached_instances.specs.Slot.{Slot}
+use Rattle.reached_instances.specs.BinaryOperator.TheVariants as binary
+use Rattle.reached_instances.specs.Operands.TheVariants.{Scalars}
+use Rattle.reached_instances.specs.Connective.{Connective}
+use Rattle.reached_instances.specs.Connective.TheVariants.{AndAlso, OrElse}
+use Rattle.reached_instances.specs.Tree.{TypedTree, TypedTrees, word_node, truth_node, slot_node, call_node, size_node, cat_node, sum_node, bits_node}
+use Rattle.reached_instances.specs.Tree.{element_node, not_node, cast_node, binary_node, cut_node, declassify_node}
+use Rattle.reached_instances.specs.Tree as Tree'
+use Rattle.reached_instances.specs.Statements.{TypedStatementTree, TypedStatementTrees, empty_statement, block_statement, if_statement, loop_statement, do_statement}
+use Rattle.reached_instances.specs.Statements.{break_statement, continue_statement, return_statement, assert_statement, store_statement, default_statement}
+use Rattle.reached_instances.specs.Statements.{fill_statement, input_statement, element_statement, publish_statement, evaluate_statement}
+use Rattle.reached_instances.specs.Statements as Statements'
+use Rattle.reached_instances.specs.Programs.{TypedFunctionTree}
 use Rattle.reached_instances.specs.declared.instance.BoundDomain.{BoundDomain}
 use Rattle.reached_instances.specs.Domains.{Setting, domain, domains, domain_under, given_domain, binding_of}
 pub use Rattle.reached_instances.specs.Domains.{is_private, next_is_private, shape_at, slot_is_private, slot_shape}
-use Rattle.gates.specs.declared.gate.Gate.TheVariants.{Input}
-pub use Rattle.typed_tree.specs.Operators.{connective}
-use Rattle.typed_tree.specs.Shapes.{shape_of}
+use Rattle.plans.specs.Gate.TheVariants.{Input}
+pub use Rattle.reached_instances.specs.Operators.{connective}
+use Rattle.reached_instances.specs.Shapes.{shape_of}
 use Rattle.language_model.specs.Effects.{World, GivenInput, Effect, ◌>>=◌, done, end, charge, test, gate}
 use Rattle.language_model.specs.Values.{Value, plain, never_stored, size, default_words}
 use Rattle.language_model.specs.Words.{truth_word}

@@ -7,4 +7,8 @@ pub mod Reports
 pub mod Vectors
 pub mod Beginnings
 pub mod Tapes
-pub use Rattle.compare.specs.Plan
+pub use Rattle.plans.specs.Compare
+pub use Rattle.reached_instances.specs.Domains
+pub use Rattle.reached_instances.specs.declared.instance.BoundDomain
+pub use Rattle.plans.specs.BitExtract
+pub use Rattle.plans.specs.Equality

@@ -10,24 +10,24 @@ use Rattle.sc_text.specs.declared.event.Event.TheVariants as event
 use Rattle.secrec_ast.specs.declared.expression.DataType.{DataType}
 use Rattle.secrec_ast.specs.declared.expression.DataType.TheVariants.{Uint64}
 use Rattle.secrec_ast.specs.declared.expression.DataType.TheVariants as datatype
-use Rattle.gates.specs.declared.gate.Gate.TheVariants.{Const, Add, Sub, MulPub, Mul, Xor, And, Cat, Part, Put, Rep, Spread, Sum, Conv, Open, Result}
-use Rattle.gates.specs.Clear.{bits_of, first_word}
-use Rattle.equality.specs.Plan.{eq_plan}
-use Rattle.bit_extract.specs.Plan.{bits_plan}
-use Rattle.compare.specs.Plan.{less_plan}
-use Rattle.typed_tree.specs.declared.kinds.Shape.{Shape}
-use Rattle.typed_tree.specs.declared.operators.WordOperator.{WordOperator}
-use Rattle.typed_tree.specs.declared.operators.WordOperator.TheVariants as word
-use Rattle.typed_tree.specs.declared.operators.BoolOperator.{BoolOperator}
-use Rattle.typed_tree.specs.declared.operators.BoolOperator.TheVariants as truth
-use Rattle.typed_tree.specs.declared.operators.BinaryOperator.{BinaryOperator}
-use Rattle.typed_tree.specs.declared.operators.BinaryOperator.TheVariants as binary
-use Rattle.typed_tree.specs.declared.operators.Operands.{Operands}
-use Rattle.typed_tree.specs.declared.operators.Operands.TheVariants.{ArrayAndScalar, ScalarAndArray}
-use Rattle.typed_tree.specs.declared.operators.Cast.{Cast}
-use Rattle.typed_tree.specs.declared.operators.Cast.TheVariants.{WordToWord, WordToBool, BoolToWord, BoolToBool}
-pub use Rattle.typed_tree.specs.Operators.{cast_shape, is_product, result_shape}
-use Rattle.typed_tree.specs.Shapes.{shape_of}
+use Rattle.plans.specs.Gate.TheVariants.{Const, Add, Sub, MulPub, Mul, Xor, And, Cat, Part, Put, Rep, Spread, Sum, Conv, Open, Result}
+use Rattle.plans.specs.Clear.{bits_of, first_word}
+use Rattle.plans.specs.Equality.{eq_plan}
+use Rattle.plans.specs.BitExtract.{bits_plan}
+use Rattle.plans.specs.Compare.{less_plan}
+use Rattle.reached_instances.specs.Shape.{Shape}
+use Rattle.reached_instances.specs.WordOperator.{WordOperator}
+use Rattle.reached_instances.specs.WordOperator.TheVariants as word
+use Rattle.reached_instances.specs.BoolOperator.{BoolOperator}
+use Rattle.reached_instances.specs.BoolOperator.TheVariants as truth
+use Rattle.reached_instances.specs.BinaryOperator.{BinaryOperator}
+use Rattle.reached_instances.specs.BinaryOperator.TheVariants as binary
+use Rattle.reached_instances.specs.Operands.{Operands}
+use Rattle.reached_instances.specs.Operands.TheVariants.{ArrayAndScalar, ScalarAndArray}
+use Rattle.reached_instances.specs.Cast.{Cast}
+use Rattle.reached_instances.specs.Cast.TheVariants.{WordToWord, WordToBool, BoolToWord, BoolToBool}
+pub use Rattle.reached_instances.specs.Operators.{cast_shape, is_product, result_shape}
+use Rattle.reached_instances.specs.Shapes.{shape_of}
 use Rattle.language_model.specs.Effects.{Words, World, Effect, ◌>>=◌, done, charge, test, words_each, draw, gate, planned, next_number, emit, answer, show}
 use Rattle.language_model.specs.Values.{Secrecy, Plain, Private, Value, plain, hidden, is_secret, size, visible_words, is_true, ring_for, elements_of}
 use Rattle.language_model.specs.Words as W

@@ -5,10 +5,10 @@ use Rattle.sc_text.specs.declared.elements.Element.TheVariants.{Word, Truth}
 use Rattle.secrec_ast.specs.declared.expression.DataType.{DataType}
 use Rattle.secrec_ast.specs.declared.expression.DataType.TheVariants.{Uint64}
 use Rattle.secrec_ast.specs.declared.expression.DataType.TheVariants as datatype
-use Rattle.typed_tree.specs.declared.kinds.Shape.{Shape}
-use Rattle.gates.specs.declared.ring_kind.RingKind.{RingKind}
-use Rattle.gates.specs.declared.ring_kind.RingKind.TheVariants.{Arithmetic, Boolean}
-use Rattle.gates.specs.Clear.{first_word}
+use Rattle.reached_instances.specs.Shape.{Shape}
+use Rattle.plans.specs.RingKind.{RingKind}
+use Rattle.plans.specs.RingKind.TheVariants.{Arithmetic, Boolean}
+use Rattle.plans.specs.Clear.{first_word}
 
 -- everybody may see a value, or it is private: then it has the number of a gate's value, unless it was never stored
 pub data Secrecy : Type 0 where

@@ -8,27 +8,27 @@ use Rattle.sc_text.specs.declared.event.Event.TheVariants.{Open, Publish}
 use Rattle.secrec_ast.specs.declared.expression.DataType.{DataType}
 use Rattle.secrec_ast.specs.declared.expression.DataType.TheVariants.{Uint64}
 use Rattle.secrec_ast.specs.declared.expression.DataType.TheVariants as datatype
-use Rattle.gates.specs.declared.gate.Gate.TheVariants as gate
-use Rattle.gates.specs.Clear.{bits_of}
-use Rattle.gates.specs.declared.ring_kind.RingKind.TheVariants.{Arithmetic, Boolean}
-use Rattle.typed_tree.specs.declared.kinds.Slot.{Slot}
-use Rattle.typed_tree.specs.declared.kinds.SlotDomain.{SlotDomain}
-use Rattle.typed_tree.specs.declared.kinds.SlotDomain.TheVariants as domain
-use Rattle.typed_tree.specs.declared.function.Returned.TheVariants as given
-use Rattle.typed_tree.specs.declared.operators.WordOperator.{WordOperator}
-use Rattle.typed_tree.specs.declared.operators.WordOperator.TheVariants as word
-use Rattle.typed_tree.specs.declared.operators.BoolOperator.TheVariants as truth
-use Rattle.typed_tree.specs.declared.operators.BinaryOperator.TheVariants as operator
-use Rattle.typed_tree.specs.declared.operators.Operands.TheVariants.{Scalars, Arrays}
-use Rattle.typed_tree.specs.declared.operators.Connective.TheVariants.{AndAlso}
-use Rattle.typed_tree.specs.declared.operators.Cast.TheVariants.{WordToBool, BoolToWord}
-use Rattle.typed_tree.specs.Tree.{TypedTree, word_node, truth_node, slot_node, call_node, bits_node, element_node, cast_node, binary_node, cut_node}
-use Rattle.typed_tree.specs.Tree.{declassify_node, typed_trees_of}
-use Rattle.typed_tree.specs.Statements.{TypedStatementTree, typed_statements_of, empty_statement, block_statement, if_statement, loop_statement, do_statement}
-use Rattle.typed_tree.specs.Statements.{return_statement, continue_statement, assert_statement, store_statement, default_statement, fill_statement}
-use Rattle.typed_tree.specs.Statements.{input_statement, publish_statement}
-use Rattle.typed_tree.specs.Programs.{TypedFunctionTree, TypedProgramTree}
-use Rattle.typed_tree.specs.Shapes.{shape_of}
+use Rattle.plans.specs.Gate.TheVariants as gate
+use Rattle.plans.specs.Clear.{bits_of}
+use Rattle.plans.specs.RingKind.TheVariants.{Arithmetic, Boolean}
+use Rattle.reached_instances.specs.Slot.{Slot}
+use Rattle.reached_instances.specs.SlotDomain.{SlotDomain}
+use Rattle.reached_instances.specs.SlotDomain.TheVariants as domain
+use Rattle.reached_instances.specs.Returned.TheVariants as given
+use Rattle.reached_instances.specs.WordOperator.{WordOperator}
+use Rattle.reached_instances.specs.WordOperator.TheVariants as word
+use Rattle.reached_instances.specs.BoolOperator.TheVariants as truth
+use Rattle.reached_instances.specs.BinaryOperator.TheVariants as operator
+use Rattle.reached_instances.specs.Operands.TheVariants.{Scalars, Arrays}
+use Rattle.reached_instances.specs.Connective.TheVariants.{AndAlso}
+use Rattle.reached_instances.specs.Cast.TheVariants.{WordToBool, BoolToWord}
+use Rattle.reached_instances.specs.Tree.{TypedTree, word_node, truth_node, slot_node, call_node, bits_node, element_node, cast_node, binary_node, cut_node}
+use Rattle.reached_instances.specs.Tree.{declassify_node, typed_trees_of}
+use Rattle.reached_instances.specs.Statements.{TypedStatementTree, typed_statements_of, empty_statement, block_statement, if_statement, loop_statement, do_statement}
+use Rattle.reached_instances.specs.Statements.{return_statement, continue_statement, assert_statement, store_statement, default_statement, fill_statement}
+use Rattle.reached_instances.specs.Statements.{input_statement, publish_statement}
+use Rattle.reached_instances.specs.Programs.{TypedFunctionTree, TypedProgramTree}
+use Rattle.reached_instances.specs.Shapes.{shape_of}
 use Rattle.language_model.specs.Effects.{Words, words_each, GivenInput, RunStop, Ended, Short}
 use Rattle.language_model.specs.Evaluation.{value, arguments, turns, repeats, execute, execute_all, call_at}
 use Rattle.language_model.specs.Reports.{Report, Offered, eval, blind}

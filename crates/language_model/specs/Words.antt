@@ -1,18 +1,18 @@
 -- What operators mean on words. A truth value is 1 or 0.
 use Rattle.std.specs.Prelude.{ℕ, ◌/◌, ◌%◌, Bool, true, false, not, ◌==◌, nat_lt, nat_le, nat_eq, List, replicate, bit_and, bit_or, bit_xor}
 use Rattle.std.specs.List.{list_any}
-use Rattle.gates.specs.Rings.{add_ring}
-use Rattle.gates.specs.Clear.{each_two, first_word}
-use Rattle.typed_tree.specs.declared.operators.WordOperator.{WordOperator}
-use Rattle.typed_tree.specs.declared.operators.WordOperator.TheVariants as word
-use Rattle.typed_tree.specs.declared.operators.BoolOperator.{BoolOperator}
-use Rattle.typed_tree.specs.declared.operators.BoolOperator.TheVariants as truth
-use Rattle.typed_tree.specs.declared.operators.BinaryOperator.{BinaryOperator}
-use Rattle.typed_tree.specs.declared.operators.BinaryOperator.TheVariants.{Words, Bools}
-use Rattle.typed_tree.specs.declared.operators.Operands.{Operands}
-use Rattle.typed_tree.specs.declared.operators.Operands.TheVariants.{Scalars, ArrayAndScalar, ScalarAndArray, Arrays}
-use Rattle.typed_tree.specs.declared.operators.Cast.{Cast}
-use Rattle.typed_tree.specs.declared.operators.Cast.TheVariants.{WordToWord, WordToBool, BoolToWord, BoolToBool}
+use Rattle.plans.specs.Rings.{add_ring}
+use Rattle.plans.specs.Clear.{each_two, first_word}
+use Rattle.reached_instances.specs.WordOperator.{WordOperator}
+use Rattle.reached_instances.specs.WordOperator.TheVariants as word
+use Rattle.reached_instances.specs.BoolOperator.{BoolOperator}
+use Rattle.reached_instances.specs.BoolOperator.TheVariants as truth
+use Rattle.reached_instances.specs.BinaryOperator.{BinaryOperator}
+use Rattle.reached_instances.specs.BinaryOperator.TheVariants.{Words, Bools}
+use Rattle.reached_instances.specs.Operands.{Operands}
+use Rattle.reached_instances.specs.Operands.TheVariants.{Scalars, ArrayAndScalar, ScalarAndArray, Arrays}
+use Rattle.reached_instances.specs.Cast.{Cast}
+use Rattle.reached_instances.specs.Cast.TheVariants.{WordToWord, WordToBool, BoolToWord, BoolToBool}
 use Rattle.language_model.specs.Values.{Value, size}
 
 abbrev pub truth_word : Bool → ℕ

@@ -7,9 +7,9 @@ ghost use Rattle.tape_twin.specs.Accepted.{IsAcceptedProgram};
 
 use crate::runs::inputs_of;
 use front_end::read_program;
-use program_limits::check_limits;
 use program_typing::checked_tree;
 use proto_core::Number;
+use reached_instances::check_limits;
 use row_files::Lines;
 use std::alloc::{AllocError, Global};
 use tape_file::Tapes;

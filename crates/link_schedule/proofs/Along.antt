@@ -10,7 +10,8 @@ use Rattle.protocol_model.proofs.Choosing.{one_longer}
 use Rattle.miner_core.specs.declared.answer.Lost.{Lost}
 use Rattle.miner_core.specs.Drawing.{left_for}
 use Rattle.link_schedule.specs.Net.{NetState, after}
-use Rattle.link_schedule.specs.Streams.{StreamNet, drawn_in, ahead_in, with_tapes, AreTapesOf, MayHave, ForEachTapes, HasLeft, HasGone, IsLostNow, GoesOr, Along}
+use Rattle.link_schedule.specs.Streams.{StreamNet, drawn_in, ahead_in, with_tapes, AreTapesOf, MayHave}
+use Rattle.link_schedule.specs.Streams.{ForEachTapes, HasLeft, HasGone, IsLostNow, GoesOr, Along}
 use Rattle.link_schedule.proofs.Drawing.{none, both, filled_tapes, some_tapes, net_drew_none, net_drew_more, lost_later, tapes_by, tapes_earlier}
 
 -- a net that may have these tapes at all
@@ -57,7 +58,8 @@ module _ (s t : StreamNet) (a b : TapesState) (Q : (before after : NetState) →
   may_after h tapes of = tapes_by (both (drawn_in s) h.taken) (drawn_in t) (λ i. left_for i b) (ahead_in t) (λ i. sym (h.state.drawn i)) h.state.left tapes of
 
   -- what is known of the net in the end
-  pub along_at : (R S : (before after : NetState) → Type 0) → Along s t a b None Q → ((tapes : Tapes) → MayHave t tapes → R (with_tapes s tapes) (with_tapes t tapes)) →
+  pub along_at : (R S : (before after : NetState) → Type 0) → Along s t a b None Q →
+      ((tapes : Tapes) → MayHave t tapes → R (with_tapes s tapes) (with_tapes t tapes)) →
       ((x y : NetState) → Q x y → R x y → S x y) → Along s t a b None S
   along_at R S h also step =
       record {
@@ -68,7 +70,8 @@ module _ (s t : StreamNet) (a b : TapesState) (Q : (before after : NetState) →
         still = h.still;
       }
 
-  pub along_more : (u : StreamNet) (c : TapesState) (lost : Option Lost) (R S : (before after : NetState) → Type 0) → Along s t a b None Q → Along t u b c lost R →
+  pub along_more : (u : StreamNet) (c : TapesState) (lost : Option Lost) (R S : (before after : NetState) → Type 0) → Along s t a b None Q →
+      Along t u b c lost R →
       ((x y z : NetState) → Q x y → R y z → S x z) → Along s u a c lost S
   along_more u c lost R S h k step =
       record {
@@ -76,7 +79,8 @@ module _ (s t : StreamNet) (a b : TapesState) (Q : (before after : NetState) →
         drew = net_drew_more a b c h.taken k.taken h.drew k.drew;
         state = state lost k.state;
         holds = λ tapes of.
-            let late : AreTapesOf (both (drawn_in t) k.taken) (λ i. left_for i c) tapes = tapes_by (both (drawn_in s) (both h.taken k.taken)) (both (drawn_in t) k.taken)
+            let late : AreTapesOf (both (drawn_in t) k.taken) (λ i. left_for i c) tapes
+            = tapes_by (both (drawn_in s) (both h.taken k.taken)) (both (drawn_in t) k.taken)
             (λ i. left_for i c) (λ i. left_for i c) joined (λ i. refl) tapes of in
             let early : AreTapesOf (both (drawn_in s) h.taken) (λ i. left_for i b) tapes = tapes_by (drawn_in t) (both (drawn_in s) h.taken) (λ i. left_for i b)
             (λ i. left_for i b) h.state.drawn (λ i. refl) tapes (tapes_earlier b c (drawn_in t) k.taken k.drew tapes late) in
@@ -92,7 +96,8 @@ module _ (s t : StreamNet) (a b : TapesState) (Q : (before after : NetState) →
       state (Some why) g = record { state = g.state; cause = lost_later a b c h.taken h.drew h.still why g.cause }
 
   -- the same with less said
-  pub along_less : (lost : Option Lost) (S : (before after : NetState) → Type 0) → Along s t a b lost Q → ((x y : NetState) → Q x y → S x y) → Along s t a b lost S
+  pub along_less : (lost : Option Lost) (S : (before after : NetState) → Type 0) → Along s t a b lost Q →
+      ((x y : NetState) → Q x y → S x y) → Along s t a b lost S
   along_less lost S h step =
       record {
         taken = h.taken;
@@ -103,7 +108,8 @@ module _ (s t : StreamNet) (a b : TapesState) (Q : (before after : NetState) →
       }
 
 -- a delivery more
-pub one_delivered : (s t : StreamNet) (a b : TapesState) (l : Link) → Along s t a b None (λ x y. y ≡ after x (l ∷ [])) → length t.delivered ≡ length s.delivered + 1
+pub one_delivered : (s t : StreamNet) (a b : TapesState) (l : Link) → Along s t a b None (λ x y. y ≡ after x (l ∷ [])) →
+    length t.delivered ≡ length s.delivered + 1
 one_delivered s t a b l h =
     let drawn = both (drawn_in s) h.taken in
     let left = λ (i : Number). left_for i b in

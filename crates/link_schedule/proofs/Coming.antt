@@ -24,18 +24,11 @@ use Rattle.miner_core.proofs.Sources.{drew_none}
 use Rattle.link_schedule.specs.declared.miners.Miners.{Miners}
 use Rattle.link_schedule.specs.Parts.{Stories, story_in, Takes, TakesIf, Comes}
 use Rattle.link_schedule.specs.Streams.{miner_in, stories_with, AreTapesOf, NetDrew}
-use Rattle.link_schedule.specs.Coming.{Taken, Gives, drawn_by, left_to, AreOfUse, Come, ComesTo}
+use Rattle.link_schedule.specs.Coming.{taken_by, Taken, Gives, drawn_by, left_to, AreOfUse, Come, ComesTo}
 use Rattle.link_schedule.proofs.Deliveries.{is_number}
 use Rattle.link_schedule.proofs.Drawing.{only, of_one, lost_later}
 
 -- ---- to one
-
--- whether a miner has taken a message, by its answer
-abbrev pub taken_by : Result Step StreamErr → Result (Unit {0}) Lost
-taken_by (Ok step) = Ok tt
-taken_by (Err (error.NotAwaited l)) = Ok tt
-taken_by (Err (error.BadMessage l cause)) = Ok tt
-taken_by (Err (error.Lost why)) = Err why
 
 -- an answer other than that it has ended
 abbrev IsOther : Result Step StreamErr → Link → Type 0
@@ -43,7 +36,8 @@ IsOther r l = r ≡ Err (error.NotAwaited l) → ⊥
 
 module _ (i : Number) (l : Link) (m : List ℕ) (before after : StreamState) (old new : TapesState) (going : before.lost ≡ None)
     (left : left_for i old ≡ before.ahead) (still : old.steady ≡ true → new.steady ≡ true) where
-  moved : (r : Result Step StreamErr) (a : Result Step MinerErr) → IsOther r l → ForEachTape before (λ s. stands_at i s ≡ AtItsEnd → r ≡ Err (error.NotAwaited l)) →
+  moved : (r : Result Step StreamErr) (a : Result Step MinerErr) → IsOther r l →
+      ForEachTape before (λ s. stands_at i s ≡ AtItsEnd → r ≡ Err (error.NotAwaited l)) →
       HasMoved i l m before after old new a → Gives i l m before after old new (Ok tt)
   moved r a other ended h =
       record {
@@ -135,7 +129,8 @@ module _ (l : Link) (m : List ℕ) (before after : Miners) (old new : TapesState
       takes : (tapes : Tapes) → AreTapesOf (drawn_by after) (left_to after) tapes → (j : Number) (b : Bool) → is_same i j ≡ b →
           TakesIf b j (with_tape (miner_in before j) (tapes j)) (with_tape (miner_in after j) (tapes j)) l m
       takes tapes of j true e =
-          subst (λ k. Takes k (with_tape (miner_in before k) (tapes k)) (with_tape (miner_in after k) (tapes k)) l m) (is_number i j e) (t.takes (tapes i) (of i))
+          subst (λ k. Takes k (with_tape (miner_in before k) (tapes k)) (with_tape (miner_in after k) (tapes k)) l m)
+          (is_number i j e) (t.takes (tapes i) (of i))
       takes tapes of j false e = ap (λ x. with_tape x (tapes j)) (rest j e)
 
       comes : (tapes : Tapes) → AreTapesOf (drawn_by after) (left_to after) tapes → Comes (stories_with before tapes) (stories_with after tapes) l m
@@ -150,17 +145,20 @@ module _ (l : Link) (m : List ℕ) (before after : Miners) (old new : TapesState
   comes_to (Err why) g = record { taken = only i g.taken; drew = of_one old new i g.taken g.drew; ok = tt; err = g.err; still = g.still }
 
 -- the others are as before
-pub other_one : (m : Miners) (x : StreamState) (j : Number) → is_same One j ≡ false → miner_in (record { one = x; two = m.two; three = m.three }) j ≡ miner_in m j
+pub other_one : (m : Miners) (x : StreamState) (j : Number) → is_same One j ≡ false →
+    miner_in (record { one = x; two = m.two; three = m.three }) j ≡ miner_in m j
 other_one m x One e = cc
 other_one m x Two e = refl
 other_one m x Three e = refl
 
-pub other_two : (m : Miners) (x : StreamState) (j : Number) → is_same Two j ≡ false → miner_in (record { one = m.one; two = x; three = m.three }) j ≡ miner_in m j
+pub other_two : (m : Miners) (x : StreamState) (j : Number) → is_same Two j ≡ false →
+    miner_in (record { one = m.one; two = x; three = m.three }) j ≡ miner_in m j
 other_two m x One e = refl
 other_two m x Two e = cc
 other_two m x Three e = refl
 
-pub other_three : (m : Miners) (x : StreamState) (j : Number) → is_same Three j ≡ false → miner_in (record { one = m.one; two = m.two; three = x }) j ≡ miner_in m j
+pub other_three : (m : Miners) (x : StreamState) (j : Number) → is_same Three j ≡ false →
+    miner_in (record { one = m.one; two = m.two; three = x }) j ≡ miner_in m j
 other_three m x One e = refl
 other_three m x Two e = refl
 other_three m x Three e = cc

@@ -23,7 +23,7 @@ use Rattle.protocol_model.proofs.Completing.{not_waiting}
 abbrev pub just : Link → List ℕ → Mail
 just l m k = if same_link l k then m ∷ [] else []
 
-none_is_some : {A P : Type 0} (x : A) → None ≡ Some x → P
+pub none_is_some : {A P : Type 0} (x : A) → None ≡ Some x → P
 none_is_some x e = cc
 
 pub next_found : (xs ys : List (List ℕ)) (m : List ℕ) → slice_get ys (length xs) ≡ Some m → next_after xs ys ≡ m ∷ []
@@ -59,7 +59,7 @@ found_is_more xs ys m e = lt_true (length xs) (length ys) (found_below xs ys m e
 pub none_is_all : (xs ys : List (List ℕ)) → slice_get ys (length xs) ≡ None → nat_lt (length xs) (length ys) ≡ false
 none_is_all xs ys e = lt_false (length xs) (length ys) (none_above xs ys e)
 
-same_number : (k : Number) → is_same k k ≡ true
+pub same_number : (k : Number) → is_same k k ≡ true
 same_number One = refl
 same_number Two = refl
 same_number Three = refl

@@ -1,4 +1,4 @@
--- A net whose miners draw, by its fields; and a message that comes.
+-- A net whose miners draw, by what it holds; and a message that comes.
 use Rattle.std.proofs.Common.{◌≡◌, ◌≤◌, ℕ, ◌+◌, true, false, List, [], ◌∷◌, ◌++◌, length, arith, refl, sym, ◌∙◌, ap, subst}
 use Rattle.std.specs.Prelude.{Option, Some, None, Result, Ok, Err, OnOk}
 use Rattle.outside.specs.Tapes.{TapesState}
@@ -6,9 +6,8 @@ use Rattle.proto_core.specs.declared.party.Number.{Number}
 use Rattle.proto_core.specs.declared.party.Number.TheVariants.{One, Two, Three}
 use Rattle.proto_core.specs.declared.link.Link.{Link}
 use Rattle.proto_core.specs.Net.{under_way}
-use Rattle.protocol_model.specs.Network.{one_more}
+use Rattle.protocol_model.specs.Network.{Counts, one_more}
 use Rattle.protocol_model.specs.Runs.{Tapes}
-use Rattle.counted_net.specs.declared.tally.Tally.{Tally}
 use Rattle.counted_net.specs.Cursors.{tally_on}
 use Rattle.miner_core.specs.declared.answer.Lost.{Lost}
 use Rattle.miner_core.specs.declared.answer.Lost.TheVariants as lost
@@ -18,7 +17,8 @@ use Rattle.link_schedule.specs.declared.miners.Miners.{Miners}
 use Rattle.link_schedule.specs.declared.net.Net3.TheInside.{Inside}
 use Rattle.link_schedule.specs.Net.{NetState, nodes_in, net_mail, is_under_way, after}
 use Rattle.link_schedule.specs.Parts.{Stories, AreAlike, IsFresh, IsAt, IsNet, story_in, state_of}
-use Rattle.link_schedule.specs.Streams.{StreamNet, miner_in, stories_with, drawn_in, ahead_in, with_tapes, net_of, AreTapesOf, MayHave, ForEachTapes, HasLeft, IsFreshStream, IsMinerOf}
+use Rattle.link_schedule.specs.Streams.{StreamNet, miner_in, stories_with, drawn_in, ahead_in, with_tapes, net_of, AreTapesOf}
+use Rattle.link_schedule.specs.Streams.{MayHave, ForEachTapes, HasLeft, IsFreshStream, IsMinerOf}
 use Rattle.link_schedule.specs.Streams.{HasGone, IsLostNow, Along, lost_by}
 use Rattle.link_schedule.specs.Coming.{drawn_by, left_to, AreOfUse, Come, ComesTo, AreNet}
 use Rattle.link_schedule.proofs.Along.{some_net}
@@ -26,7 +26,18 @@ use Rattle.link_schedule.proofs.Coming.{story_at}
 use Rattle.link_schedule.proofs.Drawing.{both, filled_tapes, tapes_by, tapes_earlier}
 use Rattle.link_schedule.proofs.Joining.{GivenTo, few_came, first_net, given_to, part_at}
 
--- ---- by its fields
+-- ---- by what it holds
+
+-- three miners, the links of the deliveries, how many came on each, and why it is of no further use
+pub record Held : Type 0 where
+  pub miners : Miners
+  pub links : List Link
+  pub given : Counts
+  pub lost : Option Lost
+
+-- a net with its tally
+abbrev pub held : Inside → Held
+held n = record { miners = n.miners; links = n.recorded.items; given = tally_on n.given; lost = n.lost }
 
 drawn_at : (m : Miners) (links : List Link) (lost : Option Lost) (i : Number) → drawn_in (net_of m links lost) i ≡ drawn_by m i
 drawn_at m links lost One = refl
@@ -40,16 +51,23 @@ ahead_at m links lost Three = refl
 
 may_of : (m : Miners) (links : List Link) (lost : Option Lost) (tapes : Tapes) → MayHave (net_of m links lost) tapes → AreTapesOf (drawn_by m) (left_to m) tapes
 may_of m links lost tapes may =
-    tapes_by (drawn_in (net_of m links lost)) (drawn_by m) (ahead_in (net_of m links lost)) (left_to m) (drawn_at m links lost) (ahead_at m links lost) tapes may
+    tapes_by (drawn_in (net_of m links lost)) (drawn_by m) (ahead_in (net_of m links lost)) (left_to m)
+    (drawn_at m links lost) (ahead_at m links lost) tapes may
 
--- what is known of the fields with tapes that the net may have
-pub record InNet (s : StreamNet) (n : Inside) (tapes : Tapes) : Type 0 where
+pub may_with : (m : Miners) (links : List Link) (lost : Option Lost) (tapes : Tapes) → AreTapesOf (drawn_by m) (left_to m) tapes →
+    MayHave (net_of m links lost) tapes
+may_with m links lost tapes of =
+    tapes_by (drawn_by m) (drawn_in (net_of m links lost)) (left_to m) (ahead_in (net_of m links lost)) (λ i. sym (drawn_at m links lost i))
+    (λ i. sym (ahead_at m links lost i)) tapes of
+
+-- what is known of it with tapes that the net may have
+pub record InNet (s : StreamNet) (n : Held) (tapes : Tapes) : Type 0 where
   pub usable : AreOfUse n.miners
   pub may : AreTapesOf (drawn_by n.miners) (left_to n.miners) tapes
   pub net : IsNet (with_tapes s tapes) (stories_with n.miners tapes) n.given
 
-module _ (s : StreamNet) (n : Inside) (view : net_of n.miners n.recorded.items n.lost ≡ s)
-    (is : n.lost ≡ None → AreNet n.miners n.recorded.items n.given) (going : s.lost ≡ None) where
+module _ (s : StreamNet) (n : Held) (view : net_of n.miners n.links n.lost ≡ s) (is : n.lost ≡ None → AreNet n.miners n.links n.given)
+    (going : s.lost ≡ None) where
   of_use : n.lost ≡ None
   of_use = ap (λ (x : StreamNet). x.lost) view ∙ going
 
@@ -61,10 +79,10 @@ module _ (s : StreamNet) (n : Inside) (view : net_of n.miners n.recorded.items n
       subst (λ x. MayHave x tapes → InNet x n tapes) view
       (λ h. record {
         usable = use_at;
-        may = may_of n.miners n.recorded.items n.lost tapes h;
+        may = may_of n.miners n.links n.lost tapes h;
         net =
-            subst (λ l. IsNet (state_of (stories_with n.miners tapes) n.recorded.items (has_lost l)) (stories_with n.miners tapes) n.given) (sym of_use)
-            ((is of_use).net tapes (may_of n.miners n.recorded.items n.lost tapes h));
+            subst (λ l. IsNet (state_of (stories_with n.miners tapes) n.links (has_lost l)) (stories_with n.miners tapes) n.given) (sym of_use)
+            ((is of_use).net tapes (may_of n.miners n.links n.lost tapes h));
       })
       may
 
@@ -72,8 +90,8 @@ module _ (s : StreamNet) (n : Inside) (view : net_of n.miners n.recorded.items n
   miner_at i =
       record {
         going = use_at i;
-        drawn = sym (drawn_at n.miners n.recorded.items n.lost i) ∙ ap (λ (x : StreamNet). drawn_in x i) view;
-        ahead = sym (ahead_at n.miners n.recorded.items n.lost i) ∙ ap (λ (x : StreamNet). ahead_in x i) view;
+        drawn = sym (drawn_at n.miners n.links n.lost i) ∙ ap (λ (x : StreamNet). drawn_in x i) view;
+        ahead = sym (ahead_at n.miners n.links n.lost i) ∙ ap (λ (x : StreamNet). ahead_in x i) view;
         at = λ tapes may.
             subst (IsAt (with_tapes s tapes) i) (story_at n.miners tapes i)
             (part_at (with_tapes s tapes) i (story_in (stories_with n.miners tapes) i) ((net_at tapes may).net.parts i));
@@ -81,10 +99,10 @@ module _ (s : StreamNet) (n : Inside) (view : net_of n.miners n.recorded.items n
 
   -- the source has the words that are left to the miners
   pub left_at : (a : TapesState) → HasLeft s a → (i : Number) → left_for i a ≡ left_to n.miners i
-  left_at a left i = left going i ∙ sym (ap (λ (x : StreamNet). ahead_in x i) view) ∙ ahead_at n.miners n.recorded.items n.lost i
+  left_at a left i = left going i ∙ sym (ap (λ (x : StreamNet). ahead_in x i) view) ∙ ahead_at n.miners n.links n.lost i
 
   -- no more came on a link than there were deliveries
-  pub given_few : (l : Link) → tally_on n.given l ≤ length n.recorded.items
+  pub given_few : (l : Link) → n.given l ≤ length n.links
   given_few l =
       let tapes = filled_tapes (drawn_in s) (ahead_in s) in
       let counted = (net_at tapes (some_net s)).net.counted l in
@@ -98,7 +116,7 @@ fresh_story : (m : StreamState) (tape : List ℕ) → IsFreshStream m → IsFres
 fresh_story m tape f = record { from_previous = f.from_previous; from_next = f.from_next; going = ap has_lost f.going }
 
 pub fresh_net : (m : Miners) → AreAlike m.one.story m.two.story → AreAlike m.one.story m.three.story → IsFreshStream m.one → IsFreshStream m.two →
-    IsFreshStream m.three → (g : Tally) → ((l : Link) → tally_on g l ≡ 0) → AreNet m [] g
+    IsFreshStream m.three → (g : Counts) → ((l : Link) → g l ≡ 0) → AreNet m [] g
 fresh_net m two three f1 f2 f3 g none_given = record { going = going; net = net }
   where
     going : AreOfUse m
@@ -114,8 +132,8 @@ fresh_net m two three f1 f2 f3 g none_given = record { going = going; net = net 
 
 -- ---- a message comes
 
-module _ (s : StreamNet) (n : Inside) (view : net_of n.miners n.recorded.items n.lost ≡ s)
-    (is : n.lost ≡ None → AreNet n.miners n.recorded.items n.given) (going : s.lost ≡ None) (m2 : Miners) (a b : TapesState) (l : Link) (msg : List ℕ) where
+module _ (s : StreamNet) (n : Held) (view : net_of n.miners n.links n.lost ≡ s) (is : n.lost ≡ None → AreNet n.miners n.links n.given)
+    (going : s.lost ≡ None) (m2 : Miners) (a b : TapesState) (l : Link) (msg : List ℕ) where
   abbrev Delivered : Result (Unit {0}) Lost → NetState → NetState → Type 0
   Delivered r x y = OnOk r (y ≡ after x (l ∷ []))
 
@@ -144,14 +162,14 @@ module _ (s : StreamNet) (n : Inside) (view : net_of n.miners n.recorded.items n
       }
 
   module _ (left : HasLeft s a) (full : ForEachTapes s (λ net. is_under_way net l ≡ true))
-      (message : ForEachTapes s (λ net. under_way (nodes_in net) (net_mail net) l ≡ msg ∷ [])) (more : List Link) (more_is : more ≡ n.recorded.items ++ l ∷ [])
-      (g2 : Tally) (counted : (k : Link) → tally_on g2 k ≡ one_more l (tally_on n.given) k) (c : ComesTo l msg n.miners m2 a b (Ok tt)) where
+      (message : ForEachTapes s (λ net. under_way (nodes_in net) (net_mail net) l ≡ msg ∷ [])) (more : List Link) (more_is : more ≡ n.links ++ l ∷ [])
+      (g2 : Counts) (counted : (k : Link) → g2 k ≡ one_more l n.given k) (c : ComesTo l msg n.miners m2 a b (Ok tt)) where
     abbrev came : Come l msg n.miners m2 a b c.taken
     came = c.ok
 
     drawn_so : (i : Number) → drawn_by m2 i ≡ drawn_in s i ++ c.taken i
     drawn_so i =
-        came.drawn i ∙ ap (λ w. w ++ c.taken i) (sym (drawn_at n.miners n.recorded.items n.lost i) ∙ ap (λ (x : StreamNet). drawn_in x i) view)
+        came.drawn i ∙ ap (λ w. w ++ c.taken i) (sym (drawn_at n.miners n.links n.lost i) ∙ ap (λ (x : StreamNet). drawn_in x i) view)
 
     -- with tapes that it may have now
     given_with : (tapes : Tapes) → AreTapesOf (drawn_by m2) (left_to m2) tapes → GivenTo (with_tapes s tapes) (stories_with m2 tapes) g2 more l
@@ -159,9 +177,10 @@ module _ (s : StreamNet) (n : Inside) (view : net_of n.miners n.recorded.items n
         let all : AreTapesOf (both (drawn_in s) c.taken) (λ i. left_for i b) tapes =
         tapes_by (drawn_by m2) (both (drawn_in s) c.taken) (left_to m2) (λ i. left_for i b) drawn_so (λ i. sym (came.left i)) tapes of in
         let may : MayHave s tapes =
-        tapes_by (drawn_in s) (drawn_in s) (λ i. left_for i a) (ahead_in s) (λ i. refl) (left going) tapes (tapes_earlier a b (drawn_in s) c.taken c.drew tapes all) in
+        tapes_by (drawn_in s) (drawn_in s) (λ i. left_for i a) (ahead_in s) (λ i. refl) (left going) tapes
+        (tapes_earlier a b (drawn_in s) c.taken c.drew tapes all) in
         let here = net_at s n view is going tapes may in
-        given_to (with_tapes s tapes) (stories_with n.miners tapes) (stories_with m2 tapes) n.given g2 n.recorded.items more (has_lost n.lost) l msg
+        given_to (with_tapes s tapes) (stories_with n.miners tapes) (stories_with m2 tapes) n.given g2 n.links more (has_lost n.lost) l msg
         (ap (λ x. with_tapes x tapes) view) here.net (ap has_lost going) (full going tapes may) (message going tapes may) more_is (came.comes tapes of) counted
 
     pub given_net : AreNet m2 more g2
@@ -178,6 +197,7 @@ module _ (s : StreamNet) (n : Inside) (view : net_of n.miners n.recorded.items n
             left = λ i. came.left i ∙ sym (ahead_at m2 more None i);
           };
           holds = λ tapes of.
-              (given_with tapes (tapes_by (both (drawn_in s) c.taken) (drawn_by m2) (λ i. left_for i b) (left_to m2) (λ i. sym (drawn_so i)) came.left tapes of)).state;
+              (given_with tapes (tapes_by (both (drawn_in s) c.taken) (drawn_by m2) (λ i. left_for i b) (left_to m2)
+              (λ i. sym (drawn_so i)) came.left tapes of)).state;
           still = c.still;
         }

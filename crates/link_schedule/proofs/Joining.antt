@@ -13,14 +13,12 @@ use Rattle.proto_core.specs.Net.{into, added, nothing, mail_of, under_way, all_d
 use Rattle.proto_core.specs.Standing.{AtItsEnd}
 use Rattle.proto_core.proofs.Beginnings.{append-none}
 use Rattle.proto_core.proofs.Nodes.{mail-none}
-use Rattle.protocol_model.specs.Network.{one_more, waits_for}
+use Rattle.protocol_model.specs.Network.{Counts, one_more, waits_for}
 use Rattle.protocol_model.proofs.NetCounts.{counts-delivered, lt_from}
 use Rattle.miner_core.specs.Meaning.{fuel}
 use Rattle.miner_core.specs.Places.{first_place}
 use Rattle.miner_core.specs.OwnCode.{own_code}
 use Rattle.miner_core.specs.Story.{Story, received, mail_in, strand_in, node, stands_at}
-use Rattle.counted_net.specs.declared.tally.Tally.{Tally}
-use Rattle.counted_net.specs.Cursors.{tally_on}
 use Rattle.link_schedule.specs.Net.{Own, NetState, nodes_in, net_mail, net_node, net_posted, is_under_way, after}
 use Rattle.link_schedule.specs.Parts.{Stories, story_in, own_of, state_of, AreAlike, IsFresh, Takes, TakesIf, Comes, sent_in, IsAt, IsPart, IsNet}
 use Rattle.link_schedule.proofs.Deliveries.{just, delivered-all, no_more, comes_to, passes_by, added_none, SameNode, late_same, is_number}
@@ -165,17 +163,17 @@ module _ (net : NetState) (l : Link) (m : List ℕ) (is : under_way (nodes_in ne
 
 -- ---- all three
 
-pub record IsDelivered (m m2 : Stories) (g2 : Tally) (links : List Link) (was : Bool) (l : Link) : Type 0 where
+pub record IsDelivered (m m2 : Stories) (g2 : Counts) (links : List Link) (was : Bool) (l : Link) : Type 0 where
   pub net : IsNet (state_of m2 (links ++ l ∷ []) false) m2 g2
   pub state : state_of m2 (links ++ l ∷ []) false ≡ after (state_of m links was) (l ∷ [])
 
-module _ (m m2 : Stories) (g g2 : Tally) (links : List Link) (was : Bool) (l : Link) (msg : List ℕ) (going : was ≡ false) where
+module _ (m m2 : Stories) (g g2 : Counts) (links : List Link) (was : Bool) (l : Link) (msg : List ℕ) (going : was ≡ false) where
   abbrev before : NetState
   before = state_of m links was
 
   pub delivered_net :
       IsNet before m g → is_under_way before l ≡ true → under_way (nodes_in before) (net_mail before) l ≡ msg ∷ [] → Comes m m2 l msg →
-      ((k : Link) → tally_on g2 k ≡ one_more l (tally_on g) k) → IsDelivered m m2 g2 links was l
+      ((k : Link) → g2 k ≡ one_more l g k) → IsDelivered m m2 g2 links was l
   delivered_net net full is comes given =
       let state : state_of m2 (links ++ l ∷ []) false ≡ after before (l ∷ []) =
       ap (state_of m2 (links ++ l ∷ [])) (sym going) ∙ state_same m m2 (comes_made m m2 l msg comes) (links ++ l ∷ []) was in
@@ -193,13 +191,13 @@ module _ (m m2 : Stories) (g g2 : Tally) (links : List Link) (was : Bool) (l : L
       }
 
 -- a message that was under way has come to three miners of this net, with this schedule behind it
-pub record GivenTo (net : NetState) (m : Stories) (g : Tally) (links : List Link) (l : Link) : Type 0 where
+pub record GivenTo (net : NetState) (m : Stories) (g : Counts) (links : List Link) (l : Link) : Type 0 where
   pub net_is : IsNet (state_of m links false) m g
   pub state : state_of m links false ≡ after net (l ∷ [])
 
-pub given_to : (net : NetState) (m m2 : Stories) (g g2 : Tally) (links more : List Link) (was : Bool) (l : Link) (msg : List ℕ) →
+pub given_to : (net : NetState) (m m2 : Stories) (g g2 : Counts) (links more : List Link) (was : Bool) (l : Link) (msg : List ℕ) →
     state_of m links was ≡ net → IsNet net m g → net.lost ≡ false → is_under_way net l ≡ true → under_way (nodes_in net) (net_mail net) l ≡ msg ∷ [] →
-    more ≡ links ++ l ∷ [] → Comes m m2 l msg → ((k : Link) → tally_on g2 k ≡ one_more l (tally_on g) k) → GivenTo net m2 g2 more l
+    more ≡ links ++ l ∷ [] → Comes m m2 l msg → ((k : Link) → g2 k ≡ one_more l g k) → GivenTo net m2 g2 more l
 given_to net m m2 g g2 links more was l msg view net_is going full is more_is comes given =
     let d =
     delivered_net m m2 g g2 links was l msg (ap (λ (n : NetState). n.lost) view ∙ going) (subst (λ n. IsNet n m g) (sym view) net_is)
@@ -210,23 +208,23 @@ given_to net m m2 g g2 links more was l msg view net_is going full is more_is co
     }
 
 -- for which link a miner of the net waits
-pub waits_is : (net : NetState) (m : Stories) (g : Tally) → IsNet net m g → (i : Number) (o : Option Link) → o ≡ waits_for (node i (story_in m i)).left →
+pub waits_is : (net : NetState) (m : Stories) (g : Counts) → IsNet net m g → (i : Number) (o : Option Link) → o ≡ waits_for (node i (story_in m i)).left →
     waits_for (net_node net i).left ≡ o
 waits_is net m g n i o e = sym (e ∙ ap waits_for (part_at net i (story_in m i) (n.parts i)).left)
 
 -- the message that is under way, if one is
-module _ (net : NetState) (m : Stories) (g : Tally) (n : IsNet net m g) (l : Link) where
-  asked : slice_get (sent_in m l) (tally_on g l) ≡ slice_get (net_posted net l) (length (net_mail net l))
-  asked = ap (λ xs. slice_get xs (tally_on g l)) (sent_is net m n.parts l) ∙ ap (slice_get (net_posted net l)) (n.counted l)
+module _ (net : NetState) (m : Stories) (g : Counts) (n : IsNet net m g) (l : Link) where
+  asked : slice_get (sent_in m l) (g l) ≡ slice_get (net_posted net l) (length (net_mail net l))
+  asked = ap (λ xs. slice_get xs (g l)) (sent_is net m n.parts l) ∙ ap (slice_get (net_posted net l)) (n.counted l)
 
-  pub some_under_way : (o : Option (List ℕ)) → o ≡ slice_get (sent_in m l) (tally_on g l) →
+  pub some_under_way : (o : Option (List ℕ)) → o ≡ slice_get (sent_in m l) (g l) →
       IfSome o (λ msg. (is_under_way net l ≡ true) × (under_way (nodes_in net) (net_mail net) l ≡ msg ∷ []))
   some_under_way None e = tt
   some_under_way (Some msg) e =
       let found = sym (e ∙ asked) in
       (found_is_more (net_mail net l) (net_posted net l) msg found, next_found (net_mail net l) (net_posted net l) msg found)
 
-  pub none_under_way : (o : Option (List ℕ)) → o ≡ slice_get (sent_in m l) (tally_on g l) → IfNone o (is_under_way net l ≡ false)
+  pub none_under_way : (o : Option (List ℕ)) → o ≡ slice_get (sent_in m l) (g l) → IfNone o (is_under_way net l ≡ false)
   none_under_way None e = none_is_all (net_mail net l) (net_posted net l) (sym (e ∙ asked))
   none_under_way (Some msg) e = tt
 
@@ -281,6 +279,6 @@ module _ (m : Stories) (two : AreAlike m.one m.two) (three : AreAlike m.one m.th
         none_late = λ h. refl;
       }
 
-  pub first_net : (g : Tally) → ((l : Link) → tally_on g l ≡ 0) → IsNet (state_of m [] false) m g
+  pub first_net : (g : Counts) → ((l : Link) → g l ≡ 0) → IsNet (state_of m [] false) m g
   unfolding net_mail
   first_net g h = record { parts = first_part; counted = h }

@@ -10,3 +10,5 @@ pub mod Along
 pub mod Coming
 pub mod Giving
 pub mod Ordering
+pub mod Passing
+pub mod LeanNets

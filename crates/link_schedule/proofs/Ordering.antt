@@ -51,7 +51,8 @@ module _ (word : ℕ) (s t : StreamNet) (a b : TapesState) (chose : Option Link)
         along_at s t a b (Making (λ k. word)) (λ x y. Chose o y) (λ x y. Making (λ k. word) x y × Chose o y) h
         (λ tapes may. sym (choice h.state.going tapes may) ∙ is) (λ x y m c. (m, c))
 
-    pub making_on : (l : Link) (u : StreamNet) (c : TapesState) → chose ≡ Some l → Along t u b c None (Delivered l (Ok tt)) → Along s u a c None (Making (λ k. word))
+    pub making_on : (l : Link) (u : StreamNet) (c : TapesState) → chose ≡ Some l → Along t u b c None (Delivered l (Ok tt)) →
+        Along s u a c None (Making (λ k. word))
     making_on l u c is d =
         along_more s t a b (λ x y. Making (λ k. word) x y × Chose (Some l) y) u c None (Delivered l (Ok tt)) (Making (λ k. word)) (known (Some l) is) d
         (λ x y z m e. making_more (λ k. word) x y m.0 l z m.1 e)

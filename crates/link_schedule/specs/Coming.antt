@@ -1,13 +1,16 @@
 -- For the crate's own functions: what a message does that comes to one of three miners which draw their tapes.
-use Rattle.std.specs.Prelude.{◌≡◌, true, false, Bool, ℕ, List, ◌++◌, None, Result, OnOk, IfErr}
+use Rattle.std.specs.Prelude.{◌≡◌, true, false, Bool, ℕ, List, ◌++◌, None, Result, Ok, Err, OnOk, IfErr}
 use Rattle.outside.specs.Tapes.{TapesState, Drew}
 use Rattle.proto_core.specs.declared.party.Number.{Number}
 use Rattle.proto_core.specs.declared.link.Link.{Link}
 use Rattle.proto_core.specs.Parties.{count_of, receiver_of, is_same}
+use Rattle.protocol_model.specs.Network.{Counts}
 use Rattle.protocol_model.specs.Runs.{Tapes}
 use Rattle.gate_node.specs.Nodes.{IsTapeOf}
-use Rattle.counted_net.specs.declared.tally.Tally.{Tally}
 use Rattle.miner_core.specs.declared.answer.Lost.{Lost}
+use Rattle.miner_core.specs.declared.answer.Step.{Step}
+use Rattle.miner_core.specs.declared.answer.StreamErr.{StreamErr}
+use Rattle.miner_core.specs.declared.answer.StreamErr.TheVariants as error
 use Rattle.miner_core.specs.Drawing.{left_for, IsLostBy}
 use Rattle.miner_core.specs.Streams.{StreamState, with_tape}
 use Rattle.link_schedule.specs.declared.miners.Miners.{Miners}
@@ -15,6 +18,13 @@ use Rattle.link_schedule.specs.Parts.{Stories, Takes, Comes, IsNet, state_of}
 use Rattle.link_schedule.specs.Streams.{miner_in, stories_with, AreTapesOf, NetDrew}
 
 -- ---- to one miner
+
+-- whether a miner has taken a message, by its answer: where it isn't accepted, and where the miner has ended, it has come all the same
+abbrev pub taken_by : Result Step StreamErr → Result (Unit {0}) Lost
+taken_by (Ok step) = Ok tt
+taken_by (Err (error.NotAwaited l)) = Ok tt
+taken_by (Err (error.BadMessage l cause)) = Ok tt
+taken_by (Err (error.Lost why)) = Err why
 
 module _ (i : Number) (l : Link) (m : List ℕ) (before after : StreamState) (old new : TapesState) where
   pub record Taken (taken : List ℕ) : Type 0 where
@@ -63,7 +73,7 @@ module _ (l : Link) (m : List ℕ) (before after : Miners) (old new : TapesState
     pub still : old.steady ≡ true → new.steady ≡ true
 
 -- three miners at work and the counts of what was delivered: with all tapes that they may have they are parts of their net
-pub record AreNet (m : Miners) (links : List Link) (given : Tally) : Type 0 where
+pub record AreNet (m : Miners) (links : List Link) (given : Counts) : Type 0 where
   pub going : AreOfUse m
   pub net :
       (tapes : Tapes) → AreTapesOf (drawn_by m) (left_to m) tapes → IsNet (state_of (stories_with m tapes) links false) (stories_with m tapes) given

@@ -6,8 +6,7 @@ use Rattle.proto_core.specs.Parties.{sender_of, receiver_of, is_same}
 use Rattle.proto_core.specs.Strand.{Mail, on_link}
 use Rattle.proto_core.specs.Net.{into, added, nothing}
 use Rattle.proto_core.specs.Standing.{AtItsEnd, standing_of}
-use Rattle.counted_net.specs.declared.tally.Tally.{Tally}
-use Rattle.counted_net.specs.Cursors.{tally_on}
+use Rattle.protocol_model.specs.Network.{Counts}
 use Rattle.miner_core.specs.Story.{Story, received, mail_in, node, stands_at}
 use Rattle.link_schedule.specs.Net.{Own, NetState, by_number, own_in, net_mail, net_node}
 
@@ -90,6 +89,6 @@ pub record IsPart (net : NetState) (i : Number) (s : Story) : Type 0 where
 -- ---- counts
 
 -- three of which this is the net, and the counts of what was delivered
-pub record IsNet (net : NetState) (m : Stories) (given : Tally) : Type 0 where
+pub record IsNet (net : NetState) (m : Stories) (given : Counts) : Type 0 where
   pub parts : (i : Number) → IsPart net i (story_in m i)
-  pub counted : (l : Link) → tally_on given l ≡ length (net_mail net l)
+  pub counted : (l : Link) → given l ≡ length (net_mail net l)

@@ -9,13 +9,26 @@ ghost use Rattle.miner_core.specs.Story.{node};
 ghost use Rattle.miner_core.specs.Streams.{ForEachTape};
 ghost use Rattle.link_schedule.specs.Streams.{miner_in};
 ghost use Rattle.link_schedule.specs.Parts.{sent_in};
-ghost use Rattle.link_schedule.specs.Coming.{Gives, ComesTo, ForEachOf};
+ghost use Rattle.link_schedule.specs.Coming.{taken_by, Gives, ComesTo, ForEachOf};
 
 use miner_core::{Lost, Step, StreamErr, StreamMiner};
 use outside::TapeSource;
 use proto_core::{Link, Messages, Msg, Number, P1, P2, P3, Party};
 
-/// A message comes to a miner. Where it isn't accepted, and where the miner has ended, it has come all the same.
+/// What comes of a message, by what the miner to whom it comes answers. Where it isn't accepted, and where the miner has ended, it has come all the
+/// same.
+pub(crate) fn taken(answer: Result<Step, StreamErr>) -> Result<(), Lost>
+    ensures { result ≡ taken_by answer }
+{
+    match answer {
+        Ok(_) => Ok(()),
+        Err(StreamErr::BadMessage { link: _, cause: _ }) => Ok(()),
+        Err(StreamErr::NotAwaited { link: _ }) => Ok(()),
+        Err(StreamErr::Lost(lost)) => Err(lost),
+    }
+}
+
+/// A message comes to a miner.
 fn give<P: Party, T: TapeSource>(
     miner: &mut StreamMiner<P>,
     link: Link,
@@ -27,12 +40,7 @@ fn give<P: Party, T: TapeSource>(
     requires left { left_for P.me (T.state tapes.old) ≡ miner.old.ahead }
     ensures { Gives P.me link message.now miner.old miner.new (T.state tapes.old) (T.state tapes.new) result }
 {
-    match miner.deliver(link, message, tapes) {
-        Ok(_) => Ok(()),
-        Err(StreamErr::BadMessage { link: _, cause: _ }) => Ok(()),
-        Err(StreamErr::NotAwaited { link: _ }) => Ok(()),
-        Err(StreamErr::Lost(lost)) => Err(lost),
-    }
+    taken(miner.deliver(link, message, tapes))
 }
 
 /// The link for whose next message a miner waits, also where its oldest message isn't accepted.

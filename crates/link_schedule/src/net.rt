@@ -44,6 +44,7 @@ impl Drop for Net3 {
 
 impl Model for Net3 {
     ghost use Rattle.std.specs.Prelude.{◌≡◌, None};
+    ghost use Rattle.counted_net.specs.Cursors.{tally_on};
     ghost use Rattle.link_schedule.specs.Coming.{AreNet};
     ghost use Rattle.link_schedule.specs.Streams.{StreamNet, net_of};
 
@@ -51,7 +52,7 @@ impl Model for Net3 {
 
     ghost view = { λ n. net_of n.miners n.recorded.items n.lost };
 
-    ghost invariant = { λ n. n.lost ≡ None → AreNet n.miners n.recorded.items n.given };
+    ghost invariant = { λ n. n.lost ≡ None → AreNet n.miners n.recorded.items (tally_on n.given) };
 }
 
 impl Net3 {

@@ -25,14 +25,14 @@ use Rattle.language_model.specs.Words.{truth_word}
 use Rattle.language_model.specs.Evaluation.{is_private, gives_private, slots_of, bound_at, connective, shape_at, either}
 use Rattle.bytecode.specs.declared.kind.Kind.{Kind}
 use Rattle.verified_code.specs.Steps.{Step, Function, Not, Cast, Size, Sum, Bits, Declassify, Call}
-use Rattle.code_model.specs.Fit.{IsFit, AreFit}
-use Rattle.code_model.specs.Kinds.{depth, depths, kind_of, slot_kind, shape_in, kind_in, private_kind_in, truth_kind, in_row}
-use Rattle.code_model.specs.Kinded.{HasKind, ResultFits, left_array, right_array}
-use Rattle.code_model.specs.Expressions.{Numbers, result_at, classifying, lacks, own_at, classified_at, stands_at, next_row, binary_code, cut_code, expression_code}
-use Rattle.code_model.specs.Expressions.{expression_code}
-use Rattle.code_model.specs.Expressions.{arguments_code, arguments_places, unread_code}
-use Rattle.code_model.specs.Programs.{code_of_found}
-use Rattle.code_model.proofs.Widths.{depth_some}
+use Rattle.raw_steps.specs.Fit.{IsFit, AreFit}
+use Rattle.raw_steps.specs.Kinds.{depth, depths, kind_of, slot_kind, shape_in, kind_in, private_kind_in, truth_kind, in_row}
+use Rattle.raw_steps.specs.Kinded.{HasKind, ResultFits, left_array, right_array}
+use Rattle.raw_steps.specs.Expressions.{Numbers, result_at, classifying, lacks, own_at, classified_at, stands_at, next_row, binary_code, cut_code, expression_code}
+use Rattle.raw_steps.specs.Expressions.{expression_code}
+use Rattle.raw_steps.specs.Expressions.{arguments_code, arguments_places, unread_code}
+use Rattle.raw_steps.specs.Programs.{code_of_found}
+use Rattle.raw_steps.proofs.Widths.{depth_some}
 use Rattle.raw_steps.specs.Right.{kind, operand_element, AreOf, IsRight}
 use Rattle.well_typed.specs.Kinds.{scalar, operand_of, left_is_array, right_is_array}
 use Rattle.well_typed.specs.Expressions.{Gives, AreTaken}

@@ -24,10 +24,10 @@ use Rattle.reached_instances.specs.Instances.{Instance}
 use Rattle.reached_instances.specs.Calls.{called, main_of}
 use Rattle.reached_instances.specs.Reached.{IsReachedList}
 use Rattle.language_model.specs.Evaluation.{StatementContext, is_private, bound_at, slots_of}
-use Rattle.code_model.specs.Fit as fit
-use Rattle.code_model.specs.Fit.{MayStand, IsFit, AreFit, FitsSlot, IsFitStatement, AreFitStatements, IsThere, IsFitAlone, IsFitProgram, the_main, gives_value}
-use Rattle.code_model.proofs.Means.{means}
-use Rattle.code_model.proofs.Reached.{reached_fit}
+use Rattle.raw_steps.specs.Fit as fit
+use Rattle.raw_steps.specs.Fit.{MayStand, IsFit, AreFit, FitsSlot, IsFitStatement, AreFitStatements, IsThere, IsFitAlone, IsFitProgram, the_main, gives_value}
+use Rattle.raw_steps.proofs.Means.{means}
+use Rattle.raw_steps.proofs.Reached.{reached_fit}
 use Rattle.well_typed.specs.Kinds.{GoesTo}
 use Rattle.well_typed.specs.Expressions.{Gives, AreTaken}
 use Rattle.well_typed.specs.Statements.{FitsInto, IsWellTypedStatement, AreWellTypedStatements}

@@ -8,7 +8,7 @@ use Rattle.typed_tree.specs.Programs.{TypedProgramTree}
 use Rattle.reached_instances.specs.Instances.{Instance}
 use Rattle.reached_instances.specs.Reached.{IsReachedList}
 use Rattle.reached_instances.proofs.ReachedLists.{is_the_only_list}
-use Rattle.program_limits.specs.Limits.{size_in, size_of, sizes, templates, is_too_large, IsWithinLimits}
+use Rattle.reached_instances.specs.Limits.{size_in, size_of, sizes, templates, is_too_large, IsWithinLimits}
 use Rattle.lowered_code.specs.Laws.{AreSmall}
 
 -- where nothing is refused, no size is

@@ -17,7 +17,7 @@ use Rattle.name_resolution.specs.Values.{TypedValue, TypedCall, of_both, variabl
 use Rattle.name_resolution.specs.Values.{operation_made, operation, gives_value, with_shape, value_given, shape_returned, tree_of_value, built_in_value, called}
 use Rattle.name_resolution.specs.Values.{and_values, value, values}
 use Rattle.name_resolution.proofs.SoundValues.{mapped, both_there, then_there, some_is}
-use Rattle.code_model.proofs.Widths.{width, widths}
+use Rattle.raw_steps.proofs.Widths.{width, widths}
 
 -- arguments have a register more each
 abbrev pub all_widths : List TypedValue → ℕ

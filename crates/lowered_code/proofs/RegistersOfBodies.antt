@@ -26,7 +26,7 @@ use Rattle.name_resolution.specs.Resolving.{known_at, named}
 use Rattle.name_resolution.specs.Bodies.{tree_in_call, calling, evaluated, default_of, from_value, initial, declared, assigned_to, assigned, started, stepped}
 use Rattle.name_resolution.specs.Bodies.{condition_of, returned, looped, resolved, resolved_all}
 use Rattle.name_resolution.proofs.SoundValues.{mapped, both_there}
-use Rattle.code_model.proofs.Widths.{width, statement_width, statements_width}
+use Rattle.raw_steps.proofs.Widths.{width, statement_width, statements_width}
 use Rattle.lowered_code.proofs.Registers.{called_width, value_width, values_width}
 
 -- what is made and the slots that are declared, together, are at most n more

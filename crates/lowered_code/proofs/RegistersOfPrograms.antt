@@ -22,17 +22,17 @@ use Rattle.name_resolution.proofs.SoundValues.{mapped, both_there, then_there, s
 use Rattle.reached_instances.specs.declared.instance.BoundDomain.{BoundDomain}
 use Rattle.reached_instances.specs.Instances.{Instance}
 use Rattle.verified_code.specs.Steps.{Function}
-use Rattle.code_model.specs.Kinds.{slot_kind, rows_kinds}
-use Rattle.code_model.specs.Expressions.{Numbers}
-use Rattle.code_model.specs.Statements.{defaults_behind, statements_depth}
-use Rattle.code_model.specs.Programs.{last_kinds, function_code, numbers_in, code_of_found, instance_code, code_of}
+use Rattle.raw_steps.specs.Kinds.{slot_kind, rows_kinds}
+use Rattle.raw_steps.specs.Expressions.{Numbers}
+use Rattle.raw_steps.specs.Statements.{defaults_behind, statements_depth}
+use Rattle.raw_steps.specs.Programs.{last_kinds, function_code, numbers_in, code_of_found, instance_code, code_of}
 use Rattle.raw_steps.specs.Instructions.{nowhere}
 use Rattle.raw_steps.proofs.Passing.{unmapped}
 use Rattle.well_typed.proofs.Calling.{known_in}
 use Rattle.well_typed.proofs.SlotsWritten.{slots_count}
 use Rattle.lowered_code.specs.Laws.{AreSmall, HasNumberedRegisters}
 use Rattle.lowered_code.proofs.Standing.{found_among}
-use Rattle.code_model.proofs.Widths.{statements_width, rows_length, statements_deep}
+use Rattle.raw_steps.proofs.Widths.{statements_width, rows_length, statements_deep}
 use Rattle.lowered_code.proofs.RegistersOfBodies.{statements_take}
 
 -- ---- FUNCTIONS

@@ -16,10 +16,10 @@ use Rattle.language_model.specs.Operations.{is_product, result_shape}
 use Rattle.language_model.specs.Evaluation.{is_private}
 use Rattle.bytecode.specs.declared.kind.Kind.{Kind}
 use Rattle.verified_code.specs.Steps.{Step, Function, Literal, Move, Binary, Cat, At, Branch, Jump}
-use Rattle.code_model.specs.Fit.{MayStand}
-use Rattle.code_model.specs.Kinds.{kind_of}
-use Rattle.code_model.specs.Kinded.{HasKind, left_array, right_array, public_scalar}
-use Rattle.code_model.specs.Expressions.{classifying, picked, lacks, mixes, binary_code, cat_code, element_code, deciding, settling, cut_code}
+use Rattle.raw_steps.specs.Fit.{MayStand}
+use Rattle.raw_steps.specs.Kinds.{kind_of}
+use Rattle.raw_steps.specs.Kinded.{HasKind, left_array, right_array, public_scalar}
+use Rattle.raw_steps.specs.Expressions.{classifying, picked, lacks, mixes, binary_code, cat_code, element_code, deciding, settling, cut_code}
 use Rattle.raw_steps.specs.Right.{kind, operand_element, IsRight}
 use Rattle.well_typed.specs.Kinds.{MayOperate}
 use Rattle.lowered_code.proofs.Standing.{clash, AllRight, both_right, classifying_right, lacking_right, picked_kind}

@@ -24,8 +24,8 @@ use Rattle.bytecode.specs.Raw as raw
 use Rattle.verified_code.specs.Settled.{settled}
 use Rattle.verified_code.specs.Steps.{Function}
 use Rattle.verified_code.specs.Verified.{IsVerified}
-use Rattle.code_model.specs.Fit.{the_main}
-use Rattle.code_model.specs.Programs.{code_of}
+use Rattle.raw_steps.specs.Fit.{the_main}
+use Rattle.raw_steps.specs.Programs.{code_of}
 use Rattle.well_typed.specs.Programs.{IsWellTypedInstance, IsWellTyped}
 use Rattle.lowered_code.specs.Laws.{HasNumberedRegisters}
 use Rattle.lowered_code.specs.RawCodes.{raw_code_of_program}

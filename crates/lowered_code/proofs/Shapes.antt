@@ -22,10 +22,10 @@ use Rattle.reached_instances.specs.Domains.{Setting, joined_domain}
 use Rattle.language_model.specs.Operations.{is_product, result_shape, cast_shape}
 use Rattle.language_model.specs.Evaluation.{is_private, shape_at}
 use Rattle.verified_code.specs.Fitting as fitting
-use Rattle.code_model.specs.Fit.{MayStand}
-use Rattle.code_model.specs.Kinds.{kind_of, returned_shape, called_shape, shape_in}
-use Rattle.code_model.specs.Kinded.{left_array, right_array, cast_source, cast_target}
-use Rattle.code_model.specs.Expressions.{lacks, mixes}
+use Rattle.raw_steps.specs.Fit.{MayStand}
+use Rattle.raw_steps.specs.Kinds.{kind_of, returned_shape, called_shape, shape_in}
+use Rattle.raw_steps.specs.Kinded.{left_array, right_array, cast_source, cast_target}
+use Rattle.raw_steps.specs.Expressions.{lacks, mixes}
 use Rattle.raw_steps.specs.Right.{operand_element}
 use Rattle.well_typed.specs.Kinds.{GoesTo, operand_of, MayOperate, left_is_array, right_is_array, cast_from, cast_to}
 use Rattle.well_typed.specs.Expressions.{Gives, shape_given}

@@ -13,10 +13,10 @@ use Rattle.typed_tree.specs.declared.kinds.Shape.{Shape}
 use Rattle.language_model.specs.Evaluation.{either}
 use Rattle.bytecode.specs.declared.kind.Kind.{Kind}
 use Rattle.verified_code.specs.Steps.{Step, Function}
-use Rattle.code_model.specs.Fit.{MayStand}
-use Rattle.code_model.specs.Kinds.{kind_of, kind_number, shape_kinds, rows_kinds, in_row}
-use Rattle.code_model.specs.Kinded.{HasKind}
-use Rattle.code_model.specs.Expressions.{classifying, picked, lacks, next_row}
+use Rattle.raw_steps.specs.Fit.{MayStand}
+use Rattle.raw_steps.specs.Kinds.{kind_of, kind_number, shape_kinds, rows_kinds, in_row}
+use Rattle.raw_steps.specs.Kinded.{HasKind}
+use Rattle.raw_steps.specs.Expressions.{classifying, picked, lacks, next_row}
 use Rattle.raw_steps.specs.Right.{IsRight}
 
 pub clash : false ≡ true → ⊥

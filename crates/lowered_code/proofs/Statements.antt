@@ -20,14 +20,14 @@ use Rattle.reached_instances.specs.Domains.{Setting, domain, domain_under, slot_
 use Rattle.language_model.specs.Evaluation.{StatementContext, is_private, gives_private, slot_is_private, slot_shape, shape_at}
 use Rattle.bytecode.specs.declared.kind.Kind.{Kind}
 use Rattle.verified_code.specs.Steps.{Step, Function, Store, Fill, Put, Publish, Assert, Branch, Return}
-use Rattle.code_model.specs.Fit.{MayStand, IsFit, IsFitStatement, AreFitStatements}
-use Rattle.code_model.specs.Kinds.{depth, kind_of, slot_kind, private_kind_in, in_row}
-use Rattle.code_model.specs.Kinded.{HasKind, public_scalar}
-use Rattle.code_model.specs.Expressions.{Numbers, picked, lacks, classified_at, stands_at, next_row, expression_code}
-use Rattle.code_model.specs.Statements.{shape_number, statement_depth, statements_depth, statement_code, statements_code, behind_classifying}
-use Rattle.code_model.specs.Programs.{given_kind}
-use Rattle.code_model.proofs.Lengths.{expression_length, statement_length}
-use Rattle.code_model.proofs.Widths.{depth_some}
+use Rattle.raw_steps.specs.Fit.{MayStand, IsFit, IsFitStatement, AreFitStatements}
+use Rattle.raw_steps.specs.Kinds.{depth, kind_of, slot_kind, private_kind_in, in_row}
+use Rattle.raw_steps.specs.Kinded.{HasKind, public_scalar}
+use Rattle.raw_steps.specs.Expressions.{Numbers, picked, lacks, classified_at, stands_at, next_row, expression_code}
+use Rattle.raw_steps.specs.Statements.{shape_number, statement_depth, statements_depth, statement_code, statements_code, behind_classifying}
+use Rattle.raw_steps.specs.Programs.{given_kind}
+use Rattle.raw_steps.proofs.Lengths.{expression_length, statement_length}
+use Rattle.raw_steps.proofs.Widths.{depth_some}
 use Rattle.raw_steps.specs.Right.{kind, IsRight}
 use Rattle.well_typed.specs.Kinds.{scalar, GoesTo}
 use Rattle.well_typed.specs.Expressions.{Gives}

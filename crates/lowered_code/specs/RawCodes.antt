@@ -3,7 +3,7 @@ use Rattle.std.specs.Prelude.{List}
 use Rattle.typed_tree.specs.Programs.{TypedProgramTree}
 use Rattle.reached_instances.specs.Instances.{Instance}
 use Rattle.bytecode.specs.Raw.{RawCode}
-use Rattle.code_model.specs.Programs.{code_of}
+use Rattle.raw_steps.specs.Programs.{code_of}
 use Rattle.raw_steps.specs.Instructions.{raw_code_of}
 
 -- instructions with the numbers that the bytes say

@@ -16,7 +16,7 @@ use Rattle.language_model.specs.Effects.{World, Answers}
 use Rattle.language_model.specs.Reports.{world_of, dealing}
 use Rattle.clear_eval.specs.Offers.{offered_part}
 use Rattle.bytecode.specs.Raw.{RawCode}
-use Rattle.idle_code.specs.Idle.{idle_code}
+use Rattle.made_miner.specs.Idle.{idle_code}
 use Rattle.verified_code.specs.Steps.{Function}
 use Rattle.verified_code.specs.Settled.{settled}
 use Rattle.wire.specs.declared.fields.Hello.{Hello}

@@ -12,9 +12,9 @@ ghost use Rattle.miner_core.specs.Views.{task_code, task_world};
 ghost use Rattle.view_model.specs.Dealing.{private_shares};
 ghost use Rattle.made_miner.specs.Made.{IsMadeOf, run_code, share_world, undealt, undealt_in};
 
+use crate::idle::idle_code;
 use clear_eval::{dealing, parts_given};
 use gates::Values;
-use idle_code::idle_code;
 use input_share::{ShareFile, shape_part};
 use miner_core::{Lost, StreamMiner, Task};
 use outside::TapeSource;

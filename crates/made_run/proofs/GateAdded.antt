@@ -18,6 +18,7 @@ use Rattle.gate_node.specs.declared.engine.Engine.{Engine}
 use Rattle.gate_node.specs.declared.engine.Work.{Work}
 use Rattle.gate_node.specs.declared.engine.Work.TheVariants as work
 use Rattle.gate_node.specs.OwnGates.{Whole, own_draws, own_gates}
+use Rattle.gate_node.specs.Plans.{then_wanted}
 use Rattle.gate_node.specs.Nodes.{work_left, engine_left, with_links, Keeps}
 use Rattle.made_run.specs.declared.simulator.Simulator.{Simulator}
 use Rattle.made_run.specs.Standing.{past}
@@ -34,7 +35,7 @@ module _ {P : Type 0} (i : Number) (e : Engine P) (links : Links) where
   work-there work.Halt = refl
 
   pub left-there : engine_left i (with_links e links) ≡ engine_left i e
-  left-there = work-there e.work
+  left-there = ap (then_wanted i e.dealt e.wanted) (work-there e.work)
 
 module _
     {P : Type 0} (i : Number) (s r : Simulator P) (gate : Gate) (rests : Rests i s)

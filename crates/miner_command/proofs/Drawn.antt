@@ -14,10 +14,10 @@ use Rattle.miner_node.specs.declared.node_err.ServeErr.TheVariants.{TapeFault}
 use Rattle.miner_node.proofs.Along.{some_tape}
 use Rattle.node_run.specs.declared.running.NodeText.{NodeText}
 use Rattle.node_run.specs.Nodes.{Own, RunsFrom}
-use Rattle.tape_sources.specs.FileTapes.{file_in, words_in}
+use Rattle.tape_sources.specs.FileTapes.{file_in, words_in, TapeFaulted}
 use Rattle.tape_sources.specs.Opening.{OpensOne}
 use Rattle.miner_command.specs.declared.opened_file.TapeFile.{TapeFile}
-use Rattle.miner_command.specs.Playing.{RunsOn, TapeFaulted}
+use Rattle.miner_command.specs.Playing.{RunsOn}
 
 -- a store tells or doesn't
 tells_or_not : {X : Type 0} (b : Bool) → (b ≡ true → X) → (b ≡ false → X) → X

@@ -29,7 +29,8 @@ use Rattle.miner_command.specs.declared.files.MinerFiles.{MinerFiles}
 use Rattle.miner_command.specs.Files.{Given, miner_paths}
 use Rattle.miner_command.specs.Views.{given_with}
 use Rattle.miner_command.specs.Miner.{answer_at, bad_peer, ended_answer, hello_field, message_fault, own_of, text_effect}
-use Rattle.miner_command.specs.Playing.{IsNodeStop, IsServeStop, Plays, PlaysOn, RunsOn, SentAll, TapeFaulted}
+use Rattle.tape_sources.specs.FileTapes.{TapeFaulted}
+use Rattle.miner_command.specs.Playing.{IsNodeStop, IsServeStop, Plays, PlaysOn, RunsOn, SentAll}
 
 of_a_peer : (fault : NodeFault) (b : Breach) → breach_of b ≡ bad_peer fault → of_peers b.status ≡ true
 unfolding bad_peer

@@ -1,6 +1,5 @@
 -- What a miner sent, and what it answered, by what it had read.
 use Rattle.std.specs.Prelude.{◌≡◌, ◌⊎◌, ℕ, List, true, Result, Ok, Err, IsErrOf}
-use Rattle.outside.specs.Causes.{Rose}
 use Rattle.outside.specs.Files.{FilesState}
 use Rattle.outside.specs.Links.{LinksState}
 use Rattle.sc_text.specs.Fault.{file_line}
@@ -22,7 +21,7 @@ use Rattle.miner_node.specs.Peers.{Sends, SendsFronts}
 use Rattle.node_faults.specs.declared.fault.NodeFault.TheVariants as faults
 use Rattle.node_run.specs.declared.running.NodeText.{NodeText}
 use Rattle.node_run.specs.Nodes.{Outgoing, Own, own_bytes, own_serving, with_memory, Runs}
-use Rattle.tape_sources.specs.FileTapes.{file_in, words_in}
+use Rattle.tape_sources.specs.FileTapes.{file_in, words_in, TapeFaulted}
 use Rattle.command_frame.specs.declared.object.Object.TheVariants as objects
 use Rattle.miner_command.specs.declared.files.MinerFiles.{MinerFiles}
 use Rattle.miner_command.specs.declared.opened_file.TapeFile.{TapeFile}
@@ -79,11 +78,6 @@ IsNodeStop Memory stop = stop ≡ stops.Memory
 abbrev pub IsServeStop : (tape : List ℕ) → ServeErr → Stop → Type 0
 IsServeStop tape (Node e) stop = IsNodeStop e stop
 IsServeStop tape TapeFault stop = IsFileStop tape stop
-
--- words of the tape couldn't be read: the count of the files' faults rose, and where they tell, they were not steady
-pub record TapeFaulted (old new : FilesState) : Type 0 where
-  pub rose : Rose old.faults new.faults
-  pub unsteady : old.told ≡ true → old.steady ≡ true → ⊥
 
 -- what is decided of the bytes that come; of files the tape alone stops it then
 module _ (tape : List ℕ) (files files' : FilesState) (old new : LinksState) where

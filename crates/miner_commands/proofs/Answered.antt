@@ -16,8 +16,8 @@ use Rattle.value_file.specs.declared.inputs.Entry.{Entry}
 use Rattle.tape_file.specs.Tapes.{FourTapes}
 use Rattle.counted_net.specs.declared.delivery.DeliveryErr.{DeliveryErr}
 use Rattle.counted_net.specs.declared.delivery.DeliveryErr.TheVariants as refusal
-use Rattle.delivered_run.specs.declared.errors.CourseErr.{CourseErr}
-use Rattle.delivered_run.specs.declared.errors.CourseErr.TheVariants as course
+use Rattle.viewed_run.specs.CourseErr.{CourseErr}
+use Rattle.viewed_run.specs.CourseErr.TheVariants as course
 use Rattle.viewed_run.specs.Deliveries.{net_of}
 use Rattle.proto_core.specs.declared.link.Link.{Link}
 use Rattle.proto_core.specs.declared.party.Number.{Number}
@@ -29,7 +29,8 @@ use Rattle.program_commands.specs.Schedules.{IsDeliveryStop, by_net, empty_line,
 use Rattle.program_commands.proofs.Exits.{tapes_named}
 use Rattle.program_commands.proofs.Judged.{refused_so}
 use Rattle.program_commands.proofs.Planned.{done_with}
-use Rattle.miner_commands.specs.Opened.{tapes_seen, IsCourseStop, TapeFaulted}
+use Rattle.tape_sources.specs.FileTapes.{TapeFaulted}
+use Rattle.miner_commands.specs.Opened.{tapes_seen, IsCourseStop}
 use Rattle.miner_commands.specs.Run.{course_answer, run_of, run_paths, HasRan, IsRan, IsRanOrNot}
 use Rattle.miner_commands.specs.declared.tapes.OpenTapes.{OpenTapes}
 

@@ -4,15 +4,16 @@ use Rattle.std.specs.Prelude.{IfErr}
 use Rattle.outside.specs.Causes.{Rose}
 use Rattle.outside.specs.Files.{FilesState, OnlyRead, SameSizes, file_at}
 use Rattle.outside.specs.Tapes.{TapesState}
-use Rattle.delivered_run.specs.declared.errors.CourseErr.{CourseErr}
-use Rattle.delivered_run.specs.declared.errors.CourseErr.TheVariants.{TapeFault}
-use Rattle.delivered_run.specs.Sources.{IsCause, RunsFrom}
+use Rattle.viewed_run.specs.CourseErr.{CourseErr}
+use Rattle.viewed_run.specs.CourseErr.TheVariants.{TapeFault}
+use Rattle.viewed_run.specs.Sources.{IsCause, RunsFrom}
 use Rattle.tape_file.specs.Tapes.{FourTapes}
+use Rattle.tape_sources.specs.FileTapes.{TapeFaulted}
 use Rattle.tape_sources.specs.Opening.{OpensFour}
 use Rattle.tape_sources.specs.Parties.{four_of}
 use Rattle.tape_sources.specs.declared.lengths.TapeLengths.{TapeLengths}
 use Rattle.value_file.specs.declared.inputs.Entry.{Entry}
-use Rattle.miner_commands.specs.Opened.{tapes_in, AreOpen, IsOpen, TapeFaulted}
+use Rattle.miner_commands.specs.Opened.{tapes_in, AreOpen, IsOpen}
 use Rattle.miner_commands.specs.declared.tapes.OpenTapes.{OpenTapes}
 use Rattle.miner_commands.specs.declared.tapes.OpenTapes.TheVariants.{File, Seed}
 use Rattle.miner_commands.proofs.SourceRuns.{told_so}

@@ -15,8 +15,8 @@ use Rattle.view_model.specs.TapeMaps.{AreTapes}
 use Rattle.typed_tree.specs.Programs.{TypedProgramTree}
 use Rattle.workload.specs.Load.{load_entries, load_program, load_seed}
 use Rattle.tape_file.specs.Seeds.{seed_tapes}
-use Rattle.workload_program.specs.LoadTree.{load_typed}
-use Rattle.workload_program.proofs.Runnable.{load_is_runnable}
+use Rattle.workload.specs.LoadTree.{load_typed}
+use Rattle.workload.proofs.Runnable.{load_is_runnable}
 use Rattle.program_run.specs.Accepted.{IsAccepted}
 use Rattle.viewed_run.specs.Deliveries.{HasRunOf, net_of}
 use Rattle.viewed_run.specs.Premises.{HaveWords}
@@ -32,7 +32,7 @@ use Rattle.program_commands.specs.Eval.{end_of}
 use Rattle.program_commands.specs.Judging.{Finding}
 use Rattle.miner_commands.specs.Load.{load_budget, load_effect, load_links, load_report, load_tapes, loaded_effect, messages_text}
 use Rattle.program_commands.specs.OfText.{Decides, IsFoundOf, program_in}
-use Rattle.miner_commands.specs.Run.{run_report, IsHeldRun}
+use Rattle.miner_commands.specs.Run.{IsHeldRun}
 use Rattle.program_commands.proofs.OfTexts.{only_memory}
 use Rattle.miner_commands.proofs.Planned.{told_end}
 
@@ -107,7 +107,7 @@ abbrev load_run : (number : ℕ) → DeliveredRun → Type 0
 load_run number ran = HasRunOf load_typed (load_entries number) (load_tapes number) load_budget Default ran
 
 loaded_so : (number : ℕ) (ran : DeliveredRun) → load_run number ran → loaded_effect ran ≡ load_effect number
-unfolding load_report load_links run_report
+unfolding load_report load_links
 loaded_so number ran h =
     ap (effect_with ran.report.events.items ran.report.end) h.delivered
     ∙ ap (λ end. effect_with ran.report.events.items end (load_links number)) (sym (told_end (load_report number) ran.report h.told))

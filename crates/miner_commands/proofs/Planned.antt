@@ -26,7 +26,6 @@ use Rattle.protocol_model.specs.Network.{Delivery}
 use Rattle.program_commands.specs.Ends.{ending_status}
 use Rattle.program_commands.specs.Eval.{end_of, ending_of}
 use Rattle.miner_commands.specs.Run.{HasRan, ran_effect, recorded_links, run_effect}
-use Rattle.miner_commands.specs.Run.{run_report, run_told}
 use Rattle.miner_commands.specs.Views.{view_files}
 
 -- ---- the run of a program that was read
@@ -62,7 +61,6 @@ module _ (ask : RunAsk) (p : TypedProgramTree) (entries : List Entry) (tapes : F
 
   planned_so : (run : DeliveredRun) (files : List Written) (plan : Plan) → HasRunOf p entries tapes ask.budget delivery run
       → files ≡ view_files ask.views views_wanted → effect_of plan ≡ ran_effect ask files run → HasRan ask p entries tapes delivery plan
-  unfolding run_report
   planned_so run files plan h same is = record {
     accepted = h.accepted;
     planned =

@@ -10,10 +10,10 @@ use Rattle.value_file.specs.declared.inputs.Entry.{Entry}
 use Rattle.view_model.specs.TapeMaps.{AreTapes}
 use Rattle.counted_net.specs.declared.delivery.DeliveryErr.{DeliveryErr}
 use Rattle.counted_net.specs.declared.delivery.DeliveryErr.TheVariants.{Memory}
-use Rattle.delivered_run.specs.declared.errors.CourseErr.{CourseErr}
-use Rattle.delivered_run.specs.declared.errors.CourseErr.TheVariants as fault
-use Rattle.delivered_run.specs.Sources.{IsCause, RunsFrom}
-use Rattle.delivered_run.proofs.Sources.{runs_as}
+use Rattle.viewed_run.specs.CourseErr.{CourseErr}
+use Rattle.viewed_run.specs.CourseErr.TheVariants as fault
+use Rattle.viewed_run.specs.Sources.{IsCause, RunsFrom}
+use Rattle.viewed_run.proofs.Sources.{runs_as}
 use Rattle.viewed_run.specs.Deliveries.{IsOrRefused, IsRefusedOf}
 
 -- ---- of a source

@@ -8,15 +8,15 @@ use Rattle.sc_text.specs.Event.{run_text}
 use Rattle.tape_file.specs.Seeds.{seed_tapes}
 use Rattle.tape_file.specs.Tapes.{FourTapes}
 use Rattle.workload.specs.Load.{load_entries, load_seed}
-use Rattle.workload_program.specs.LoadTree.{load_typed}
+use Rattle.workload.specs.LoadTree.{load_typed}
 use Rattle.language_model.specs.Reports.{Report}
+use Rattle.program_run.specs.Reports.{eval_with}
 use Rattle.viewed_run.specs.Deliveries.{delivered_of}
 use Rattle.viewed_run.specs.DeliveredRun.{DeliveredRun}
 use Rattle.command_frame.specs.Answer.{Answer, Effect}
 use Rattle.command_words.specs.Ask.{LoadAsk}
 use Rattle.program_commands.specs.Ends.{ending_status}
 use Rattle.program_commands.specs.Eval.{end_status, eval_text}
-use Rattle.miner_commands.specs.Run.{run_report}
 
 -- ---- the run
 
@@ -27,7 +27,7 @@ unfoldable pub load_tapes : (number : ℕ) → FourTapes
 load_tapes number = seed_tapes (load_seed number) 131072
 
 unfoldable pub load_report : (number : ℕ) → Report
-load_report number = run_report load_typed (load_entries number) (load_tapes number) load_budget
+load_report number = eval_with load_typed (load_entries number) (load_tapes number) load_budget
 
 -- the links on which messages are delivered
 unfoldable pub load_links : (number : ℕ) → List Link

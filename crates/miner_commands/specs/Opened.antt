@@ -1,6 +1,5 @@
 -- The tapes that a run draws from: those of a file that was opened, or of a seed.
 use Rattle.std.specs.Prelude.{◌≡◌, ℕ, List, [], ◌∷◌, length, true, Option, Some, None, IsSomeAnd}
-use Rattle.outside.specs.Causes.{Rose}
 use Rattle.outside.specs.Files.{Contents, FilesState, file_at}
 use Rattle.command_frame.specs.declared.stop.Stop.{Stop}
 use Rattle.command_frame.specs.Stops.{IsFileStop}
@@ -8,8 +7,8 @@ use Rattle.tape_file.specs.Format.{tapes_at}
 use Rattle.tape_file.specs.Seeds.{seed_tapes}
 use Rattle.tape_file.specs.Tapes.{FourTapes}
 use Rattle.tape_sources.specs.declared.lengths.TapeLengths.{TapeLengths}
-use Rattle.delivered_run.specs.declared.errors.CourseErr.{CourseErr}
-use Rattle.delivered_run.specs.declared.errors.CourseErr.TheVariants as course
+use Rattle.viewed_run.specs.CourseErr.{CourseErr}
+use Rattle.viewed_run.specs.CourseErr.TheVariants as course
 use Rattle.program_commands.specs.Schedules.{IsDeliveryStop}
 use Rattle.miner_commands.specs.declared.tapes.OpenTapes.{OpenTapes}
 use Rattle.miner_commands.specs.declared.tapes.OpenTapes.TheVariants.{File, Seed}
@@ -40,11 +39,6 @@ AreOpen files (Seed seed) = Unit {0}
 abbrev pub open_paths : OpenTapes → List (List ℕ)
 open_paths (File path lengths) = path.now ∷ []
 open_paths (Seed seed) = []
-
--- words of a tape couldn't be read: the count of the files' faults rose, and where they tell, they were not steady
-pub record TapeFaulted (old new : FilesState) : Type 0 where
-  pub rose : Rose old.faults new.faults
-  pub unsteady : old.told ≡ true → old.steady ≡ true → ⊥
 
 -- the stop of a run that gives nothing, whose tapes stand in the file at this path
 abbrev pub IsCourseStop : (tape : List ℕ) → CourseErr → Stop → Type 0

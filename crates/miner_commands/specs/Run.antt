@@ -17,7 +17,7 @@ use Rattle.language_model.specs.Reports.{Report}
 use Rattle.program_run.specs.Reports.{eval_with}
 use Rattle.viewed_run.specs.Deliveries.{delivered_of, net_of, IsOrRefused, IsRefusedOf}
 use Rattle.counted_net.specs.declared.delivery.DeliveryErr.{DeliveryErr}
-use Rattle.delivered_run.specs.declared.errors.CourseErr.{CourseErr}
+use Rattle.viewed_run.specs.CourseErr.{CourseErr}
 use Rattle.viewed_run.specs.Views.{view_of}
 use Rattle.view_text.specs.View.{View}
 use Rattle.command_frame.specs.declared.plan.Plan.{Plan}
@@ -29,9 +29,6 @@ use Rattle.program_commands.specs.Programs.{program_at}
 use Rattle.program_commands.specs.Reading.{delivery_at, inputs_at, order_paths, source_paths, tapes_at}
 use Rattle.program_commands.specs.Schedules.{by_net}
 use Rattle.miner_commands.specs.Views.{view_files, view_paths}
-
-unfoldable pub run_report : TypedProgramTree → List Entry → FourTapes → (budget : ℕ) → Report
-run_report program entries tapes budget = eval_with program entries tapes budget
 
 -- ---- the run
 
@@ -57,7 +54,7 @@ ran_effect ask files run =
 -- what is written and printed of a run, whose views, text and links are those that the definitions say
 abbrev pub run_told : RunAsk → TypedProgramTree → List Entry → FourTapes → Delivery → Effect
 run_told ask program entries tapes delivery =
-    run_effect ask (λ i. view_of i program entries tapes ask.budget delivery) (run_report program entries tapes ask.budget)
+    run_effect ask (λ i. view_of i program entries tapes ask.budget delivery) (eval_with program entries tapes ask.budget)
     (delivered_of program entries tapes ask.budget delivery)
 
 -- so a run with tapes in memory comes out, or its schedule is refused

@@ -4,7 +4,7 @@ ghost use Rattle.command_frame.specs.Answer.{effect_of, writes_of};
 ghost use Rattle.command_frame.specs.Reads.{PlanNames};
 ghost use Rattle.command_words.specs.Views.{run_ask};
 ghost use Rattle.outside.specs.Tapes.{TapesState};
-ghost use Rattle.delivered_run.specs.Sources.{RunsFrom};
+ghost use Rattle.viewed_run.specs.Sources.{RunsFrom};
 ghost use Rattle.counted_net.specs.declared.delivery.DeliveryErr.TheVariants.{Memory as NoMemory};
 ghost use Rattle.viewed_run.specs.Deliveries.{delivery_seen};
 ghost use Rattle.program_run.specs.Accepted.{IsAccepted};

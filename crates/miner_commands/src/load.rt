@@ -10,7 +10,7 @@ ghost use Rattle.typed_tree.specs.Programs.{typed_program_tree};
 ghost use Rattle.value_file.specs.Input.{AreInputs};
 ghost use Rattle.view_model.specs.TapeMaps.{AreTapes};
 ghost use Rattle.workload.specs.Load.{load_program};
-ghost use Rattle.workload_program.specs.LoadTree.{load_typed};
+ghost use Rattle.workload.specs.LoadTree.{load_typed};
 ghost use Rattle.viewed_run.specs.Deliveries.{HasRunOf};
 ghost use Rattle.miner_commands.specs.Load.{load_budget, load_effect, loaded_effect, messages_text};
 ghost use Rattle.miner_commands.specs.Run.{IsHeldRun};

@@ -4,14 +4,15 @@ ghost use Rattle.command_frame.specs.Answer.{effect_of};
 ghost use Rattle.command_frame.specs.Reads.{OnlyRead, Gives, KeepsTo, PlanNames, StopNames, StopsReading};
 ghost use Rattle.command_words.specs.Views.{run_ask};
 ghost use Rattle.outside.specs.Files.{file_at};
-ghost use Rattle.delivered_run.specs.declared.errors.CourseErr.TheVariants.{TapeFault};
+ghost use Rattle.viewed_run.specs.CourseErr.TheVariants.{TapeFault};
 ghost use Rattle.viewed_run.specs.Deliveries.{delivery_seen};
 ghost use Rattle.program_run.specs.Accepted.{IsAccepted};
 ghost use Rattle.tape_file.specs.Seeds.{seed_tapes};
+ghost use Rattle.tape_sources.specs.FileTapes.{TapeFaulted};
 ghost use Rattle.typed_tree.specs.Programs.{typed_program_tree};
 ghost use Rattle.value_file.specs.Input.{AreInputs};
 ghost use Rattle.program_commands.specs.Judging.{Finding, FoundAt, HasFinding, its_program, Tells};
-ghost use Rattle.miner_commands.specs.Opened.{open_paths, tapes_in, tapes_seen, AreOpen, IsOpen, IsCourseStop, TapeFaulted};
+ghost use Rattle.miner_commands.specs.Opened.{open_paths, tapes_in, tapes_seen, AreOpen, IsOpen, IsCourseStop};
 ghost use Rattle.miner_commands.specs.Run.{course_answer, ran_paths, run_of, run_paths, IsRan, IsRanOrNot};
 
 use crate::job::{Job, run_job};
@@ -117,7 +118,7 @@ fn run_opened<F: Files>(
 ///
 /// Of a tape file only the size and the lengths are read before the order of deliveries. Its words are read in the run, each where it is drawn; a
 /// file from which one can't be read then is a fault of that file, and nothing is to be written.
-#[tactic(auto, unfolding(crate::specs::Run::run_of, crate::specs::Run::run_report, crate::specs::Run::run_paths, crate::specs::Run::ran_paths), using(command_frame::proofs::Naming::names_first, command_frame::proofs::Naming::names_later))]
+#[tactic(auto, unfolding(crate::specs::Run::run_of, crate::specs::Run::run_paths, crate::specs::Run::ran_paths), using(command_frame::proofs::Naming::names_first, command_frame::proofs::Naming::names_later))]
 pub fn plan_run<F: Files>(alloc: Global, files: &mut F, words: &RunWords) -> Result<Plan, Stop>
     ensures files { OnlyRead (F.state files.old) (F.state files.new) }
     ensures anyhow { IfErr result (StopsReading (F.state files.old) (F.state files.new)) }

@@ -7,7 +7,7 @@ ghost use Rattle.program_commands.specs.Reading.{source_paths, tape_file_at, tap
 ghost use Rattle.miner_commands.specs.Opened.{open_paths, tapes_in, tapes_seen, AreOpen, IsOpen};
 
 use command_frame::{Stop, file_stop};
-use command_words::{TapeSeed, TapeSource};
+use command_words::{TapeOrigin, TapeSeed};
 use outside::Files;
 use program_commands::tape_stop;
 use std::alloc::Global;
@@ -42,7 +42,7 @@ fn open_file<F: Files>(alloc: Global, files: &mut F, path: &str) -> Result<TapeL
 pub fn open_tapes<'a, F: Files>(
     alloc: Global,
     files: &mut F,
-    source: &'a TapeSource,
+    source: &'a TapeOrigin,
 ) -> Result<OpenTapes<'a>, Stop>
     ensures files { OnlyRead (F.state files.old) (F.state files.new) }
     ensures answer { Gives (tapes_seen (F.state files.old).contents) (F.state files.old) (F.state files.new) result
@@ -52,10 +52,10 @@ pub fn open_tapes<'a, F: Files>(
     ensures names { IfErr result (StopNames (source_paths (source_ask source.now))) }
 {
     match source {
-        TapeSource::File(path) => {
+        TapeOrigin::File(path) => {
             let lengths = open_file(alloc, files, path)?;
             Ok(OpenTapes::File { path, lengths })
         }
-        TapeSource::Seed(seed) => Ok(OpenTapes::Seed(*seed)),
+        TapeOrigin::Seed(seed) => Ok(OpenTapes::Seed(*seed)),
     }
 }

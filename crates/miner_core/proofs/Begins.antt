@@ -17,17 +17,17 @@ use Rattle.code_machine.specs.Views.{machine_seen}
 use Rattle.code_machine.specs.declared.machine.Machine as running
 use Rattle.driven_nodes.specs.Driven.{telling}
 use Rattle.driven_nodes.specs.Steps.{Went, place_of, gained, last_of}
-use Rattle.code_turns.specs.Places.{Place, place, step_told, next_step, told_by, where_made}
+use Rattle.own_code.specs.Places.{Place, place, step_told, next_step, told_by, where_made}
 use Rattle.block_steps.specs.Outcomes.{mail_left}
 use Rattle.gate_node.specs.OwnGates.{then_gates}
 use Rattle.gate_node.specs.Nodes as node
 use Rattle.gate_node.specs.declared.engine.Engine as gates
-use Rattle.code_turns.specs.declared.outcome.Turned.{Turned}
-use Rattle.code_turns.specs.declared.outcome.Turned.TheVariants as turned
-use Rattle.code_turns.specs.declared.speech.Speech.{Speech}
-use Rattle.code_turns.specs.declared.telling.Told as told
-use Rattle.code_turns.specs.Views.{went_as, went_to, speech_seen}
-use Rattle.code_turns.proofs.Places.{gates_grow, stage_went, wants_keep, wants_tell_none}
+use Rattle.miner_core.specs.declared.outcome.Turned.{Turned}
+use Rattle.miner_core.specs.declared.outcome.Turned.TheVariants as turned
+use Rattle.miner_core.specs.declared.speech.Speech.{Speech}
+use Rattle.miner_core.specs.declared.telling.Told as told
+use Rattle.miner_core.specs.TurnViews.{went_as, went_to, speech_seen}
+use Rattle.miner_core.proofs.Places.{gates_grow, stage_went, wants_keep, wants_tell_none}
 use Rattle.miner_core.specs.declared.engine.At.TheVariants as at
 use Rattle.miner_core.specs.declared.engine.Engine.{Engine}
 use Rattle.own_code.specs.OwnCode.{tell_and_go_on, gates_between, led_by, own_code}

@@ -1,5 +1,5 @@
 -- An engine that draws words of its tape stays where it is led, for every tape that begins with the words drawn.
-use Rattle.std.proofs.Common.{◌≡◌, ℕ, ◌+◌, false, true, if◌then◌else◌, List, [], ◌∷◌, ◌++◌, length, drop, refl, sym, ◌∙◌, ap, subst, append_assoc}
+use Rattle.std.proofs.Common.{◌≡◌, ℕ, ◌<◌, ◌≤◌, false, true, if◌then◌else◌, List, [], ◌∷◌, ◌++◌, length, refl, sym, ◌∙◌, ap, subst, append_assoc, arith}
 use Rattle.std.specs.Prelude.{Option, Bool}
 use Rattle.outside.specs.Tapes.{TapesState, Drew}
 use Rattle.proto_core.specs.declared.party.Number.{Number}
@@ -12,22 +12,20 @@ use Rattle.gates.specs.Clear.{Values}
 use Rattle.gate_node.specs.Nodes.{IsTapeOf}
 use Rattle.gate_node.specs.declared.stand.Stand.{Stand}
 use Rattle.gate_node.specs.declared.stand.Stand.TheVariants as stand
-use Rattle.gate_node.proofs.Supplied.{filled-filled, supplied-whole, wants-too-many, behind-is, tape-before}
+use Rattle.gate_node.proofs.Supplied.{filled-filled, wants-fewer, tape-before}
 use Rattle.miner_core.specs.declared.engine.Engine.{Engine}
 use Rattle.miner_core.specs.declared.rest.Rest.{Rest}
 use Rattle.miner_core.specs.declared.rest.Rest.TheVariants as rest
 use Rattle.miner_core.specs.declared.task.Task.{Task}
 use Rattle.miner_core.specs.Engines.{engine_outcome, engine_told, shown, with_words, outcome_with, told_with, all_shown, rest_of}
-use Rattle.miner_core.specs.Engines.{IsQuiet, IsSoundAlways, StandsAlways, Rests, Keeps}
-use Rattle.miner_core.specs.Drawing.{left_for, IsTooShort, Begins, whole, DrewOn, RunsOn, Delivers, IsAtRest}
-use Rattle.miner_core.specs.Story.{Story, Follows, Leads, received, start_of, story_of}
+use Rattle.miner_core.specs.Engines.{IsQuiet, IsSound, IsSoundAlways, StandsAlways, Rests, Keeps}
+use Rattle.miner_core.specs.Drawing.{left_for, IsTooShort, DrewOn, RunsOn, Delivers, IsAtRest}
+use Rattle.miner_core.specs.Past.{Past, no_past, with_past}
+use Rattle.miner_core.specs.Story.{Story, Leads, received, start_of, story_of}
 use Rattle.miner_core.proofs.Further.{sound_with}
+use Rattle.miner_core.proofs.Past.{same_past, told_past, sound_past}
 use Rattle.miner_core.proofs.Sources.{drew_none, drew_more}
-use Rattle.miner_core.proofs.Stories.{follows, story_kept}
-
-begins_before : (drawn words tape : List ℕ) → Begins (drawn ++ words) tape → Begins drawn tape
-begins_before drawn words tape is =
-    is ∙ append_assoc drawn words (drop (length (drawn ++ words)) tape) ∙ ap (λ r. drawn ++ r) (sym (behind-is drawn words tape is))
+use Rattle.miner_core.proofs.Stories.{story_kept}
 
 abbrev put : List ℕ → Bool → Story → Story
 put tape lost s = record s { tape = tape; lost = lost }
@@ -41,6 +39,17 @@ received_with i s l m tape lost = by_link (same_link (from_previous i) l)
     by_link : (b : Bool) →
         (if b then record (put tape lost s) { from_previous = s.from_previous ++ m ∷ [] } else record (put tape lost s) { from_next = s.from_next ++ m ∷ [] })
         ≡ put tape lost (if b then record s { from_previous = s.from_previous ++ m ∷ [] } else record s { from_next = s.from_next ++ m ∷ [] })
+    by_link true = refl
+    by_link false = refl
+
+pub received_tape :
+    (i : Number) (s : Story) (l : Link) (m : List ℕ) (tape : List ℕ) →
+    received i (record s { tape = tape }) l m ≡ record (received i s l m) { tape = tape }
+received_tape i s l m tape = by_link (same_link (from_previous i) l)
+  where
+    by_link : (b : Bool) →
+        (if b then record s { tape = tape; from_previous = s.from_previous ++ m ∷ [] } else record s { tape = tape; from_next = s.from_next ++ m ∷ [] })
+        ≡ record (if b then record s { from_previous = s.from_previous ++ m ∷ [] } else record s { from_next = s.from_next ++ m ∷ [] }) { tape = tape }
     by_link true = refl
     by_link false = refl
 
@@ -66,8 +75,8 @@ module _ {P : Type 0} (i : Number) where
         taken = [];
         drew = drew_none s (count_of i);
         tape = sym (append-none e.node.tape.0);
-        same = λ tape begins. refl;
-        told = λ tape begins. refl;
+        same = λ more. refl;
+        told = λ more. refl;
         sound = sound;
         links = record { previous = refl; next = refl };
         task = refl;
@@ -83,16 +92,8 @@ module _ {P : Type 0} (i : Number) where
         taken = d.taken;
         drew = d.drew;
         tape = kept.tape ∙ d.tape;
-        same =
-            λ tape begins.
-            (λ k. same k (drop (length e2.node.tape.0) tape))
-            ∙ ap (λ l. shown (engine_outcome i (with_words e (drop (length l) tape)))) kept.tape
-            ∙ d.same tape (subst (λ l. Begins l tape) kept.tape begins);
-        told =
-            λ tape begins.
-            (λ k. told k (drop (length e2.node.tape.0) tape))
-            ∙ ap (λ l. engine_told i (with_words e (drop (length l) tape))) kept.tape
-            ∙ d.told tape (subst (λ l. Begins l tape) kept.tape begins);
+        same = λ more. (λ k. same k more) ∙ d.same more;
+        told = λ more. (λ k. told k more) ∙ d.told more;
         sound = sound;
         links = record { previous = kept.links.previous ∙ d.links.previous; next = kept.links.next ∙ d.links.next };
         task = kept.task ∙ d.task;
@@ -109,13 +110,15 @@ module _ {P : Type 0} (i : Number) where
         drew = drew_more s t u (count_of i) d.taken words d.drew drew;
         tape = ap (λ l. l ++ words) d.tape ∙ append_assoc b.node.tape.0 d.taken words;
         same =
-            λ tape begins.
-            ap (λ n. shown (engine_outcome i (record e { node = n }))) (supplied-whole e.node words tape begins)
-            ∙ d.same tape (begins_before e.node.tape.0 words tape begins);
+            λ more.
+            ap (λ n. shown (engine_outcome i (record e { node = n }))) (filled-filled e.node words more)
+            ∙ d.same (words ++ more)
+            ∙ ap (λ w. shown (engine_outcome i (with_words b w))) (sym (append_assoc d.taken words more));
         told =
-            λ tape begins.
-            ap (λ n. engine_told i (record e { node = n })) (supplied-whole e.node words tape begins)
-            ∙ d.told tape (begins_before e.node.tape.0 words tape begins);
+            λ more.
+            ap (λ n. engine_told i (record e { node = n })) (filled-filled e.node words more)
+            ∙ d.told (words ++ more)
+            ∙ ap (λ w. engine_told i (with_words b w)) (sym (append_assoc d.taken words more));
         sound =
             record {
               stands = d.sound.stands;
@@ -129,17 +132,16 @@ module _ {P : Type 0} (i : Number) where
 
   -- ---- where it rests
 
-  pub rests_whole :
-      (e : Engine P) (s : Stand) (left : ℕ) → StandsAlways i s e → IsTooShort s left → (tape : List ℕ) → IsTapeOf e.node.tape.0 left tape →
-      Rests i (rest_of s) (whole e tape)
-  rests_whole e stand.Through left h short tape of =
-      record { node = h.node (drop (length e.node.tape.0) tape); over = λ same. h.over refl }
-  rests_whole e (stand.Waits link cause) left h short tape of =
-      record { node = h.node (drop (length e.node.tape.0) tape); over = λ same. absurd (no_waits link cause same) }
-  rests_whole e stand.Stuck left h short tape of =
-      record { node = h.node (drop (length e.node.tape.0) tape); over = λ same. absurd (no_stuck same) }
-  rests_whole e (stand.Wants count) left h short tape of =
-      record { node = wants-too-many i e.node count left tape h.node of short; over = λ same. absurd (no_stuck same) }
+  -- no more words come than are left
+  pub rests_with :
+      (e : Engine P) (s : Stand) (left : ℕ) → StandsAlways i s e → IsTooShort s left → (more : List ℕ) → length more ≤ left →
+      Rests i (rest_of s) (with_words e more)
+  rests_with e stand.Through left h short more few = record { node = h.node more; over = λ same. h.over refl }
+  rests_with e (stand.Waits link cause) left h short more few = record { node = h.node more; over = λ same. absurd (no_waits link cause same) }
+  rests_with e stand.Stuck left h short more few = record { node = h.node more; over = λ same. absurd (no_stuck same) }
+  rests_with e (stand.Wants count) left h short more few =
+      let less : left < count = short in
+      record { node = wants-fewer e.node i count more (h.node more) (omega (arith, few, less)); over = λ same. absurd (no_stuck same) }
 
   pub runs_on :
       (b e : Engine P) (at : Stand) (left : ℕ) (r : Rest) (s t : TapesState) → DrewOn i b e s t → StandsAlways i at e → left ≡ left_for i t →
@@ -148,8 +150,8 @@ module _ {P : Type 0} (i : Number) where
       record {
         drew = d;
         rests =
-            λ tape of.
-            subst (λ q. Rests i q (whole e tape)) (sym led) (rests_whole e at (left_for i t) h (subst (IsTooShort at) is short) tape of);
+            λ more few.
+            subst (λ q. Rests i q (with_words e more)) (sym led) (rests_with e at (left_for i t) h (subst (IsTooShort at) is short) more few);
       }
 
   -- ---- its story
@@ -160,9 +162,36 @@ module _ {P : Type 0} (i : Number) where
       story_kept (record e { node = record e.node { tape = e2.node.tape } }) e2 budget
       (record { links = d.links; task = d.task; dealt = d.dealt; tape = refl })
 
+  pub story_made :
+      (e e2 : Engine P) (task : Task) (dealt : Values) (first : List ℕ) (budget : ℕ) (s t : TapesState) →
+      story_of e budget ≡ start_of task dealt first budget → (d : DrewOn i e e2 s t) →
+      story_of e2 budget ≡ start_of task dealt (first ++ d.taken) budget
+  story_made e e2 task dealt first budget s t story d =
+      story_moved e e2 s t budget d
+      ∙ ap (λ (x : Story). record x { tape = e2.node.tape.0 }) story
+      ∙ ap (λ w. start_of task dealt w budget) (d.tape ∙ ap (λ (x : Story). x.tape ++ d.taken) story)
+
+  pub story_delivered :
+      (e e2 : Engine P) (at : Rest) (l : Link) (m : List ℕ) (budget : ℕ) (s t : TapesState) → (d : Delivers i at l m e e2 s t) →
+      story_of e2 budget ≡ record (received i (story_of e budget) l m) { tape = e.node.tape.0 ++ d.taken }
+  story_delivered e e2 at l m budget s t d =
+      d.story budget ∙ ap (λ w. record (received i (story_of e budget) l m) { tape = w }) d.tape
+
+  -- it does and tells the same, and is led where it was
+  led_on :
+      (past : Past) (e e2 : Engine P) (s : Story) → Leads i (with_past past e) s → shown (engine_outcome i e2) ≡ shown (engine_outcome i e) →
+      engine_told i e2 ≡ engine_told i e → IsSound i e2 → Leads i (with_past past e2) s
+  led_on past e e2 s leads same told sound =
+      record {
+        sound = sound_past i past e2 sound;
+        same = same_past i past e e2 same ∙ leads.same;
+        told = told_past i past e2 ∙ told ∙ sym (told_past i past e) ∙ leads.told;
+      }
+
   pub delivers :
       (e r e2 : Engine P) (at : Rest) (l : Link) (m : List ℕ) (s t : TapesState) →
-      ((more : List ℕ) (x : Story) → Follows i (with_words e more) x → Leads i (with_words r more) (received i x l m)) →
+      ((past : Past) (more : List ℕ) (x : Story) → Leads i (with_words (with_past past e) more) x →
+      Leads i (with_words (with_past past r) more) (received i x l m)) →
       ((budget : ℕ) → story_of r budget ≡ received i (story_of e budget) l m) → r.node.tape ≡ e.node.tape → RunsOn i at r e2 s t →
       Delivers i at l m e e2 s t
   delivers e r e2 at l m s t leads story kept runs =
@@ -174,50 +203,39 @@ module _ {P : Type 0} (i : Number) where
         story = λ budget. story_moved r e2 s t budget d ∙ ap (λ (x : Story). record x { tape = e2.node.tape.0 }) (story budget);
         sound = d.sound;
         rests = runs.rests;
-        follows =
-            λ tape of x f.
-            follows i (whole r tape) (whole e2 tape) (received i x l m) at
-            (subst (λ (w : List ℕ × List ℕ). Leads i (with_words r (drop (length w.0) tape)) (received i x l m)) (sym kept)
-            (leads (drop (length e.node.tape.0) tape) x f))
-            (d.same tape of.begins) (d.told tape of.begins) (runs.rests tape of) (sound_with i e2 (drop (length e2.node.tape.0) tape) d.sound);
+        leads =
+            λ past more x f.
+            led_on past (with_words r (d.taken ++ more)) (with_words e2 more) (received i x l m) (leads past (d.taken ++ more) x f) (d.same more)
+            (d.told more) (sound_with i e2 more d.sound);
       }
 
   pub at_rest_after :
-      (e e2 : Engine P) (at at2 : Rest) (l : Link) (m : List ℕ) (budget ahead : ℕ) (s t : TapesState) → IsAtRest i e at budget ahead →
-      left_for i s ≡ ahead → Delivers i at2 l m e e2 s t → IsAtRest i e2 at2 budget (left_for i t)
-  at_rest_after e e2 at at2 l m budget ahead s t h left d =
+      (past : Past) (e e2 : Engine P) (at at2 : Rest) (l : Link) (m : List ℕ) (ahead : ℕ) (x : Story) (s t : TapesState) → IsAtRest i past e at ahead x →
+      (d : Delivers i at2 l m e e2 s t) → IsAtRest i past e2 at2 (left_for i t) (record (received i x l m) { tape = x.tape ++ d.taken })
+  at_rest_after past e e2 at at2 l m ahead x s t h d =
       record {
         sound = d.sound;
         rests = d.rests;
-        follows =
-            λ tape of.
-            let earlier = tape_earlier i s t e.node.tape.0 e2.node.tape.0 d.taken ahead d.drew d.tape left tape of in
-            subst (Follows i (whole e2 tape))
-            (received_with i (story_of e budget) l m tape false ∙ sym (ap (λ (x : Story). record x { tape = tape; lost = false }) (d.story budget)))
-            (d.follows tape of (record (story_of e budget) { tape = tape }) (h.follows tape earlier));
+        leads =
+            λ more.
+            subst (Leads i (with_words (with_past past e2) more))
+            (received_tape i x l m (x.tape ++ (d.taken ++ more))
+            ∙ ap (λ w. record (received i x l m) { tape = w }) (sym (append_assoc x.tape d.taken more)))
+            (d.leads past more (record x { tape = x.tape ++ (d.taken ++ more) }) (h.leads (d.taken ++ more)));
       }
 
   pub at_rest_new :
       (e e2 : Engine P) (at : Rest) (task : Task) (dealt : Values) (first : List ℕ) (budget : ℕ) (s t : TapesState) →
-      story_of e budget ≡ start_of task dealt first budget →
-      ((more : List ℕ) → Leads i (with_words e more) (start_of task dealt (first ++ more) budget)) → RunsOn i at e e2 s t →
-      IsAtRest i e2 at budget (left_for i t)
-  at_rest_new e e2 at task dealt first budget s t story leads runs =
+      ((more : List ℕ) → Leads i (with_words e more) (start_of task dealt (first ++ more) budget)) → (runs : RunsOn i at e e2 s t) →
+      IsAtRest i no_past e2 at (left_for i t) (start_of task dealt (first ++ runs.drew.taken) budget)
+  at_rest_new e e2 at task dealt first budget s t leads runs =
       let d = runs.drew in
       record {
         sound = d.sound;
         rests = runs.rests;
-        follows =
-            λ tape of.
-            let begins : tape ≡ e.node.tape.0 ++ drop (length e.node.tape.0) tape =
-            begins_before e.node.tape.0 d.taken tape (subst (λ l. Begins l tape) d.tape of.begins) in
-            let again : tape ≡ first ++ drop (length e.node.tape.0) tape =
-            begins ∙ ap (λ (x : Story). x.tape ++ drop (length e.node.tape.0) tape) story in
-            subst (Follows i (whole e2 tape))
-            (ap (λ w. start_of task dealt w budget) (sym again)
-            ∙ sym (ap (λ (x : Story). record x { tape = tape }) (story_moved e e2 s t budget d)
-            ∙ ap (λ (x : Story). record x { tape = tape }) story))
-            (follows i (whole e tape) (whole e2 tape) (start_of task dealt (first ++ drop (length e.node.tape.0) tape) budget) at
-            (leads (drop (length e.node.tape.0) tape))
-            (d.same tape of.begins) (d.told tape of.begins) (runs.rests tape of) (sound_with i e2 (drop (length e2.node.tape.0) tape) d.sound));
+        leads =
+            λ more.
+            subst (λ w. Leads i (with_words e2 more) (start_of task dealt w budget)) (sym (append_assoc first d.taken more))
+            (led_on no_past (with_words e (d.taken ++ more)) (with_words e2 more) (start_of task dealt (first ++ (d.taken ++ more)) budget)
+            (leads (d.taken ++ more)) (d.same more) (d.told more) (sound_with i e2 more d.sound));
       }

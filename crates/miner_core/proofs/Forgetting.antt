@@ -15,20 +15,20 @@ use Rattle.code_machine.specs.Views.{machine_seen}
 use Rattle.bytecode.specs.Raw.{RawCode}
 use Rattle.driven_nodes.specs.Driven.{telling}
 use Rattle.driven_nodes.specs.Steps.{Running, Stopped, Short, last_of}
-use Rattle.code_turns.specs.declared.outcome.Turned.TheVariants as turned
+use Rattle.miner_core.specs.declared.outcome.Turned.TheVariants as turned
 use Rattle.protocol_model.specs.Gates.{nth_value}
-use Rattle.code_turns.specs.Places.{Place, place}
+use Rattle.own_code.specs.Places.{Place, place}
 use Rattle.block_steps.specs.declared.links.Links.{Links}
 use Rattle.block_steps.specs.Outcomes.{outcome, outcome_of, mail_left}
 use Rattle.gate_node.specs.Nodes as node
 use Rattle.gate_node.specs.declared.engine.Engine as gates
 use Rattle.gate_node.proofs.Always.{then-all, then-assoc}
+use Rattle.gate_node.proofs.Holding.{same_words}
 use Rattle.code_machine.specs.Besides.{with_gates}
 use Rattle.own_code.specs.Named.{AreAmong, MachineNames}
 use Rattle.own_code.specs.EarlierGates.{end_without_gates, place_with_gates, without_gates}
 use Rattle.own_code.specs.LettingGo.{forget, without_values, IsHeld}
 use Rattle.own_code.specs.OwnCode.{Ended, Reached, Unfit, own_code}
-use Rattle.own_code.proofs.Holding.{same_words}
 use Rattle.own_code.proofs.LettingGo.{code_needs}
 use Rattle.own_code.proofs.OtherGates.{runs_alike}
 use Rattle.miner_core.specs.declared.engine.At.{At}
@@ -200,6 +200,35 @@ forgetting_telling : (ns : List told.Notice) (s : Strand Ended) → forgetting (
 forgetting_telling [] s = refl
 forgetting_telling (n ∷ ns) s = ap (Acts (told.Told n)) (forgetting_telling ns s)
 
+-- the gates run of a step that leads on, and of the values that they come to others are held
+module _ {P : Type 0} (i : Number) (e : Engine P) (n : gates.Engine P) (when : Letting) (values held : Values)
+    (dealt : n.dealt ≡ e.node.dealt) (still : IsHeld (place_at i e) values held) (tape : List ℕ) where
+  abbrev pub sparing : Engine P
+  sparing = record e { node = n; letting = when }
+
+  abbrev code_with : Values → Values → Strand Ended
+  code_with d own = own_code (task_world e.task) (task_code e.task) i d e.fuel (place_at i e) own tape
+
+  code_alike : forgetting (code_with n.dealt held) ≡ forgetting (code_with e.node.dealt values)
+  code_alike =
+      ap (λ d. forgetting (code_with d held)) dealt
+      ∙ values_first (code_with e.node.dealt held)
+      ∙ ap without_gates (sym (code_needs (task_world e.task) (task_code e.task) i e.node.dealt e.fuel (place_at i e) values held tape still))
+      ∙ sym (values_first (code_with e.node.dealt values))
+
+  pub goes_alike : (a : At) → LeadsOn a → forgetting (goes_on_at i sparing a held tape) ≡ forgetting (goes_on_at i e a values tape)
+  goes_alike (at.Acts turned.On speech before) l =
+      forgetting_telling (told_since speech before e.stage (last_of held)) (code_with n.dealt held)
+      ∙ ap (λ last. telling (told_since speech before e.stage last) (forgetting (code_with n.dealt held))) (sym still.last)
+      ∙ ap (telling (told_since speech before e.stage (last_of values))) code_alike
+      ∙ sym (forgetting_telling (told_since speech before e.stage (last_of values)) (code_with e.node.dealt values))
+  goes_alike (at.Acts (turned.Over ending) speech before) l = absurd l
+  goes_alike (at.Acts turned.Short speech before) l = absurd l
+  goes_alike at.Ready l = absurd l
+  goes_alike at.Again l = absurd l
+  goes_alike (at.Over ending) l = absurd l
+  goes_alike at.Short l = absurd l
+
 module _ {P : Type 0} (i : Number) (e : Engine P) (n : gates.Engine P) (when : Letting) (array : ℕ) (values : Values)
     (leads : LeadsOn e.at) (stored : node.Stored i array e.stage.made values e.node n)
     (frees : (code : RawCode) → MachineNames (machine_seen code e.machine) array → ⊥) where
@@ -213,35 +242,11 @@ module _ {P : Type 0} (i : Number) (e : Engine P) (n : gates.Engine P) (when : L
       (λ is. absurd (omega (arith, is, stored.earlier)))
       (λ k apart. ap (λ v. value v k) stored.let_go ∙ get_or-set_other values array k [] [] apart)
 
-  abbrev code_with : Values → Values → Strand Ended
-  code_with d own = own_code (task_world e.task) (task_code e.task) i d e.fuel (place_at i e) own e.node.tape.1
-
-  code_alike : forgetting (code_with n.dealt n.values) ≡ forgetting (code_with e.node.dealt values)
-  code_alike =
-      ap (λ d. forgetting (code_with d n.values)) stored.dealt
-      ∙ values_first (code_with e.node.dealt n.values)
-      ∙ ap without_gates
-      (sym (code_needs (task_world e.task) (task_code e.task) i e.node.dealt e.fuel (place_at i e) values n.values e.node.tape.1 still_held))
-      ∙ sym (values_first (code_with e.node.dealt values))
-
-  goes_alike : (a : At) → LeadsOn a → forgetting (goes_on_at i spared a n.values e.node.tape.1) ≡ forgetting (goes_on_at i e a values e.node.tape.1)
-  goes_alike (at.Acts turned.On speech before) l =
-      forgetting_telling (told_since speech before e.stage (last_of n.values)) (code_with n.dealt n.values)
-      ∙ ap (λ last. telling (told_since speech before e.stage last) (forgetting (code_with n.dealt n.values))) (sym still_held.last)
-      ∙ ap (telling (told_since speech before e.stage (last_of values))) code_alike
-      ∙ sym (forgetting_telling (told_since speech before e.stage (last_of values)) (code_with e.node.dealt values))
-  goes_alike (at.Acts (turned.Over ending) speech before) l = absurd l
-  goes_alike (at.Acts turned.Short speech before) l = absurd l
-  goes_alike at.Ready l = absurd l
-  goes_alike at.Again l = absurd l
-  goes_alike (at.Over ending) l = absurd l
-  goes_alike at.Short l = absurd l
-
   pub spared_left : forgetting (engine_left i spared) ≡ forgetting (engine_left i e)
   spared_left =
       ap (λ v. forgetting (then_do v (behind_node i spared e.at))) stored.left
       ∙ ap (λ (t : List ℕ × List ℕ). forgetting (goes_on_at i spared e.at n.values t.1)) stored.tape
-      ∙ goes_alike e.at leads
+      ∙ goes_alike i e n when values n.values stored.dealt still_held e.node.tape.1 e.at leads
       ∙ sym (ap (λ v. forgetting (then_do v (behind_node i e e.at))) stored.came)
 
 pub links_kept : {P : Type 0} (e e2 e3 : Engine P) → KeepsLinks e e2 → KeepsLinks e2 e3 → KeepsLinks e e3

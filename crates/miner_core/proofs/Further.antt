@@ -14,7 +14,7 @@ use Rattle.miner_core.specs.declared.engine.Engine.{Engine}
 use Rattle.miner_core.specs.declared.rest.Rest.TheVariants as rest
 use Rattle.miner_core.specs.Engines.{with_words, left_with, outcome_with, told_with, all_shown, all_forgetting, IsQuiet, IsQuietAlways, IsThroughAlways}
 use Rattle.miner_core.specs.Engines.{IsSound, IsSoundAlways, KeepsLinks}
-use Rattle.miner_core.proofs.Quiet.{QuietAt, quiet_own, node_quiet}
+use Rattle.miner_core.proofs.Quiet.{QuietAt, quiet_wanted, node_quiet}
 use Rattle.miner_core.proofs.Settled.{through_quiet}
 use Rattle.miner_core.proofs.Forgetting.{shown_same, shown_told}
 use Rattle.miner_core.proofs.Turns.{beside_same, beside_told}
@@ -80,8 +80,8 @@ module _ {P : Type 0} (i : Number) where
   -- no gate is at work
   idle_quiet : (n : gates.Engine P) (more : List ℕ) → n.work ≡ Idle → IsQuiet i (node.filled n more)
   idle_quiet n more idle =
-      subst (λ w. QuietAt (node.work_left i (node.filled n more) w) (mail_left i n.links)) (sym idle)
-      (quiet_own i n.dealt (node.gates_left i n) n.values (n.tape.1 ++ more) (mail_left i n.links))
+      subst (λ w. QuietAt (node.left_at i (node.filled n more) w) (mail_left i n.links)) (sym idle)
+      (quiet_wanted i n.dealt n.wanted (node.gates_left i n) n.values (n.tape.1 ++ more) (mail_left i n.links))
 
   -- behind a call that goes as far as the messages and the words that were supplied lead
   pub quiet_after :

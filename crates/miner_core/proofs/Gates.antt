@@ -5,8 +5,8 @@ use Rattle.proto_core.specs.Strand.{run, then_do, told_in}
 use Rattle.gates.specs.Clear.{Values}
 use Rattle.driven_nodes.specs.Driven.{telling}
 use Rattle.driven_nodes.specs.Steps.{stand_of, last_of}
-use Rattle.code_turns.specs.Places.{Place, step_told}
-use Rattle.code_turns.specs.Views.{went_to}
+use Rattle.own_code.specs.Places.{Place, step_told}
+use Rattle.miner_core.specs.TurnViews.{went_to}
 use Rattle.block_steps.specs.Outcomes.{outcome_of, mail_left}
 use Rattle.block_steps.proofs.Behind.{outcome-then}
 use Rattle.gate_node.specs.OwnGates.{Halted, Whole, Stuck}

@@ -1,3 +1,4 @@
+pub mod Places
 pub mod Quiet
 pub mod Settled
 pub mod Turns
@@ -10,8 +11,11 @@ pub mod Stories
 pub mod Stops
 pub mod Staying
 pub mod Sources
+pub mod Past
 pub mod Draws
 pub mod Streaming
+pub mod LeanMiners
 pub mod Told
+pub mod Plans
 pub use Rattle.gate_node.proofs.Always
 pub use Rattle.gate_node.proofs.OwnGates

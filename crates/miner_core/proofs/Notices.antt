@@ -2,7 +2,7 @@
 use Rattle.std.proofs.Common.{◌≡◌, ◌<◌, List, [], ◌∷◌, length, refl, arith}
 use Rattle.sc_text.specs.declared.event.Event.{Event}
 use Rattle.proto_core.specs.Strand.{Notice}
-use Rattle.code_turns.specs.Places.{where_made}
+use Rattle.own_code.specs.Places.{where_made}
 
 none_longer : 0 < length {A = Event} [] → ⊥
 none_longer h = omega (arith, h)

@@ -15,7 +15,10 @@ use Rattle.driven_nodes.proofs.Telling.{silent_gates, silent_run}
 use Rattle.block_steps.specs.declared.links.Links.{Links}
 use Rattle.block_steps.specs.Outcomes.{outcome_of, mail_left, IsStill}
 use Rattle.block_steps.proofs.Behind.{still-is}
-use Rattle.gate_node.specs.OwnGates.{Stuck, own_gate, own_draws, can_run, own_gates}
+use Rattle.gate_node.specs.declared.wanted.Wanted.{Wanted}
+use Rattle.gate_node.specs.declared.wanted.Wanted.TheVariants.{All, These}
+use Rattle.gate_node.specs.OwnGates.{Halted, Whole, Stuck, own_gate, own_draws, can_run, own_gates, then_gates}
+use Rattle.gate_node.specs.Plans.{with_these, then_wanted}
 use Rattle.gate_node.specs.Nodes as node
 use Rattle.gate_node.specs.declared.engine.Engine as gates
 use Rattle.miner_core.specs.declared.rest.Rest.{Rest}
@@ -43,6 +46,16 @@ silent_own i dealt (gate ∷ gates) values tape =
         (silent_gates i (own_gate i dealt values gate ∷ []) values tape (gates-silent (λ k. dealt) (sizes_of dealt) (sizes_of values) (gate ∷ []))) more
     by_test false more = tt
 
+-- and what comes behind a plan
+silent_behind : (i : Number) (dealt : Values) (gates : List Gate) (h : Halted) → IsSilent (then_gates i dealt gates h)
+silent_behind i dealt gates (Whole values tape) = silent_own i dealt gates values tape
+silent_behind i dealt gates Stuck = tt
+
+silent_wanted : (i : Number) (dealt : Values) (w : Wanted) (s : Strand Halted) → IsSilent s → IsSilent (then_wanted i dealt w s)
+silent_wanted i dealt All s h = h
+silent_wanted i dealt (These numbers later) s h =
+    silent_then s (λ end. then_gates i dealt later.items (with_these numbers end)) h (λ end. silent_behind i dealt later.items (with_these numbers end))
+
 -- ---- with these messages, and more
 
 added_nothing : (x : Mail) → added x nothing ≡ x
@@ -56,6 +69,13 @@ QuietAt s x = (more : Mail) → told_in (run s (added x more)).acts ≡ []
 
 pub quiet_own : (i : Number) (dealt : Values) (gates : List Gate) (values : Values) (tape : List ℕ) (x : Mail) → QuietAt (own_gates i dealt gates values tape) x
 quiet_own i dealt gates values tape x = λ more. silent_run (own_gates i dealt gates values tape) (added x more) (silent_own i dealt gates values tape)
+
+pub quiet_wanted :
+    (i : Number) (dealt : Values) (w : Wanted) (gates : List Gate) (values : Values) (tape : List ℕ) (x : Mail) →
+    QuietAt (then_wanted i dealt w (own_gates i dealt gates values tape)) x
+quiet_wanted i dealt w gates values tape x = λ more.
+    let s : Strand Halted = own_gates i dealt gates values tape in
+    silent_run (then_wanted i dealt w s) (added x more) (silent_wanted i dealt w s (silent_own i dealt gates values tape))
 
 quiet_now : {A : Type 0} (s : Strand A) (x : Mail) → QuietAt s x → told_in (run s x).acts ≡ []
 quiet_now s x h = subst (λ v. told_in (run s v).acts ≡ []) (added_nothing x) (h nothing)

@@ -8,8 +8,8 @@ use Rattle.gates.specs.Clear.{Values}
 use Rattle.shared_gates.specs.Model.{miner_of}
 use Rattle.value_steps.specs.Views.{stage_seen, drawn_seen}
 use Rattle.code_machine.specs.Views.{machine_seen}
-use Rattle.code_turns.specs.Dealt.{drawn_by}
-use Rattle.code_turns.specs.Places.{Place, place}
+use Rattle.own_code.specs.Dealt.{drawn_by}
+use Rattle.own_code.specs.Places.{Place, place}
 use Rattle.driven_nodes.specs.Steps.{Running, Stopped, Short}
 use Rattle.block_steps.specs.declared.links.Links.{Links}
 use Rattle.block_steps.specs.Outcomes.{Outcome, StandsAt}

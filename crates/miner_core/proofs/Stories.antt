@@ -1,5 +1,5 @@
 -- An engine stays where its story leads.
-use Rattle.std.proofs.Common.{◌≡◌, ◌≢◌, ℕ, if◌then◌else◌, List, [], ◌∷◌, ◌++◌, map, refl, sym, ◌∙◌, ap, subst}
+use Rattle.std.proofs.Common.{◌≡◌, ◌≢◌, ℕ, if◌then◌else◌, List, [], ◌∷◌, ◌++◌, append_assoc, map, refl, sym, ◌∙◌, ap, subst}
 use Rattle.std.specs.Prelude.{Option, None, Some, Result, Vec}
 use Rattle.std.specs.declared.alloc.Global.{Global}
 use Rattle.std.proofs.lemmas.Bool.{false_from_ne_true}
@@ -15,7 +15,7 @@ use Rattle.code_machine.specs.Meaning.{fuel}
 use Rattle.value_steps.specs.Views.{stage_seen}
 use Rattle.code_machine.specs.Standing.{Stands}
 use Rattle.code_machine.specs.Views.{machine_seen}
-use Rattle.code_turns.specs.Places.{Place, place}
+use Rattle.own_code.specs.Places.{Place, place}
 use Rattle.proto_core.specs.Net.{mail_of, added}
 use Rattle.proto_core.proofs.Beginnings.{append-none}
 use Rattle.proto_core.proofs.Strands.{same-link_is, same-link_self, run-added, told-append}
@@ -23,8 +23,9 @@ use Rattle.gates.specs.Clear.{Values}
 use Rattle.driven_nodes.specs.Steps.{Running}
 use Rattle.block_steps.specs.declared.links.Links.{Links}
 use Rattle.block_steps.specs.Outcomes.{Outcome, outcome, mail_left, IsStill, HasNoneOf, StandsAt, AwaitsOn, came_from_previous, came_from_next}
-use Rattle.block_steps.proofs.Behind.{still-then, mail-added, kahn-step}
+use Rattle.block_steps.proofs.Behind.{still-then, mail-added, kahn-behind, kahn-step}
 use Rattle.gate_node.specs.OwnGates.{Halted, Whole}
+use Rattle.gate_node.specs.Plans.{then_wanted}
 use Rattle.gate_node.specs.Nodes as node
 use Rattle.gate_node.specs.declared.engine.Engine as gates
 use Rattle.gate_node.specs.declared.engine.Work.{Work}
@@ -152,22 +153,25 @@ module _ {P : Type 0} (i : Number) where
   told_is e s h =
       sym (ap (λ r. map notice_seen e.notices.items ++ told_in r.acts) (rests_still e s h) ∙ append-none (map notice_seen e.notices.items))
 
-  pub follows : (e e2 : Engine P) (s : Story) (at : Rest) → Leads i e s → shown (engine_outcome i e2) ≡ shown (engine_outcome i e) →
-      engine_told i e2 ≡ engine_told i e → Rests i at e2 → IsSound i e2 → Follows i e2 s
-  follows e e2 s at leads same told rests sound =
+  -- an engine that rests is where its story leads
+  pub follows : (e : Engine P) (s : Story) (at : Rest) → Leads i e s → Rests i at e → Follows i e s
+  follows e s at leads rests =
       record {
-        sound = sound;
-        same = ap shown (standing_is e2 at rests) ∙ same ∙ leads.same;
-        told = told_is e2 at rests ∙ told ∙ leads.told;
+        sound = leads.sound;
+        same = ap shown (standing_is e at rests) ∙ leads.same;
+        told = told_is e at rests ∙ leads.told;
       }
 
   -- ---- a message comes
 
-  links_same : (n : gates.Engine P) (l : Links) (w : Work P) → node.work_left i (record n { links = l }) w ≡ node.work_left i n w
-  links_same n l Idle = refl
-  links_same n l (Between r) = refl
-  links_same n l (Within r block) = refl
-  links_same n l Halt = refl
+  work_same : (n : gates.Engine P) (l : Links) (w : Work P) → node.work_left i (record n { links = l }) w ≡ node.work_left i n w
+  work_same n l Idle = refl
+  work_same n l (Between r) = refl
+  work_same n l (Within r block) = refl
+  work_same n l Halt = refl
+
+  links_same : (n : gates.Engine P) (l : Links) (w : Work P) → node.left_at i (record n { links = l }) w ≡ node.left_at i n w
+  links_same n l w = ap (then_wanted i n.dealt n.wanted) (work_same n l w)
 
   -- its gates tell nothing, with these messages more
   come_quiet : (n : gates.Engine P) (l : Links) (more : Mail) → mail_left i l ≡ added (mail_left i n.links) more → IsQuiet i n → IsQuiet i (record
@@ -194,7 +198,7 @@ module _ {P : Type 0} (i : Number) where
   left_same e l = ap (λ s. then_do s (behind_node i e e.at)) (links_same e.node l e.node.work)
 
   -- these messages more
-  module _ (e : Engine P) (s : Story) (f : Follows i e s) (more : Mail) (l : Links) (next : l.to_next ≡ e.node.links.to_next)
+  module _ (e : Engine P) (s : Story) (f : Leads i e s) (more : Mail) (l : Links) (next : l.to_next ≡ e.node.links.to_next)
       (previous : l.to_previous ≡ e.node.links.to_previous) (opened : l.opened ≡ e.node.links.opened)
       (mail : mail_left i l ≡ added (mail_left i e.node.links) more)
       (s2 : Story) (strand : strand_in i s2 ≡ strand_in i s) (mail2 : mail_in i s2 ≡ added (mail_in i s) more) where
@@ -217,20 +221,31 @@ module _ {P : Type 0} (i : Number) where
     come_same : shown (engine_outcome i (with_links e l)) ≡ shown (outcome i [] [] [] (story.node i s2))
     come_same =
         let k = e.node.links in
+        let x = mail_left i k in
+        let own = forgetting (engine_left i e) in
         let mine = forgetting (strand_in i s) in
+        let begun = shown (engine_outcome i e) in
         ap shown come_outcome
-        ∙ sym (ap (outcome i k.to_next k.to_previous k.opened.items) (run_forgetting (engine_left i e) (added (mail_left i k) more)))
+        ∙ sym (ap (outcome i k.to_next k.to_previous k.opened.items) (run_forgetting (engine_left i e) (added x more)))
+        ∙ kahn-behind i k.to_next k.to_previous k.opened.items own x more begun
+        (sym (ap (outcome i k.to_next k.to_previous k.opened.items) (run_forgetting (engine_left i e) x)))
         ∙ sym (ap (λ r. shown (outcome i [] [] [] r)) node_is
         ∙ sym (ap (outcome i [] [] []) (run_forgetting (strand_in i s) (added (mail_in i s) more)))
-        ∙ kahn-step i mine (mail_in i s) more (shown (standing i e))
+        ∙ kahn-step i mine (mail_in i s) more begun
         (f.same ∙ sym (ap (outcome i [] [] []) (run_forgetting (strand_in i s) (mail_in i s)))))
 
     come_told : engine_told i (with_links e l) ≡ story.has_told i s2
     come_told =
-        ap (λ r. map notice_seen e.notices.items ++ told_in r.acts) run_is
-        ∙ ap (λ ns. ns ++ told_in later.acts) f.told
+        let x = mail_left i e.node.links in
+        let first = run (engine_left i e) x in
+        let second = run first.left (added first.unread more) in
+        let told = map notice_seen e.notices.items in
+        ap (λ (r : Ran Ended). told ++ told_in r.acts) (run_is ∙ run-added (engine_left i e) x more)
+        ∙ ap (λ ns. told ++ ns) (told-append first.acts second.acts)
+        ∙ sym (append_assoc told (told_in first.acts) (told_in second.acts))
+        ∙ ap (λ ns. ns ++ told_in second.acts) f.told
         ∙ ap (λ ns. story.has_told i s ++ ns)
-        (sym (told_forgetting (engine_left i e) (added (mail_left i e.node.links) more))
+        (sym (told_forgetting first.left (added first.unread more))
         ∙ ap (λ (o : Outcome Ended). told_in (run o.left (added o.unread more)).acts) f.same
         ∙ told_forgetting (story.node i s).left (added (story.node i s).unread more))
         ∙ sym (ap (λ (r : Ran Ended). told_in r.acts) node_is
@@ -243,7 +258,7 @@ module _ {P : Type 0} (i : Number) where
     comes : Leads i (with_links e l) s2
     comes = record { sound = come_sound; same = come_same; told = come_told }
 
-  pub comes_from_previous : (e : Engine P) (s : Story) (l : Link) (m : List ℕ) → l ≡ from_previous i → Follows i e s →
+  pub comes_from_previous : (e : Engine P) (s : Story) (l : Link) (m : List ℕ) → l ≡ from_previous i → Leads i e s →
       Leads i (with_links e (came_from_previous e.node.links m)) (received i s l m)
   comes_from_previous e s l m is f =
       subst (λ b. Leads i (with_links e (came_from_previous e.node.links m))
@@ -253,7 +268,7 @@ module _ {P : Type 0} (i : Number) where
       (mail_previous i e.node.links.from_previous.1 e.node.links.from_next.1 m) (record s { from_previous = s.from_previous ++ m ∷ [] }) refl
       (mail_previous i s.from_previous s.from_next m))
 
-  pub comes_from_next : (e : Engine P) (s : Story) (l : Link) (m : List ℕ) → l ≢ from_previous i → Follows i e s →
+  pub comes_from_next : (e : Engine P) (s : Story) (l : Link) (m : List ℕ) → l ≢ from_previous i → Leads i e s →
       Leads i (with_links e (came_from_next e.node.links m)) (received i s l m)
   comes_from_next e s l m is f =
       subst (λ b. Leads i (with_links e (came_from_next e.node.links m))

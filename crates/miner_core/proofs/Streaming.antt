@@ -1,15 +1,19 @@
 -- A miner that draws its tape, for every tape that begins with the words drawn; and one that was given its tape whole.
-use Rattle.std.proofs.Common.{◌≡◌, ℕ, ◌+◌, false, true, List, [], ◌∷◌, ◌++◌, length, drop, refl, sym, ◌∙◌, ap, subst, arith}
+use Rattle.std.proofs.Common.{◌≡◌, ℕ, ◌+◌, ◌-◌, ◌≤◌, false, true, List, [], ◌∷◌, ◌++◌, length, length-drop, drop, map, refl, sym, ◌∙◌, ap, subst, arith}
 use Rattle.std.proofs.Math.Seq.{drop-append_seam}
 use Rattle.std.specs.Prelude.{Option, Some, None, Result, Ok, Err, IfSome}
 use Rattle.outside.specs.Tapes.{TapesState, Drew}
 use Rattle.proto_core.specs.declared.party.Number.{Number}
 use Rattle.proto_core.specs.declared.link.Link.{Link}
 use Rattle.proto_core.specs.Parties.{count_of}
-use Rattle.proto_core.specs.Standing.{AtItsEnd}
+use Rattle.proto_core.specs.Standing.{AtItsEnd, standing_with}
 use Rattle.proto_core.proofs.Beginnings.{append-none}
 use Rattle.gates.specs.Clear.{Values}
-use Rattle.block_steps.specs.Outcomes.{mail_left}
+use Rattle.shared_gates.specs.Model.{miner_of}
+use Rattle.value_steps.specs.Views.{drawn_seen}
+use Rattle.own_code.specs.Dealt.{drawn_by}
+use Rattle.block_steps.specs.Outcomes.{Outcome, mail_left}
+use Rattle.own_code.specs.OwnCode.{Ended}
 use Rattle.gate_node.specs.Nodes.{IsTapeOf}
 use Rattle.miner_core.specs.declared.answer.Step.{Step}
 use Rattle.miner_core.specs.declared.answer.MinerErr.{MinerErr}
@@ -20,13 +24,18 @@ use Rattle.miner_core.specs.declared.answer.StreamErr.TheVariants as error
 use Rattle.miner_core.specs.declared.engine.Engine.{Engine}
 use Rattle.miner_core.specs.declared.rest.Rest.{Rest}
 use Rattle.miner_core.specs.declared.task.Task.{Task}
-use Rattle.miner_core.specs.Engines.{engine_left, with_words, Rests}
-use Rattle.miner_core.specs.Drawing as drawing
+use Rattle.miner_core.specs.Engines.{engine_left, ending_at, if_ended, with_words, Rests}
 use Rattle.miner_core.specs.Drawing.{left_for, Delivers, IsAtRest, IsAtItsEnd}
+use Rattle.miner_core.specs.Past.{Past, with_past}
 use Rattle.miner_core.specs.Story.{Story, Follows, received, start_of, story_of, stands_at, IsAnswer, IsAnswerOf, DeliverAnswers}
-use Rattle.miner_core.specs.Streams.{StreamState, has_lost, with_tape, story_so_far, ForEachTape, settled, no_words, IsOfMessage, IsMade, HasMoved, Answers}
+use Rattle.miner_core.specs.Story.{sent_to_next, sent_to_previous, has_told, ending_in, cost_in, drawn_in}
+use Rattle.miner_core.specs.Streams.{StreamState, has_lost, with_tape, story_so_far, story_in_use, ForEachTape, ForWordsDrawn, settled, no_words}
+use Rattle.miner_core.specs.Streams.{IsOfMessage, IsMade, HasMoved, Answers}
+use Rattle.miner_core.specs.Views.{notice_seen}
 use Rattle.miner_core.proofs.Draws.{at_rest_after, received_with}
-use Rattle.miner_core.proofs.Stories.{answer_of, standing_of_story}
+use Rattle.miner_core.proofs.Past.{left_past, rests_past}
+use Rattle.miner_core.proofs.Stops.{ending_is, cost_is, drawn_is}
+use Rattle.miner_core.proofs.Stories.{answer_of, follows, standing_of_story}
 
 answers_by :
     (i : Number) (before after : StreamState) (l : Link) (m : List ℕ) (s t : TapesState) (r : Result Step StreamErr) → IsOfMessage r →
@@ -42,79 +51,143 @@ IsNotAwaited r l = r ≡ Err (error.NotAwaited l)
 
 -- ---- by its engine
 
-module _ {P : Type 0} (i : Number) where
-  abbrev pub seen : Engine P → (budget ahead : ℕ) → Option Lost → StreamState
-  seen e budget ahead lost = record { story = story_of e budget; ahead = ahead; lost = lost }
+abbrev pub seen : {P : Type 0} → Engine P → (budget ahead : ℕ) → Option Lost → StreamState
+seen e budget ahead lost = record { story = story_of e budget; ahead = ahead; lost = lost }
 
-  pub at_tape :
-      (e : Engine P) (at : Rest) (budget ahead : ℕ) (lost : Option Lost) (Q : Story → Type 0) → (lost ≡ None → IsAtRest i e at budget ahead) →
-      ((tape : List ℕ) → Follows i (drawing.whole e tape) (record (story_of e budget) { tape = tape }) → Rests i at (drawing.whole e tape) →
-      Q (record (story_of e budget) { tape = tape })) →
-      ForEachTape (seen e budget ahead lost) Q
-  at_tape e at budget ahead lost Q rests step going tape of =
-      let h = rests going in
-      subst (λ l. Q (record (story_of e budget) { tape = tape; lost = has_lost l })) (sym going) (step tape (h.follows tape of) (h.rests tape of))
+-- while it is of use it rests so, with what it has let go of what it had sent
+module _
+    {P : Type 0} (i : Number) (past : Past) (e : Engine P) (at : Rest) (w : StreamState)
+    (rests : w.lost ≡ None → IsAtRest i past e at w.ahead (story_in_use w)) where
+  -- what follows where it follows a story, for each that it may have
+  module _
+      (Q : Story → Type 0)
+      (step : (more : List ℕ) (s : Story) → s.budget ≡ w.story.budget → Follows i (with_words (with_past past e) more) s →
+      Rests i at (with_words e more) → Q s)
+      (going : w.lost ≡ None) where
+    at_more : (tape more : List ℕ) → tape ≡ w.story.tape ++ more → length more ≤ w.ahead → Q (with_tape w tape)
+    at_more tape more is few =
+        let h = rests going in
+        let s = record (story_in_use w) { tape = w.story.tape ++ more } in
+        let stands = h.rests more few in
+        subst Q
+        (ap (λ t. record (story_in_use w) { tape = t }) (sym is) ∙ sym (ap (λ l. record w.story { tape = tape; lost = has_lost l }) going))
+        (step more s refl (follows i (with_words (with_past past e) more) s at (h.leads more) (rests_past i past (with_words e more) at stands)) stands)
 
+    pub at_tape : (tape : List ℕ) → IsTapeOf w.story.tape w.ahead tape → Q (with_tape w tape)
+    at_tape tape of =
+        let behind = length-drop (length w.story.tape) tape in
+        let counted = of.counted in
+        at_more tape (drop (length w.story.tape) tape) of.begins (omega (arith, behind, counted))
+
+    pub at_drawn : Q (story_so_far w)
+    at_drawn = at_more w.story.tape [] (sym (append-none w.story.tape)) (omega arith)
+
+  -- what is answered
   pub answer_at :
-      (e : Engine P) (at : Rest) (budget ahead : ℕ) (lost : Option Lost) (r : Result Step StreamErr) → (lost ≡ None → IsAtRest i e at budget ahead) →
-      ((more : List ℕ) → Rests i at (with_words e more) →
-      IsAnswerOf (engine_left i (with_words e more)) (mail_left i e.node.links) (settled r)) →
-      ForEachTape (seen e budget ahead lost) (λ s. IsAnswer i s (settled r))
-  answer_at e at budget ahead lost r h answers =
-      at_tape e at budget ahead lost (λ s. IsAnswer i s (settled r)) h
-      (λ tape f rests. answer_of i (drawing.whole e tape) (record (story_of e budget) { tape = tape }) (settled r) f
-      (answers (drop (length e.node.tape.0) tape) rests))
+      (r : Result Step StreamErr) →
+      ((more : List ℕ) → Rests i at (with_words e more) → IsAnswerOf (engine_left i (with_words e more)) (mail_left i e.node.links) (settled r)) →
+      ForEachTape w (λ s. IsAnswer i s (settled r))
+  answer_at r answers =
+      at_tape (λ s. IsAnswer i s (settled r))
+      (λ more s same f stands.
+      answer_of i (with_words (with_past past e) more) s (settled r) f
+      (subst (λ v. IsAnswerOf v (mail_left i e.node.links) (settled r)) (sym (left_past i past (with_words e more))) (answers more stands)))
+
+  -- with what it has let go, it stands where it stands
+  standing_past :
+      (more : List ℕ) (s : Story) → Follows i (with_words (with_past past e) more) s →
+      standing_with (engine_left i (with_words e more)) (mail_left i e.node.links) ≡ stands_at i s
+  standing_past more s f =
+      ap (λ v. standing_with v (mail_left i e.node.links)) (sym (left_past i past (with_words e more)))
+      ∙ standing_of_story i (with_words (with_past past e) more) s f
 
   pub ended_at :
-      (e : Engine P) (at : Rest) (budget ahead : ℕ) (lost : Option Lost) → (lost ≡ None → IsAtRest i e at budget ahead) →
-      ((more : List ℕ) → Rests i at (with_words e more) → IsAtItsEnd i e more) → ForEachTape (seen e budget ahead lost) (λ s. stands_at i s ≡ AtItsEnd)
-  ended_at e at budget ahead lost h ended =
-      at_tape e at budget ahead lost (λ s. stands_at i s ≡ AtItsEnd) h
-      (λ tape f rests. sym (standing_of_story i (drawing.whole e tape) (record (story_of e budget) { tape = tape }) f)
-      ∙ ended (drop (length e.node.tape.0) tape) rests)
+      ((more : List ℕ) → Rests i at (with_words e more) → IsAtItsEnd i e more) → ForEachTape w (λ s. stands_at i s ≡ AtItsEnd)
+  ended_at ended = at_tape (λ s. stands_at i s ≡ AtItsEnd) (λ more s same f stands. sym (standing_past more s f) ∙ ended more stands)
 
   pub going_at :
-      (e : Engine P) (at : Rest) (budget ahead : ℕ) (lost : Option Lost) (A : Type 0) → (lost ≡ None → IsAtRest i e at budget ahead) →
-      ((more : List ℕ) → Rests i at (with_words e more) → IsAtItsEnd i e more → ⊥) → ForEachTape (seen e budget ahead lost) (λ s. stands_at i s ≡ AtItsEnd → A)
-  going_at e at budget ahead lost A h going =
-      at_tape e at budget ahead lost (λ s. stands_at i s ≡ AtItsEnd → A) h
-      (λ tape f rests is.
-      absurd (going (drop (length e.node.tape.0) tape) rests
-      (standing_of_story i (drawing.whole e tape) (record (story_of e budget) { tape = tape }) f ∙ is)))
+      (A : Type 0) → ((more : List ℕ) → Rests i at (with_words e more) → IsAtItsEnd i e more → ⊥) → ForEachTape w (λ s. stands_at i s ≡ AtItsEnd → A)
+  going_at A going =
+      at_tape (λ s. stands_at i s ≡ AtItsEnd → A) (λ more s same f stands is. absurd (going more stands (standing_past more s f ∙ is)))
 
-  -- ---- a message came
+  -- what is sent, and told
+  module _ (going : w.lost ≡ None) (tape : List ℕ) (of : IsTapeOf w.story.tape w.ahead tape) where
+    pub next_at : past.to_next ++ e.node.links.to_next ≡ sent_to_next i (with_tape w tape)
+    next_at =
+        at_tape (λ s. past.to_next ++ e.node.links.to_next ≡ sent_to_next i s)
+        (λ more s same f stands. ap (λ (o : Outcome Ended). o.to_next) f.same) going tape of
+
+    pub previous_at : past.to_previous ++ e.node.links.to_previous ≡ sent_to_previous i (with_tape w tape)
+    previous_at =
+        at_tape (λ s. past.to_previous ++ e.node.links.to_previous ≡ sent_to_previous i s)
+        (λ more s same f stands. ap (λ (o : Outcome Ended). o.to_previous) f.same) going tape of
+
+    pub told_at : map notice_seen e.notices.items ≡ has_told i (with_tape w tape)
+    told_at = at_tape (λ s. map notice_seen e.notices.items ≡ has_told i s) (λ more s same f stands. f.told) going tape of
+
+  -- how the run has ended, its cost, and the words that it has drawn, by what is said of them with each story that it may have
+  module _ (Q : Story → Type 0) where
+    abbrev Stops : Type 0
+    Stops = (s : Story) → ending_in i s ≡ ending_at at e.at → cost_in i s ≡ if_ended (ending_at at e.at) (w.story.budget - e.stage.left) →
+        drawn_in i s ≡ if_ended (ending_at at e.at) (drawn_by (drawn_seen e.stage.drawn) (miner_of i)) → Q s
+
+    stop_step :
+        Stops → (more : List ℕ) (s : Story) → s.budget ≡ w.story.budget → Follows i (with_words (with_past past e) more) s →
+        Rests i at (with_words e more) → Q s
+    stop_step step more s same f stands =
+        let all = with_words (with_past past e) more in
+        let there = rests_past i past (with_words e more) at stands in
+        step s (ending_is i all at s f there) (cost_is i all at s f there ∙ ap (λ b. if_ended (ending_at at e.at) (b - e.stage.left)) same)
+        (drawn_is i all at s f there)
+
+    pub stops_at : Stops → ForEachTape w Q
+    stops_at step = at_tape Q (stop_step step)
+
+    pub stops_drawn : Stops → ForWordsDrawn w Q
+    stops_drawn step = at_drawn Q (stop_step step)
+
+-- ---- a message came
+
+-- it has drawn these words, and so many are ahead
+abbrev pub then_state : Number → StreamState → Link → (m : List ℕ) → (taken : List ℕ) → (ahead : ℕ) → StreamState
+then_state i w l m taken ahead = record w { story = record (received i w.story l m) { tape = w.story.tape ++ taken }; ahead = ahead }
+
+module _ {P : Type 0} (i : Number) (w : StreamState) (l : Link) (m : List ℕ) where
+  pub at_rest_then :
+      (past : Past) (e e2 : Engine P) (at at2 : Rest) (s t : TapesState) → IsAtRest i past e at w.ahead (story_in_use w) →
+      (d : Delivers i at2 l m e e2 s t) → (ahead : ℕ) → ahead ≡ left_for i t →
+      IsAtRest i past e2 at2 ahead (story_in_use (then_state i w l m d.taken ahead))
+  at_rest_then past e e2 at at2 s t h d ahead left =
+      subst (λ n. IsAtRest i past e2 at2 n (story_in_use (then_state i w l m d.taken ahead))) (sym left)
+      (subst (IsAtRest i past e2 at2 (left_for i t))
+      (ap (λ (x : Story). record x { tape = w.story.tape ++ d.taken }) (received_with i w.story l m w.story.tape false))
+      (at_rest_after i past e e2 at at2 l m w.ahead (story_in_use w) s t h d))
 
   moved :
-      (e e2 : Engine P) (at at2 : Rest) (l : Link) (m : List ℕ) (budget ahead ahead2 : ℕ) (lost : Option Lost) (s t : TapesState) (r : Result Step StreamErr) →
-      lost ≡ None → IsAtRest i e at budget ahead → left_for i s ≡ ahead → Delivers i at2 l m e e2 s t → left_for i t ≡ ahead2 →
+      (past : Past) (e2 : Engine P) (at2 : Rest) (s t : TapesState) (taken : List ℕ) (ahead : ℕ) (r : Result Step StreamErr) → w.lost ≡ None →
+      Drew s t (count_of i) taken → left_for i t ≡ ahead → IsAtRest i past e2 at2 ahead (story_in_use (then_state i w l m taken ahead)) →
       ((more : List ℕ) → Rests i at2 (with_words e2 more) →
       IsAnswerOf (engine_left i (with_words e2 more)) (mail_left i e2.node.links) (settled r)) →
-      HasMoved i l m (seen e budget ahead lost) (seen e2 budget ahead2 lost) s t (settled r)
-  moved e e2 at at2 l m budget ahead ahead2 lost s t r going h left d left2 answers =
+      HasMoved i l m w (then_state i w l m taken ahead) s t (settled r)
+  moved past e2 at2 s t taken ahead r going drew left rests answers =
       record {
         going = going;
-        taken = d.taken;
-        drew = d.drew;
-        tape = d.tape;
-        ahead = left2;
-        received =
-            λ tape.
-            ap (λ (x : Story). record x { tape = tape; lost = has_lost lost }) (d.story budget)
-            ∙ sym (received_with i (story_of e budget) l m tape (has_lost lost));
-        answers =
-            answer_at e2 at2 budget ahead2 lost r
-            (λ same. subst (IsAtRest i e2 at2 budget) left2 (at_rest_after i e e2 at at2 l m budget ahead s t h left d)) answers going;
+        taken = taken;
+        drew = drew;
+        tape = refl;
+        ahead = left;
+        received = λ tape. sym (received_with i w.story l m tape (has_lost w.lost));
+        answers = answer_at i past e2 at2 (then_state i w l m taken ahead) (λ same. rests) r answers going;
       }
 
   pub answers_moved :
-      (e e2 : Engine P) (at at2 : Rest) (l : Link) (m : List ℕ) (budget ahead ahead2 : ℕ) (lost : Option Lost) (s t : TapesState) (r : Result Step StreamErr) →
-      lost ≡ None → IsAtRest i e at budget ahead → left_for i s ≡ ahead → Delivers i at2 l m e e2 s t → left_for i t ≡ ahead2 →
+      (past : Past) (e2 : Engine P) (at2 : Rest) (s t : TapesState) (taken : List ℕ) (ahead : ℕ) (r : Result Step StreamErr) → w.lost ≡ None →
+      Drew s t (count_of i) taken → left_for i t ≡ ahead → IsAtRest i past e2 at2 ahead (story_in_use (then_state i w l m taken ahead)) →
       ((more : List ℕ) → Rests i at2 (with_words e2 more) →
       IsAnswerOf (engine_left i (with_words e2 more)) (mail_left i e2.node.links) (settled r)) → IsOfMessage r →
-      Answers i l m (seen e budget ahead lost) (seen e2 budget ahead2 lost) s t r
-  answers_moved e e2 at at2 l m budget ahead ahead2 lost s t r going h left d left2 answers of =
-      answers_by i (seen e budget ahead lost) (seen e2 budget ahead2 lost) l m s t r of
-      (moved e e2 at at2 l m budget ahead ahead2 lost s t r going h left d left2 answers)
+      Answers i l m w (then_state i w l m taken ahead) s t r
+  answers_moved past e2 at2 s t taken ahead r going drew left rests answers of =
+      answers_by i w (then_state i w l m taken ahead) l m s t r of (moved past e2 at2 s t taken ahead r going drew left rests answers)
 
 -- ---- with its whole tape
 

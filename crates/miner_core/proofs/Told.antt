@@ -1,5 +1,5 @@
 -- Where a source tells its words, a tape is known with which all is said of a miner that draws.
-use Rattle.std.proofs.Common.{◌≡◌, ℕ, ◌+◌, List, ◌++◌, if◌then◌else◌, length, drop, true, sym, ◌∙◌, ap}
+use Rattle.std.proofs.Common.{◌≡◌, ℕ, List, ◌++◌, if◌then◌else◌, length, drop, true, sym, ◌∙◌, ap}
 use Rattle.std.proofs.Math.Seq.{drop-append_seam}
 use Rattle.outside.specs.Tapes.{TapesState, Drew, left_of}
 use Rattle.gate_node.specs.Nodes.{IsTapeOf}

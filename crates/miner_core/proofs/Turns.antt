@@ -14,18 +14,18 @@ use Rattle.value_steps.specs.Views.{stage_seen}
 use Rattle.value_steps.specs.declared.stage.Stage as reached
 use Rattle.driven_nodes.specs.Driven.{telling}
 use Rattle.driven_nodes.specs.Steps.{Went, place_of, stand_of, gained, last_of}
-use Rattle.code_turns.specs.Places.{Place, step_told, notices_between, next_step, told_by, where_made}
+use Rattle.own_code.specs.Places.{Place, step_told, notices_between, next_step, told_by, where_made}
 use Rattle.block_steps.specs.declared.links.Links.{Links}
 use Rattle.block_steps.specs.Outcomes.{outcome, outcome_of, mail_left}
 use Rattle.gate_node.specs.OwnGates.{Halted, Whole, Stuck, own_gates, then_gates}
 use Rattle.gate_node.specs.Nodes as node
 use Rattle.gate_node.proofs.Always.{then-all}
-use Rattle.code_turns.specs.declared.outcome.Turned.{Turned}
-use Rattle.code_turns.specs.declared.outcome.Turned.TheVariants as turned
-use Rattle.code_turns.specs.declared.speech.Speech.{Speech}
-use Rattle.code_turns.specs.declared.telling.Told as told
-use Rattle.code_turns.specs.Views.{went_as, went_to, speech_seen}
-use Rattle.code_turns.proofs.Places.{stage_went}
+use Rattle.miner_core.specs.declared.outcome.Turned.{Turned}
+use Rattle.miner_core.specs.declared.outcome.Turned.TheVariants as turned
+use Rattle.miner_core.specs.declared.speech.Speech.{Speech}
+use Rattle.miner_core.specs.declared.telling.Told as told
+use Rattle.miner_core.specs.TurnViews.{went_as, went_to, speech_seen}
+use Rattle.miner_core.proofs.Places.{stage_went}
 use Rattle.miner_core.specs.declared.engine.At.{At}
 use Rattle.miner_core.specs.declared.engine.At.TheVariants as at
 use Rattle.miner_core.specs.declared.engine.Engine.{Engine}

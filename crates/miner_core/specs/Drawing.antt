@@ -1,5 +1,5 @@
 -- What a miner's engine draws of its tape. What it does then holds for every tape that begins with the words that it has drawn.
-use Rattle.std.specs.Prelude.{◌≡◌, ℕ, ◌<◌, List, ◌++◌, length, drop, true, Result, IfErr}
+use Rattle.std.specs.Prelude.{◌≡◌, ℕ, ◌<◌, ◌≤◌, List, ◌++◌, length, true, Result, IfErr}
 use Rattle.outside.specs.Causes.{Rose}
 use Rattle.outside.specs.Tapes.{TapesState, Drew, faults_of, left_of}
 use Rattle.proto_core.specs.declared.party.Number.{Number}
@@ -7,7 +7,6 @@ use Rattle.proto_core.specs.declared.link.Link.{Link}
 use Rattle.proto_core.specs.Parties.{count_of}
 use Rattle.proto_core.specs.Standing.{AtItsEnd, standing_with}
 use Rattle.block_steps.specs.Outcomes.{mail_left, Holds}
-use Rattle.gate_node.specs.Nodes.{IsTapeOf}
 use Rattle.gate_node.specs.declared.stand.Stand.{Stand}
 use Rattle.gate_node.specs.declared.stand.Stand.TheVariants as stand
 use Rattle.miner_core.specs.declared.answer.Lost.{Lost}
@@ -15,7 +14,8 @@ use Rattle.miner_core.specs.declared.answer.Lost.TheVariants as lost
 use Rattle.miner_core.specs.declared.engine.Engine.{Engine}
 use Rattle.miner_core.specs.declared.rest.Rest.{Rest}
 use Rattle.miner_core.specs.Engines.{engine_left, engine_outcome, engine_told, shown, with_words, IsSoundAlways, Rests}
-use Rattle.miner_core.specs.Story.{Story, Follows, received, story_of}
+use Rattle.miner_core.specs.Past.{Past, with_past}
+use Rattle.miner_core.specs.Story.{Story, Leads, received, story_of}
 
 -- ---- the source
 
@@ -53,14 +53,6 @@ pub record Draws {A : Type 0} (i : Number) (old new : TapesState) (result : Resu
 
 -- ---- the engine
 
--- a tape that begins with these words
-abbrev pub Begins : (drawn tape : List ℕ) → Type 0
-Begins drawn tape = tape ≡ drawn ++ drop (length drawn) tape
-
--- with its whole tape
-abbrev pub whole : {P : Type 0} → Engine P → (tape : List ℕ) → Engine P
-whole e tape = with_words e (drop (length e.node.tape.0) tape)
-
 -- its run has ended, where these words more come
 abbrev pub IsAtItsEnd : {P : Type 0} → Number → Engine P → (more : List ℕ) → Type 0
 IsAtItsEnd i e more = standing_with (engine_left i (with_words e more)) (mail_left i e.node.links) ≡ AtItsEnd
@@ -73,40 +65,41 @@ module _ {P : Type 0} (i : Number) where
     pub drew : Drew old new (count_of i) words
     pub supplied : after ≡ with_words before words
 
-  -- it has done and told the same, and drawn words
+  -- it has drawn words, and done and told what it would have with them, whatever words come behind
   pub record DrewOn (before after : Engine P) (old new : TapesState) : Type 0 where
     pub taken : List ℕ
     pub drew : Drew old new (count_of i) taken
     pub tape : after.node.tape.0 ≡ before.node.tape.0 ++ taken
     pub same :
-        (tape : List ℕ) → Begins after.node.tape.0 tape →
-        shown (engine_outcome i (whole after tape)) ≡ shown (engine_outcome i (whole before tape))
-    pub told : (tape : List ℕ) → Begins after.node.tape.0 tape → engine_told i (whole after tape) ≡ engine_told i (whole before tape)
+        (more : List ℕ) →
+        shown (engine_outcome i (with_words after more)) ≡ shown (engine_outcome i (with_words before (taken ++ more)))
+    pub told : (more : List ℕ) → engine_told i (with_words after more) ≡ engine_told i (with_words before (taken ++ more))
     pub sound : IsSoundAlways i after
     pub links : Holds before.node.links after.node.links
     pub task : after.task ≡ before.task
     pub dealt : after.node.dealt ≡ before.node.dealt
     pub still : old.steady ≡ true → new.steady ≡ true
 
-  -- and so it rests, with every such tape of the right length
+  -- and so it rests, whatever words come, if no more do than are left
   pub record RunsOn (rest : Rest) (before after : Engine P) (old new : TapesState) : Type 0 where
     pub drew : DrewOn before after old new
-    pub rests : (tape : List ℕ) → IsTapeOf after.node.tape.0 (left_for i new) tape → Rests i rest (whole after tape)
+    pub rests : (more : List ℕ) → length more ≤ left_for i new → Rests i rest (with_words after more)
 
-  -- a message came
+  -- a message came; what it has done then is what its story leads to, whatever it has let go of what it had sent, and whatever words come
   pub record Delivers (rest : Rest) (l : Link) (m : List ℕ) (before after : Engine P) (old new : TapesState) : Type 0 where
     pub taken : List ℕ
     pub drew : Drew old new (count_of i) taken
     pub tape : after.node.tape.0 ≡ before.node.tape.0 ++ taken
     pub story : (budget : ℕ) → story_of after budget ≡ record (received i (story_of before budget) l m) { tape = after.node.tape.0 }
     pub sound : IsSoundAlways i after
-    pub follows :
-        (tape : List ℕ) → IsTapeOf after.node.tape.0 (left_for i new) tape → (s : Story) → Follows i (whole before tape) s →
-        Follows i (whole after tape) (received i s l m)
-    pub rests : (tape : List ℕ) → IsTapeOf after.node.tape.0 (left_for i new) tape → Rests i rest (whole after tape)
+    pub leads :
+        (past : Past) (more : List ℕ) (s : Story) → Leads i (with_words (with_past past before) (taken ++ more)) s →
+        Leads i (with_words (with_past past after) more) (received i s l m)
+    pub rests : (more : List ℕ) → length more ≤ left_for i new → Rests i rest (with_words after more)
 
-  -- it is where its story leads, with every tape that begins with the words drawn and has so many behind them
-  pub record IsAtRest (e : Engine P) (rest : Rest) (budget ahead : ℕ) : Type 0 where
+  -- with what it has let go of what it had sent, it has done what this story leads to, whatever words come behind those of the story; and so it
+  -- rests, where no more do than are ahead
+  pub record IsAtRest (past : Past) (e : Engine P) (rest : Rest) (ahead : ℕ) (s : Story) : Type 0 where
     pub sound : IsSoundAlways i e
-    pub follows : (tape : List ℕ) → IsTapeOf e.node.tape.0 ahead tape → Follows i (whole e tape) (record (story_of e budget) { tape = tape })
-    pub rests : (tape : List ℕ) → IsTapeOf e.node.tape.0 ahead tape → Rests i rest (whole e tape)
+    pub leads : (more : List ℕ) → Leads i (with_words (with_past past e) more) (record s { tape = s.tape ++ more })
+    pub rests : (more : List ℕ) → length more ≤ ahead → Rests i rest (with_words e more)

@@ -11,7 +11,7 @@ use Rattle.value_steps.specs.Views.{stage_seen}
 use Rattle.value_steps.specs.declared.stage.Stage as reached
 use Rattle.driven_nodes.specs.Driven.{telling}
 use Rattle.driven_nodes.specs.Steps.{Stopped, Short, stand_of, last_of}
-use Rattle.code_turns.specs.Places.{Place, place, step_told}
+use Rattle.own_code.specs.Places.{Place, place, step_told}
 use Rattle.block_steps.specs.Outcomes.{Outcome, outcome_of, mail_left, Holds}
 use Rattle.gate_node.specs.OwnGates.{Halted, Whole, Stuck}
 use Rattle.gate_node.specs.Nodes as node
@@ -20,11 +20,11 @@ use Rattle.gate_node.specs.declared.stand.Stand as at_gates
 use Rattle.gate_node.specs.declared.stand.Stand.TheVariants as stand
 use Rattle.miner_core.specs.declared.rest.Rest.{Rest}
 use Rattle.miner_core.specs.declared.rest.Rest.TheVariants as rest
-use Rattle.code_turns.specs.Views.{place_in, went_to}
-use Rattle.code_turns.specs.declared.outcome.Turned.{Turned}
-use Rattle.code_turns.specs.declared.outcome.Turned.TheVariants as turned
-use Rattle.code_turns.specs.declared.speech.Speech.{Speech}
-use Rattle.code_turns.specs.declared.telling.Told.{Told}
+use Rattle.miner_core.specs.TurnViews.{place_in, went_to}
+use Rattle.miner_core.specs.declared.outcome.Turned.{Turned}
+use Rattle.miner_core.specs.declared.outcome.Turned.TheVariants as turned
+use Rattle.miner_core.specs.declared.speech.Speech.{Speech}
+use Rattle.miner_core.specs.declared.telling.Told.{Told}
 use Rattle.miner_core.specs.declared.answer.End.{End}
 use Rattle.miner_core.specs.declared.answer.End.TheVariants as end
 use Rattle.miner_core.specs.declared.engine.At.{At}

@@ -14,8 +14,8 @@ use Rattle.language_model.specs.Effects.{World}
 use Rattle.verified_code.specs.Steps.{Function}
 use Rattle.code_machine.specs.Meaning.{fuel}
 use Rattle.driven_nodes.specs.Steps.{Running, Stopped, Short}
-use Rattle.code_turns.specs.Places.{Place, first_place}
-use Rattle.code_turns.specs.Dealt.{drawn_by}
+use Rattle.own_code.specs.Places.{Place, first_place}
+use Rattle.own_code.specs.Dealt.{drawn_by}
 use Rattle.block_steps.specs.Outcomes.{Outcome, outcome, mail_left}
 use Rattle.miner_core.specs.declared.answer.End.{End}
 use Rattle.miner_core.specs.declared.answer.End.TheVariants as end

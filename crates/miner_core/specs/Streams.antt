@@ -35,6 +35,14 @@ with_tape m tape = record m.story { tape = tape; lost = has_lost m.lost }
 abbrev pub story_so_far : StreamState → Story
 story_so_far m = with_tape m m.story.tape
 
+-- its story while it is of use
+abbrev pub story_in_use : StreamState → Story
+story_in_use m = record m.story { lost = false }
+
+-- while it is of use: for its story where no words come behind those that it has drawn
+abbrev pub ForWordsDrawn : StreamState → (Story → Type 0) → Type 0
+ForWordsDrawn m Q = m.lost ≡ None → Q (story_so_far m)
+
 -- while it is of use: for its story with each tape that begins with the words drawn, and has so many behind them
 abbrev pub ForEachTape : StreamState → (Story → Type 0) → Type 0
 ForEachTape m Q = m.lost ≡ None → (tape : List ℕ) → IsTapeOf m.story.tape m.ahead tape → Q (with_tape m tape)

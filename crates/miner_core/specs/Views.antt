@@ -7,10 +7,10 @@ use Rattle.verified_code.specs.Settled.{settled}
 use Rattle.verified_code.specs.Steps.{Function}
 use Rattle.value_steps.specs.Views.{given_seen, lengths_seen}
 use Rattle.value_steps.specs.declared.stage.Stage as reached
-use Rattle.code_turns.specs.Places.{form_of, where_made}
-use Rattle.code_turns.specs.declared.speech.Speech.{Speech}
-use Rattle.code_turns.specs.declared.telling.Told.{Told}
-use Rattle.code_turns.specs.Views.{speech_seen}
+use Rattle.own_code.specs.Places.{form_of, where_made}
+use Rattle.miner_core.specs.declared.speech.Speech.{Speech}
+use Rattle.miner_core.specs.declared.telling.Told.{Told}
+use Rattle.miner_core.specs.TurnViews.{speech_seen}
 use Rattle.miner_core.specs.declared.task.Task.{Task}
 use Rattle.miner_core.specs.declared.notice.Notice.{Notice}
 use Rattle.miner_core.specs.declared.notice.Notice.TheVariants as notice

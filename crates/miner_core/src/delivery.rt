@@ -1,10 +1,11 @@
 // An engine at its start, a message that comes, and where it stands.
-ghost use Rattle.std.specs.Prelude.{◌≡◌, ◌++◌, ℕ, List, true, false, IfOk, OnOk};
+ghost use Rattle.std.specs.Prelude.{◌≡◌, ◌≤◌, ◌++◌, ℕ, List, length, true, false, IfOk, OnOk};
 ghost use Rattle.outside.specs.Tapes.{TapesState};
 ghost use Rattle.block_steps.specs.Outcomes.{mail_left};
 ghost use Rattle.miner_core.specs.Drawing.{Draws, Delivers, IsAtItsEnd};
 ghost use Rattle.miner_core.specs.Engines.{engine_left, ended_by, ending_at, end_by, with_words, IsSoundAlways, Rests};
-ghost use Rattle.miner_core.specs.Story.{Story, Follows, Leads, story_of, received, start_of, IsAnswerOf};
+ghost use Rattle.miner_core.specs.Past.{Past, with_past};
+ghost use Rattle.miner_core.specs.Story.{Story, Leads, story_of, received, start_of, IsAnswerOf};
 ghost use Rattle.miner_core.specs.Streams.{settled, IsOfMessage};
 
 use crate::answer::{End, Lost, Step, StreamErr};
@@ -16,7 +17,7 @@ use code_machine::{most_steps, start};
 use gate_node::GateNode;
 use gates::Values;
 use outside::TapeSource;
-use proto_core::{Link, Msg, Party};
+use proto_core::{Link, Party};
 use sc_text::Ending;
 use std::alloc::{AllocError, Global};
 use value_steps::Stage;
@@ -49,35 +50,37 @@ impl<P: Party> Engine<P> {
         })
     }
 
-    /// A message comes from one of the two others.
-    fn receive(&mut self, link: Link, message: &Msg) -> Result<(), AllocError>
+    /// A message of these words comes from one of the two others.
+    fn receive(&mut self, link: Link, words: &[u64]) -> Result<(), AllocError>
         requires sound { IsSoundAlways P.me self.old }
-        ensures leads { OnOk result ((more : List ℕ) (s : Story) → Follows P.me (with_words self.old more) s →
-            Leads P.me (with_words self.new more) (received P.me s link message.now)) }
-        ensures story { OnOk result ((budget : ℕ) → story_of self.new budget ≡ received P.me (story_of self.old budget) link message.now) }
+        requires few { length words.now ≤ 2048 }
+        ensures leads { OnOk result ((past : Past) (more : List ℕ) (s : Story) → Leads P.me (with_words (with_past past self.old) more) s →
+            Leads P.me (with_words (with_past past self.new) more) (received P.me s link words.now)) }
+        ensures story { OnOk result ((budget : ℕ) → story_of self.new budget ≡ received P.me (story_of self.old budget) link words.now) }
         ensures sound { OnOk result (IsSoundAlways P.me self.new) }
         ensures tape { OnOk result (self.new.node.tape ≡ self.old.node.tape) }
     {
         if link == P::number().previous().link_to_next() {
-            self.node.receive_from_previous(message)?;
+            self.node.receive_words_from_previous(words)?;
             return Ok(());
         }
-        self.node.receive_from_next(message)?;
+        self.node.receive_words_from_next(words)?;
         Ok(())
     }
 
-    /// A message comes, and all is done that the messages and the tape lead to; where it then stands.
+    /// A message of these words comes, and all is done that the messages and the tape lead to; where it then stands.
     pub fn deliver<T: TapeSource>(
         &mut self,
         link: Link,
-        message: &Msg,
+        words: &[u64],
         tapes: &mut T,
     ) -> Result<Rest, Lost>
         requires sound { IsSoundAlways P.me self.old }
-        ensures delivers { IfOk result (λ rest. Delivers P.me rest link message.now self.old self.new (T.state tapes.old) (T.state tapes.new)) }
+        requires few { length words.now ≤ 2048 }
+        ensures delivers { IfOk result (λ rest. Delivers P.me rest link words.now self.old self.new (T.state tapes.old) (T.state tapes.new)) }
         ensures draws { Draws P.me (T.state tapes.old) (T.state tapes.new) result }
     {
-        self.receive(link, message)?;
+        self.receive(link, words)?;
         let rest = self.run_on(tapes)?;
         Ok(rest)
     }

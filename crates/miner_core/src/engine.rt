@@ -1,6 +1,6 @@
 ghost use Rattle.std.specs.Prelude.{◌≡◌, ◌<◌, true, false, IfOk, OnOk, Ok};
 ghost use Rattle.gate_node.specs.Nodes as node;
-ghost use Rattle.code_turns.specs.declared.outcome.Turned.TheVariants.{Short};
+ghost use Rattle.miner_core.specs.declared.outcome.Turned.TheVariants.{Short};
 ghost use Rattle.miner_core.specs.declared.engine.At.TheVariants.{Ready, Again};
 ghost use Rattle.miner_core.specs.Engines.{left_with, outcome_with, told_with, all_shown, IsSoundAlways};
 ghost use Rattle.miner_core.specs.Engines.{IsThroughAlways, IsOver, StandsAlways, Keeps, KeepsLinks};
@@ -8,10 +8,12 @@ ghost use Rattle.miner_core.specs.Engines.{acting, led_to, measure, GoesOn};
 
 use crate::letting_go::Letting;
 use crate::notice::{Notice, tell};
+use crate::outcome::Turned;
+use crate::speech::{Speech, next_speech};
 use crate::stepping::{gates_from, is_done, step_alone, step_told};
 use crate::task::Task;
+use crate::telling::{Told, last_words, told_yet};
 use code_machine::{Machine, marked, rewind};
-use code_turns::{Speech, Told, Turned, last_words, next_speech, told_yet};
 use gate_node::{GateNode, Stand};
 use proto_core::Party;
 use sc_text::Ending;
@@ -203,7 +205,7 @@ impl<P: Party> Engine<P> {
     }
 
     /// The next steps, if fuel is left, up to one that isn't done with at once. Before them, what isn't needed any more is let go; after them the
-    /// array into which the last one stores, where it can be.
+    /// array into which the last one stores, where it can be, and the values of its plan of gates as soon as they aren't needed.
     fn ready(&mut self) -> Result<bool, AllocError>
         requires ready { self.old.at ≡ Ready }
         requires through { IsThroughAlways P.me self.old.node }
@@ -221,6 +223,7 @@ impl<P: Party> Engine<P> {
         self.let_go()?;
         self.row()?;
         self.store_in_place()?;
+        self.want_needed()?;
         Ok(true)
     }
 

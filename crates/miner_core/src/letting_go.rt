@@ -1,5 +1,5 @@
-// What a miner lets go: between two steps values that nothing can name any more, and the list of its gates; and behind a step the array into
-// which it has stored.
+// What a miner lets go: between two steps values that nothing can name any more, and the list of its gates; behind a step the array into
+// which it has stored; and, where no view is told, messages that it has taken and words that it has drawn.
 ghost use Rattle.std.specs.Prelude.{◌≡◌, ◌-◌, ◌&&◌, ◌||◌, ℕ, length, nat_eq, nat_le, nat_lt, IsTrue, IfSome, IfOk, OnOk};
 ghost use Rattle.std.specs.BTreeSet.{contains};
 ghost use Rattle.std.specs.Ordering.{nat_cmp};
@@ -10,9 +10,11 @@ ghost use Rattle.driven_nodes.specs.Steps.{last_of};
 ghost use Rattle.own_code.specs.Named.{AreAmong, MachineNames};
 ghost use Rattle.miner_core.specs.declared.engine.At.TheVariants.{Ready};
 ghost use Rattle.miner_core.specs.Engines.{left_with, all_forgetting, measure, IsSoundAlways, IsThroughAlways, KeepsLinks, LeadsOn};
+ghost use Rattle.miner_core.specs.Past.{IsLighter, HoldsLittle};
 
 use crate::engine::{At, Engine};
-use code_turns::{Turned, last_words};
+use crate::outcome::Turned;
+use crate::telling::last_words;
 use gates::Gate;
 use proto_core::Party;
 use std::alloc::AllocError;
@@ -134,5 +136,13 @@ impl<P: Party> Engine<P> {
             self.letting.done = self.node.values().len();
         }
         Ok(())
+    }
+    /// Lets go the messages that came, of each link on which all were taken, and the words that were supplied, once all were drawn.
+    pub fn let_go_done(&mut self)
+        ensures lighter { IsLighter self.old self.new }
+        ensures little { HoldsLittle self.new }
+    {
+        self.node.let_go_taken();
+        self.node.let_go_drawn();
     }
 }

@@ -1,11 +1,12 @@
 // What a miner tells.
 ghost use Rattle.std.specs.Prelude.{◌≡◌, ◌++◌, IfOk, OnOk, map};
 ghost use Rattle.std.specs.List.{flat_map};
-ghost use Rattle.code_turns.specs.Views.{speech_seen};
+ghost use Rattle.miner_core.specs.TurnViews.{speech_seen};
 ghost use Rattle.miner_core.specs.Story.{shown_by};
 ghost use Rattle.miner_core.specs.Views.{notice_seen, if_any, told_since};
 
-use code_turns::{Speech, Told, words_behind};
+use crate::speech::Speech;
+use crate::telling::{Told, words_behind};
 use sc_text::Name;
 use std::alloc::{AllocError, Global};
 use typed_tree::Shape;

@@ -1,14 +1,16 @@
 // One step of the code, and the gates that it makes.
 ghost use Rattle.std.specs.Prelude.{◌≡◌, ◌≤◌, [], true, IfOk, drop, length};
 ghost use Rattle.code_machine.specs.Standing.{Stands};
-ghost use Rattle.code_turns.specs.Places.{step_told};
-ghost use Rattle.code_turns.specs.Views.{place_in, went_to};
+ghost use Rattle.own_code.specs.Places.{step_told};
+ghost use Rattle.miner_core.specs.TurnViews.{place_in, went_to};
 ghost use Rattle.miner_core.specs.Engines.{IsDone};
 ghost use Rattle.miner_core.specs.Views.{task_world, task_code};
 
+use crate::outcome::Turned;
+use crate::step::{given_back, lent, turned};
 use crate::task::Task;
+use crate::telling::Told;
 use code_machine::{Machine, step};
-use code_turns::{Told, Turned, given_back, lent, turned};
 use gates::Gate;
 use std::alloc::{AllocError, Global};
 use value_steps::Stage;

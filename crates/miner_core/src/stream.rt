@@ -3,13 +3,13 @@ ghost use Rattle.std.specs.Prelude.{◌≡◌, [], map, true, None, Err, IfOk, I
 ghost use Rattle.outside.specs.Tapes.{TapesState};
 ghost use Rattle.proto_core.specs.Parties.{receiver_of};
 ghost use Rattle.proto_core.specs.Standing.{AtItsEnd};
-ghost use Rattle.code_turns.specs.Dealt.{drawn_by};
+ghost use Rattle.own_code.specs.Dealt.{drawn_by};
 ghost use Rattle.value_steps.specs.Views.{drawn_seen};
 ghost use Rattle.shared_gates.specs.Model.{miner_of};
 ghost use Rattle.miner_core.specs.Drawing.{left_for, Draws};
 ghost use Rattle.miner_core.specs.Story.{sent_to_next, sent_to_previous, has_shown, has_told, stands_at, ending_in, cost_in, drawn_in, IsAnswer};
 ghost use Rattle.miner_core.specs.Engines.{if_ended};
-ghost use Rattle.miner_core.specs.Streams.{settled, ForEachTape, IsMade, Answers};
+ghost use Rattle.miner_core.specs.Streams.{settled, ForEachTape, ForWordsDrawn, IsMade, Answers};
 ghost use Rattle.miner_core.specs.Views.{notice_seen};
 ghost use Rattle.miner_core.specs.declared.answer.StreamErr.TheVariants as error;
 
@@ -57,6 +57,7 @@ impl<P: Party> Drop for StreamMiner<P> {
 impl<P: Party> Model for StreamMiner<P> {
     ghost use Rattle.std.specs.Prelude.{◌≡◌, None};
     ghost use Rattle.miner_core.specs.Drawing.{IsAtRest};
+    ghost use Rattle.miner_core.specs.Past.{no_past};
     ghost use Rattle.miner_core.specs.Story.{story_of};
     ghost use Rattle.miner_core.specs.Streams.{StreamState};
 
@@ -64,7 +65,7 @@ impl<P: Party> Model for StreamMiner<P> {
 
     ghost view = { λ m. record { story = story_of m.engine m.budget; ahead = m.ahead; lost = m.lost } };
 
-    ghost invariant = { λ m. m.lost ≡ None → IsAtRest P.me m.engine m.rest m.budget m.ahead };
+    ghost invariant = { λ m. m.lost ≡ None → IsAtRest P.me no_past m.engine m.rest m.ahead (story_of m.engine m.budget) };
 }
 
 // How many of these words are this miner's.
@@ -79,7 +80,7 @@ fn drawn_of(drawn: Drawn, miner: Number) -> u64
 }
 
 // A number of a run that has ended; 0 while it has not.
-fn if_ended(ending: Option<Ending>, number: u64) -> u64
+pub(crate) fn if_ended(ending: Option<Ending>, number: u64) -> u64
     ensures { result ≡ if_ended ending number }
 {
     match ending {
@@ -155,7 +156,7 @@ impl<P: Party> StreamMiner<P> {
         if self.engine.is_ended(self.rest) {
             return Err(StreamErr::NotAwaited { link });
         }
-        match self.engine.deliver(link, message, tapes) {
+        match self.engine.deliver(link, message.words(), tapes) {
             Ok(rest) => {
                 self.rest = rest;
                 self.ahead = words_left::<P, T>(tapes);
@@ -196,9 +197,11 @@ impl<P: Party> StreamMiner<P> {
         )
     }
 
-    /// How many words of its tape the run has drawn; 0 while it has not ended.
+    /// How many words of its tape the run has drawn; 0 while it has not ended. A run that has ended needs no other words of its tape than those
+    /// that it has drawn.
     pub fn drawn(&self) -> u64
-        ensures { ForEachTape self.now (λ s. result ≡ drawn_in P.me s) }
+        ensures tapes { ForEachTape self.now (λ s. result ≡ drawn_in P.me s) }
+        ensures alone { ForWordsDrawn self.now (λ s. result ≡ drawn_in P.me s) }
     {
         if_ended(
             self.engine.ending(self.rest),

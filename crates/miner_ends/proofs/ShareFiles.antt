@@ -22,10 +22,11 @@ use Rattle.gate_laws.proofs.Ranges.{Below, below_cons, below_none, length_replic
 use Rattle.input_share.specs.declared.entry.Part.{Part}
 use Rattle.input_share.specs.declared.entry.Part.TheVariants.{Public, Private}
 use Rattle.input_share.specs.declared.entry.ShareEntry.{ShareEntry}
-use Rattle.input_share.specs.OfWords.{IsShownOfWords}
+use Rattle.input_share.specs.OfWords.{AreSharesRead, IsPartOfWords}
 use Rattle.input_share.specs.Reading.{IsWhole, IsWholePart, part_count, share_count_of, share_name_of}
 use Rattle.input_share.specs.ShareFile.{MinerFile}
 use Rattle.input_share.specs.Shapes.{known_of, shapes_of}
+use Rattle.input_share.proofs.SharesOfWords.{share_read_of_words}
 use Rattle.clear_eval.specs.Offers.{is_array, part_given, public_given, type_given}
 use Rattle.view_model.specs.Dealing.{private_then, private_shares}
 use Rattle.miner_core.specs.Story.{Story}
@@ -57,7 +58,7 @@ no_array (Array count) e = absurd cc
 
 -- ---- entries
 
-known_part : (name : List ℕ) (part : Part) → part_count part ≤ 65536 → IsShownOfWords (known_of part) → IsKnown (public_given name (known_of part))
+known_part : (name : List ℕ) (part : Part) → part_count part ≤ 65536 → IsPartOfWords part → IsKnown (public_given name (known_of part))
 known_part name (Public (OneNumber n)) short words =
     record { range = words_below (n ∷ []) words; small = omega arith; single = λ e. refl; hidden = λ e k. absurd cc }
 known_part name (Public (Truth b)) short words =
@@ -81,7 +82,7 @@ known_part name (Private shared) short words =
       hidden = λ e k. zeros (size_of shared.shape) k;
     }
 
-known_from : (before es : List ShareEntry) → AreEntries share_name_of share_count_of before es → All (λ (e : ShareEntry). IsShownOfWords (known_of e.part)) es
+known_from : (before es : List ShareEntry) → AreEntries share_name_of share_count_of before es → All (λ (e : ShareEntry). IsPartOfWords e.part) es
     → AreKnown (map part_given (shapes_of es))
 known_from before [] form words = tt
 known_from before (e ∷ es) form words = (
@@ -103,6 +104,9 @@ sizes_from (e ∷ es) whole = by e.part (whole 0 e (omega arith)) (sizes_from es
 -- ---- the file
 
 module _ (share : MinerFile) (s : Story) (of : IsOfShareFile share s) where
+  are : AreSharesRead share.entries
+  are = share_read_of_words (count_of share.miner) of.bytes share of.read
+
   own_length : (j : Number) → drawn_by s.world.lengths (miner_of j) ≡ get_or share.lens (count_of j) 0
   own_length One = ap (λ (w : World). w.lengths.first) of.world
   own_length Two = ap (λ (w : World). w.lengths.second) of.world
@@ -116,9 +120,9 @@ module _ (share : MinerFile) (s : Story) (of : IsOfShareFile share s) where
         verified = of.verified;
         literals = of.literals;
         told = ap (λ (w : World). w.source) of.world;
-        known = subst (λ (w : World). AreKnown w.inputs) (sym of.world) (known_from [] share.entries of.form.form of.words);
+        known = subst (λ (w : World). AreKnown w.inputs) (sym of.world) (known_from [] share.entries are.form.form are.words);
         shares =
-            ap sizes_of of.dealt ∙ sizes_from share.entries of.form.whole ∙ sym (ap (λ (w : World). private_sizes w.inputs) of.world);
+            ap sizes_of of.dealt ∙ sizes_from share.entries are.form.whole ∙ sym (ap (λ (w : World). private_sizes w.inputs) of.world);
         tape = of.tape ∙ sym (own_length share.miner);
       }
 

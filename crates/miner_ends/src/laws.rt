@@ -14,9 +14,9 @@ pub fn miners_end_as_evaluation_can()
     ensures answers { (i : Number) (s : Story) → AnswersNoOtherEnd i s }
 {}
 
-/// Law: a miner that was given verified code, the public part and the shares of its share file, which is of good form and of words of 64 bits,
-/// a tape of the length that the file says of it, and any budget, ends as the code's evaluation can, whatever messages came to it. It never
-/// answers that a gate was unfit, that words were wanting, or that no steps were left.
+/// Law: a miner that was given verified code, the public part and the shares of its share file as they are read, a tape of the length that the
+/// file says of it, and any budget, ends as the code's evaluation can, whatever messages came to it. It never answers that a gate was unfit,
+/// that words were wanting, or that no steps were left.
 pub fn miners_of_share_files_end_as_evaluation_can()
     ensures ends { (share : MinerFile) (s : Story) → SharesEndWhereTheyCan share s }
     ensures answers { (share : MinerFile) (s : Story) → SharesAnswerNoOtherEnd share s }

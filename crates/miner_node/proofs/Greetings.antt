@@ -9,7 +9,7 @@ use Rattle.proto_core.specs.Parties.{count_of, next_of, previous_of}
 use Rattle.proto_core.specs.Strand.{Strand, Begins}
 use Rattle.proto_core.proofs.Beginnings.{begins-self, begins-append, begins-trans}
 use Rattle.served_bytes.specs.Front.{Front, Whole, Malformed, Truncated}
-use Rattle.own_code.specs.OwnCode.{Ended}
+use Rattle.miner_core.specs.OwnCode.{Ended}
 use Rattle.wire.specs.declared.bad_frame.BadFrame.{BadFrame}
 use Rattle.wire.specs.declared.fields.Hello.{Hello}
 use Rattle.wire.specs.declared.fields.Field.{Field}

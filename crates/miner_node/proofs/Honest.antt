@@ -14,7 +14,7 @@ use Rattle.served_bytes.specs.Front.{Front}
 use Rattle.served_bytes.specs.Served.{Stop, AtEnd, AtRefusal, AtMalformed, OutOfBytes, Served, served, Spells}
 use Rattle.served_bytes.specs.Laws.{StopIs}
 use Rattle.served_bytes.proofs.Messages.{serves_its_messages, ends_on_honest_bytes}
-use Rattle.own_code.specs.OwnCode.{Ended}
+use Rattle.miner_core.specs.OwnCode.{Ended}
 use Rattle.wire.specs.declared.fields.Hello.{Hello}
 use Rattle.wire.specs.Frames.{framed}
 use Rattle.wire.specs.Hellos.{HasDigests, hello_bytes, greeted, first_difference}

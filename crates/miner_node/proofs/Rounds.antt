@@ -10,7 +10,7 @@ use Rattle.proto_core.specs.Strand.{Strand, Ends, Acts, Waits}
 use Rattle.proto_core.specs.Standing.{AtItsEnd, Awaits, Refuses, standing_with}
 use Rattle.proto_core.proofs.Beginnings.{begins-under}
 use Rattle.sc_text.specs.declared.end.Ending.{Ending}
-use Rattle.own_code.specs.OwnCode.{Ended}
+use Rattle.miner_core.specs.OwnCode.{Ended}
 use Rattle.miner_core.specs.declared.answer.End.{End}
 use Rattle.miner_core.specs.declared.answer.End.TheVariants as end
 use Rattle.miner_core.specs.declared.answer.Step.{Step}

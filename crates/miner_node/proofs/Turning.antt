@@ -20,7 +20,7 @@ use Rattle.served_bytes.specs.Served.{Coming, Stop, AtEnd, AtRefusal, AtMalforme
 use Rattle.served_bytes.specs.Reading.{only, HasRead, StopsWith, OnMessage, OnFrame}
 use Rattle.served_bytes.proofs.Frames.{reads_frame_by_frame}
 use Rattle.sc_text.specs.declared.end.Ending.{Ending}
-use Rattle.own_code.specs.OwnCode.{Ended}
+use Rattle.miner_core.specs.OwnCode.{Ended}
 use Rattle.miner_core.specs.declared.answer.End.{End}
 use Rattle.miner_core.specs.declared.answer.End.TheVariants as end
 use Rattle.miner_core.specs.Story.{Story, received, mail_in, strand_in, node, sent_to_next, sent_to_previous, stands_at, HasEnded}

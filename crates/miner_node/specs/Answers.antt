@@ -5,7 +5,7 @@ use Rattle.proto_core.specs.declared.party.Number.{Number}
 use Rattle.proto_core.specs.Parties.{next_of, previous_of}
 use Rattle.proto_core.specs.Strand.{Strand}
 use Rattle.served_bytes.specs.Front.{Whole, Malformed, Truncated}
-use Rattle.own_code.specs.OwnCode.{Ended}
+use Rattle.miner_core.specs.OwnCode.{Ended}
 use Rattle.wire.specs.declared.fields.Hello.{Hello}
 use Rattle.wire.specs.Frames.{framed}
 use Rattle.wire.specs.Hellos.{hello_bytes}

@@ -7,7 +7,7 @@ use Rattle.proto_core.specs.Net.{into}
 use Rattle.proto_core.specs.Strand.{Mail, Strand, Ends, Ran, run}
 use Rattle.proto_core.specs.Standing.{Awaits, Refuses, standing_of}
 use Rattle.served_bytes.specs.Served.{Spells}
-use Rattle.own_code.specs.OwnCode.{Ended}
+use Rattle.miner_core.specs.OwnCode.{Ended}
 use Rattle.wire.specs.declared.fields.Hello.{Hello}
 use Rattle.wire.specs.Frames.{framed}
 use Rattle.wire.specs.Hellos.{HasDigests, hello_bytes}

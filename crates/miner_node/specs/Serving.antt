@@ -8,7 +8,7 @@ use Rattle.proto_core.specs.Parties.{count_of, next_of, previous_of, to_next, to
 use Rattle.proto_core.specs.Strand.{Act, Strand, on_link}
 use Rattle.served_bytes.specs.Front.{Front, Whole, Malformed, Truncated}
 use Rattle.served_bytes.specs.Served.{Stop, AtEnd, AtRefusal, AtMalformed, OutOfBytes, served}
-use Rattle.own_code.specs.OwnCode.{Ended}
+use Rattle.miner_core.specs.OwnCode.{Ended}
 use Rattle.wire.specs.declared.fields.Hello.{Hello}
 use Rattle.wire.specs.declared.fields.Field.{Field}
 use Rattle.wire.specs.Frames.{frame_bytes, framed}

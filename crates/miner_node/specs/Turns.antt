@@ -10,7 +10,7 @@ use Rattle.proto_core.specs.Standing.{Refuses}
 use Rattle.served_bytes.specs.Front.{Malformed, Truncated}
 use Rattle.served_bytes.specs.Reading.{HasRead}
 use Rattle.sc_text.specs.declared.end.Ending.{Ending}
-use Rattle.own_code.specs.OwnCode.{Ended}
+use Rattle.miner_core.specs.OwnCode.{Ended}
 use Rattle.miner_core.specs.declared.answer.End.TheVariants as end
 use Rattle.miner_core.specs.Story.{Story, received, mail_in, strand_in, node, sent_to_next, sent_to_previous, stands_at, HasEnded}
 use Rattle.wire.specs.Frames.{framed}

@@ -2,7 +2,7 @@
 ghost use Rattle.std.specs.Prelude.{ℕ, List};
 ghost use Rattle.proto_core.specs.declared.party.Number.{Number};
 ghost use Rattle.proto_core.specs.Strand.{Mail, Strand};
-ghost use Rattle.own_code.specs.OwnCode.{Ended};
+ghost use Rattle.miner_core.specs.OwnCode.{Ended};
 ghost use Rattle.wire.specs.declared.fields.Hello.{Hello};
 ghost use Rattle.miner_node.specs.Laws.{DoesAsItsMiner, EndsWithHonestPeers};
 

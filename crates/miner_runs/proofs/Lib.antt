@@ -4,3 +4,4 @@ pub mod Turns
 pub mod OwnRuns
 pub mod Stories
 pub mod Programs
+pub use Rattle.program_run.proofs.Shared

@@ -10,3 +10,7 @@ pub use Rattle.code_runs.specs.Telling
 pub use Rattle.code_runs.specs.Runs
 pub use Rattle.code_places.specs.Places
 pub use Rattle.program_run.specs.RawCodes
+pub use Rattle.program_run.specs.Codes
+pub use Rattle.program_run.specs.Inputs
+pub use Rattle.program_run.specs.Offers
+pub use Rattle.program_run.specs.Reports

@@ -1,34 +1,16 @@
 -- Products of shares in any ring.
-use Rattle.std.proofs.Common.{◌≡◌, ℕ, ◌+◌, ◌*◌, List, ◌++◌, length, sym, ◌∙◌, ap, arith}
+use Rattle.std.proofs.Common.{◌≡◌, ℕ, ◌+◌, List, ◌++◌, sym, ◌∙◌, ap, arith}
 use Rattle.share_ring.specs.Ring.{Ring, RingLaws}
 use Rattle.share_ring.proofs.Sums.{products_of_three}
 use Rattle.proto_core.specs.Lists.{at, each, part}
 use Rattle.proto_core.specs.Elementwise.{plus, minus}
 use Rattle.proto_core.specs.Resharing.{reshared, sum_of_three}
-use Rattle.proto_core.proofs.Each.{length-each, at-each, each-ext}
+use Rattle.proto_core.proofs.Each.{at-each, each-ext}
 use Rattle.proto_core.proofs.Parts.{at-part, two_first, two_second}
 use Rattle.proto_core.proofs.ElementwiseLaws.{minus-plus, plus-minus}
 use Rattle.proto_core.proofs.ResharingLaws.{length-reshared}
 use Rattle.multiply.specs.Products.{times, cross}
 use Rattle.multiply.specs.MulStrand.{product}
-
-module _ (r : Ring) where
-  pub length-cross : (n : ℕ) (u v up vp : List ℕ) → length (cross r n u v up vp) ≡ n
-  unfolding cross
-  length-cross n u v up vp = length-each n _
-
-  -- words of a field, read where they stand
-  pub plus-field : (n j from : ℕ) (x words : List ℕ) → from ≡ j * n → each n (λ k. r.add (at x k) (at words (from + k))) ≡ plus r n x (part n j words)
-  unfolding plus
-  plus-field n j from x words e =
-      ap (λ f. each n (λ k. r.add (at x k) (at words (f + k)))) e
-      ∙ each-ext n _ _ (λ k h. ap (r.add (at x k)) (sym (at-part n j words k h)))
-
-  pub minus-field : (n j from : ℕ) (x words : List ℕ) → from ≡ j * n → each n (λ k. r.sub (at x k) (at words (from + k))) ≡ minus r n x (part n j words)
-  unfolding minus
-  minus-field n j from x words e =
-      ap (λ f. each n (λ k. r.sub (at x k) (at words (f + k)))) e
-      ∙ each-ext n _ _ (λ k h. ap (r.sub (at x k)) (sym (at-part n j words k h)))
 
 module _ {r : Ring} (laws : RingLaws r) where
   -- a miner's products, by the factors as they were masked

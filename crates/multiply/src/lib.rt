@@ -1,8 +1,8 @@
 //! The protocol that multiplies shared values in any ring, as steps that each take the next message.
 #![tactic(auto)]
 
-mod arithmetic;
 mod gate;
+mod held_words;
 mod kernels;
 mod multiply;
 mod together;

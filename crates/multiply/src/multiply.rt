@@ -2,9 +2,9 @@ ghost use Rattle.std.specs.Prelude.{◌≡◌, ◌*◌, ◌≤◌, ◌↔◌, �
 ghost use Rattle.proto_core.specs.Refusals.{WrongLength};
 ghost use Rattle.multiply.specs.Steps.{Starts, Crosses, Multiplied};
 
-use crate::arithmetic::{add_field, add_products, take_field};
+use crate::held_words::HeldWords;
+use lane_kernel::LaneRing;
 use proto_core::{Block, Msg, Party, Refused};
-use share_ring::ShareRing;
 use std::marker::{Model, PhantomData};
 
 /// The previous miner's masks are awaited.
@@ -23,10 +23,10 @@ pub struct Crossed;
 /// are masked anew, and each party adds three of the nine products of their shares.
 #[derive(Drop)]
 pub struct Mul<R, P, S> {
-    u: Block<R, P>,
-    v: Block<R, P>,
-    mask: Block<R, P>,
-    of: PhantomData<S>,
+    u: HeldWords,
+    v: HeldWords,
+    mask: HeldWords,
+    of: PhantomData<(R, P, S)>,
 }
 
 impl<R, P, S> Model for Mul<R, P, S> {
@@ -50,7 +50,7 @@ impl<R, P, S> Mul<R, P, S> {
 }
 
 // The steps are kept out of their callers: a caller that has them inside zeroes and copies each block once more.
-impl<R: ShareRing, P: Party> Mul<R, P, Masked> {
+impl<R: LaneRing, P: Party> Mul<R, P, Masked> {
     /// Begins to multiply the blocks `u` and `v` with drawn words: for n elements n that mask `u`, n that mask `v`, n
     /// that mask the product. The message, these words, is for the next miner.
     #[tactic(auto, using(proto_core::proofs::Parts::part_steps))]
@@ -61,16 +61,15 @@ impl<R: ShareRing, P: Party> Mul<R, P, Masked> {
         ensures { Starts R.ring u.now v.now words.now result.0 result.1 }
     {
         let n = u.len();
-        let to_next = Msg::from_words(words);
         let mut miner = Mul {
-            u: u.copy(),
-            v: v.copy(),
-            mask: to_next.field(2, n),
+            u: HeldWords::from_words(u.words()),
+            v: HeldWords::from_words(v.words()),
+            mask: HeldWords::from_field(words, 2, n),
             of: PhantomData,
         };
-        add_field(&mut miner.u, words, 0);
-        add_field(&mut miner.v, words, 1);
-        (miner, to_next)
+        miner.u.add_field::<R>(words, 0);
+        miner.v.add_field::<R>(words, 1);
+        (miner, Msg::from_words(words))
     }
 
     /// Takes the previous miner's 3n masks. The message, both masked factors, is for the next miner. A message of a
@@ -86,11 +85,11 @@ impl<R: ShareRing, P: Party> Mul<R, P, Masked> {
             return Err(Refused::wrong_length(self, 3 * n, msg.len()));
         }
         let words = msg.words();
-        take_field(&mut self.u, words, 0);
-        take_field(&mut self.v, words, 1);
-        take_field(&mut self.mask, words, 2);
-        let mut to_next = Msg::from_block(&self.u);
-        to_next.append_block(&self.v);
+        self.u.take_field::<R>(words, 0);
+        self.v.take_field::<R>(words, 1);
+        self.mask.take_field::<R>(words, 2);
+        let mut to_next = Msg::from_words(self.u.words());
+        to_next.append_words(self.v.words());
         Ok((
             Mul {
                 u: self.u,
@@ -103,7 +102,7 @@ impl<R: ShareRing, P: Party> Mul<R, P, Masked> {
     }
 }
 
-impl<R: ShareRing, P: Party> Mul<R, P, Crossed> {
+impl<R: LaneRing, P: Party> Mul<R, P, Crossed> {
     /// Takes the previous miner's two masked factors, and answers the party's share of the product. A message of a
     /// wrong length is refused.
     #[inline(never)]
@@ -116,7 +115,7 @@ impl<R: ShareRing, P: Party> Mul<R, P, Crossed> {
         if msg.len() != 2 * n {
             return Err(Refused::wrong_length(self, 2 * n, msg.len()));
         }
-        add_products(&mut self.mask, &self.u, &self.v, msg.words());
-        Ok(self.mask)
+        self.mask.add_products::<R>(&self.u, &self.v, msg.words());
+        Ok(Block::from_words(self.mask.words()))
     }
 }

@@ -6,8 +6,8 @@ ghost use Rattle.proto_core.specs.Joints.{joint_of_two};
 ghost use Rattle.multiply.specs.Parts.{IsPart};
 
 use crate::multiply::Mul;
+use lane_kernel::LaneRing;
 use proto_core::{Block, Msg, P1, P2, P3};
-use share_ring::ShareRing;
 
 /// What one miner begins with: its shares of both factors, and for n elements 3n drawn words.
 #[derive(Drop)]
@@ -28,7 +28,7 @@ pub struct Part<R, P> {
 /// The three miners multiply two blocks of n elements. It can't fail.
 ///
 /// Each sends what the protocol says, and the three shares add up to the product, element by element.
-pub fn multiply_together<R: ShareRing>(
+pub fn multiply_together<R: LaneRing>(
     first: Operands<R, P1>,
     second: Operands<R, P2>,
     third: Operands<R, P3>,

@@ -9,9 +9,9 @@ use Rattle.secrec_ast.specs.declared.expression.DataType.TheVariants.{Uint64}
 use Rattle.secrec_ast.specs.declared.expression.DataType.TheVariants as datatype
 use Rattle.gates.specs.declared.gate.Gate.TheVariants.{Const, Add, Sub, MulPub, Mul, Xor, And, Cat, Part, Put, Rep, Spread, Sum, Conv, Input, Open, Result}
 use Rattle.gates.specs.Clear.{bits_of, first_word}
-use Rattle.equality.specs.Plan.{eq_plan}
-use Rattle.bit_extract.specs.Plan.{bits_plan}
-use Rattle.compare.specs.Plan.{less_plan}
+use Rattle.plans.specs.Equality.{eq_plan}
+use Rattle.plans.specs.BitExtract.{bits_plan}
+use Rattle.plans.specs.Compare.{less_plan}
 use Rattle.typed_tree.specs.declared.kinds.Shape.{Shape}
 use Rattle.typed_tree.specs.declared.operators.WordOperator.{WordOperator}
 use Rattle.typed_tree.specs.declared.operators.WordOperator.TheVariants as word

@@ -1,11 +1,11 @@
 -- The plans take the values that they are given, and such as they make.
 use Rattle.std.proofs.Common.{ℕ, ◌+◌, ◌*◌, ◌≤◌, List, [], ◌∷◌, ◌++◌, arith}
 use Rattle.gates.specs.Counts.{made_by_all}
-use Rattle.equality.specs.Plan.{joining, shifts, eq_plan}
-use Rattle.bit_extract.specs.Plan.{carry_step, carrying, bits_plan}
-use Rattle.bit_extract.specs.Plan as bits
-use Rattle.compare.specs.Plan.{order_start, order_step, comparing, less_plan}
-use Rattle.compare.specs.Plan as compare
+use Rattle.plans.specs.Equality.{joining, shifts, eq_plan}
+use Rattle.plans.specs.BitExtract.{carry_step, carrying, bits_plan}
+use Rattle.plans.specs.BitExtract as bits
+use Rattle.plans.specs.Compare.{order_start, order_step, comparing, less_plan}
+use Rattle.plans.specs.Compare as compare
 use Rattle.named_values.specs.Named.{Numbers, AllTake}
 use Rattle.named_values.proofs.Effects.{HasFrom, all_take}
 

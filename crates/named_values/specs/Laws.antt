@@ -2,18 +2,15 @@
 use Rattle.std.specs.Prelude.{◌≡◌, ◌+◌, ◌≤◌, ℕ, List, ◌++◌, Option, Some, None, Ok, Err}
 use Rattle.std.specs.List.{slice_get}
 use Rattle.gates.specs.declared.gate.Gate.{Gate}
-use Rattle.gates.specs.Clear.{Values, value, FitFrom}
+use Rattle.gates.specs.Clear.{Values, FitFrom}
 use Rattle.gates.specs.Counts.{made_by_all}
+pub use Rattle.gates.specs.Taken.{HaveSame}
 use Rattle.language_model.specs.Effects.{World, Stage, RunStop, Run}
 use Rattle.verified_code.specs.Steps.{Function}
 use Rattle.code_model.specs.Machine.{Machine, step, exec}
 use Rattle.named_values.specs.Named.{Numbers, or_from, AllTake, MachineNames, AreAmong}
 
 -- ---- WHAT GATES TAKE
-
--- both lists have the same value of this number
-abbrev pub HaveSame : Values → Values → Numbers
-HaveSame xs ys k = value xs k ≡ value ys k
 
 -- where two lists of values have the same of all numbers that gates take, and stand alike from the gates' own on, both fit the gates if one does
 abbrev pub FitByWhatTheyTake : (inputs xs ys : Values) → ℕ → List Gate → Type 0

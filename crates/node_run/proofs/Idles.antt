@@ -9,7 +9,7 @@ use Rattle.served_bytes.specs.Front.{Front, Whole, Malformed, Truncated}
 use Rattle.verified_code.specs.Settled.{settled}
 use Rattle.view_model.specs.Dealing.{private_shares}
 use Rattle.own_code.specs.OwnCode.{Ended}
-use Rattle.idle_code.proofs.Idling.{idles_at_once}
+use Rattle.made_miner.proofs.Idling.{idles_at_once}
 use Rattle.miner_core.specs.Story.{Story, strand_in}
 use Rattle.wire.specs.declared.fields.Hello.{Hello}
 use Rattle.wire.specs.declared.fields.Field.{Field}

@@ -13,7 +13,7 @@ use Rattle.driven_nodes.specs.Steps.{Running, Stopped, Short}
 use Rattle.gate_node.specs.Nodes.{IsTapeOf}
 use Rattle.own_code.specs.OwnCode.{Ended, Reached, Unfit}
 use Rattle.miner_text.specs.Lines.{text_of}
-use Rattle.told_text.specs.Told.{lines_told}
+use Rattle.node_run.specs.Told.{lines_told}
 use Rattle.wire.specs.declared.fields.Hello.{Hello}
 use Rattle.miner_core.specs.declared.answer.Lost.{Lost}
 use Rattle.miner_core.specs.declared.answer.Lost.TheVariants as lost

@@ -3,6 +3,7 @@
 
 mod joining;
 mod running;
+mod telling;
 mod text;
 
 pub use running::{NodeText, OwnPart, run_node};

@@ -4,11 +4,11 @@ ghost use Rattle.miner_core.specs.Story.{cost_in, node};
 ghost use Rattle.miner_core.specs.Streams.{ForEachTape};
 ghost use Rattle.node_run.specs.Nodes.{node_text};
 
+use crate::telling::told_text;
 use miner_core::StreamMiner;
 use proto_core::Party;
 use sc_text::{End, Ending};
 use std::alloc::{AllocError, Global};
-use told_text::told_text;
 
 /// How the run has ended: before it began, or as the miner's run.
 pub(crate) fn end_of<P: Party>(

@@ -13,4 +13,11 @@ abbrev pub plan_in : MemSink → FaultPlan
 plan_in m = m.plan
 
 abbrev pub sink_state : MemSink → SinkState
-sink_state m = record { told = true; written = bytes_in m; faults = m.plan.faults; shortages = m.shortages; steady = is_steady m.plan }
+sink_state m = record {
+  told = true;
+  written = bytes_in m;
+  lost = m.lost.items;
+  faults = m.plan.faults;
+  shortages = m.shortages;
+  steady = is_steady m.plan;
+}

@@ -24,7 +24,7 @@ use Rattle.named_values.proofs.Effects.{HasFrom}
 use Rattle.named_values.proofs.Steps.{step_within}
 use Rattle.own_code.specs.OwnCode.{Ended, From, go_on, tell_and_go_on, gates_between, led_by, behind_gates, own_code}
 use Rattle.own_code.specs.LettingGo.{HasBehind, with_before, forget, without_values, IsHeld}
-use Rattle.own_code.proofs.Holding.{same_words, as_many_behind, same_behind}
+use Rattle.gate_node.proofs.Holding.{same_words, as_many_behind, same_behind}
 use Rattle.own_code.proofs.OwnGates.{gates_need}
 use Rattle.own_code.proofs.Made.{gates_count}
 use Rattle.own_code.proofs.Told.{same_when_told}

@@ -20,8 +20,7 @@ use Rattle.joint_run.specs.Exchanges.{protocol_of}
 use Rattle.gate_node.specs.OwnGates.{Halted, Whole, Stuck, own_draws, can_run, own_gates}
 use Rattle.gate_node.proofs.Always.{EndsAlways, HaveSizes, always-then, gate-sized}
 use Rattle.own_code.specs.LettingGo.{HasBehind, MakeWhatTheyCount}
-use Rattle.own_code.proofs.OneGate.{makes}
-use Rattle.own_code.proofs.OwnGates.{first_then, made_by_gate, gate_first}
+use Rattle.gate_node.proofs.OneGate.{makes, first_then, made_by_gate, gate_first}
 
 always_so : {A : Type 0} (P Q : A → Type 0) → ((a : A) → P a → Q a) → (s : Strand A) → EndsAlways P s → EndsAlways Q s
 always_so P Q so (Ends a) h = so a h

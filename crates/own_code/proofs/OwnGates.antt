@@ -1,40 +1,20 @@
 -- Gates are run alike on two lists of values that have the same of those that they take.
-use Rattle.std.proofs.Common.{◌≡◌, ℕ, Bool, true, false, if◌then◌else◌, List, [], ◌∷◌, ◌++◌, length, drop, refl, sym, ◌∙◌, ap}
+use Rattle.std.proofs.Common.{◌≡◌, ℕ, Bool, true, false, List, [], ◌∷◌, ◌++◌, length, drop, refl, sym, ◌∙◌, ap}
 use Rattle.std.proofs.Common.{append_assoc, append-nil}
 use Rattle.std.proofs.lemmas.List.{drop_at}
 use Rattle.proto_core.specs.declared.party.Number.{Number}
 use Rattle.proto_core.specs.Strand.{Strand, Ends, then_do}
 use Rattle.gates.specs.declared.gate.Gate.{Gate}
 use Rattle.gates.specs.Clear.{Values}
-use Rattle.gate_node.specs.OwnGates.{Halted, Whole, Stuck, own_gate, own_draws, can_run, own_gates}
+use Rattle.gate_node.specs.OwnGates.{Halted, Whole, own_draws, can_run, own_gates}
 use Rattle.gate_node.proofs.Always.{then-all, then-assoc}
+use Rattle.gate_node.proofs.Holding.{all_among, as_many_behind, same_behind}
+use Rattle.gate_node.proofs.OneGate.{first_then, made_by_gate, gate_first, same_draws, same_can, same_made}
 use Rattle.named_values.specs.Named.{Numbers, or_from, operands, Takes, AllTake}
 use Rattle.named_values.specs.Laws.{HaveSame}
 use Rattle.own_code.specs.LettingGo.{with_before}
-use Rattle.own_code.proofs.Holding.{all_among, as_many_behind, same_behind}
-use Rattle.own_code.proofs.OneGate.{makes, made_behind, same_draws, same_can, same_made}
-
--- a gate, if it can be run, and then others with what it makes
-abbrev pub first_then : (b : Bool) → (first : Strand Values) → (Values → Strand Halted) → Strand Halted
-first_then b first behind = if b then then_do first behind else Ends Stuck
 
 module _ (i : Number) (dealt : Values) where
-  abbrev pub made_by_gate : Gate → (values : Values) → (tape : List ℕ) → Strand Values
-  made_by_gate gate values tape = makes i (own_gate i dealt values gate) values tape
-
-  pub gate_first :
-      (gate : Gate) (gates : List Gate) (values : Values) (tape : List ℕ) →
-      own_gates i dealt (gate ∷ gates) values tape
-      ≡ first_then (can_run i dealt values tape gate) (made_by_gate gate values tape)
-      (λ made. own_gates i dealt gates (values ++ made) (drop (own_draws i dealt values gate) tape))
-  gate_first gate gates values tape =
-      ap (λ s. if can_run i dealt values tape gate then s else Ends Stuck)
-      (ap (λ s. then_do s on) (made_behind i (own_gate i dealt values gate) values tape)
-      ∙ then-assoc (made_by_gate gate values tape) (λ made. Ends (values ++ made)) on)
-    where
-      on : Values → Strand Halted
-      on all = own_gates i dealt gates all (drop (own_draws i dealt values gate) tape)
-
   module _ (values held : Values) (as_many : length held ≡ length values) where
     abbrev Taken : Numbers
     Taken = or_from (HaveSame values held) (length values)
@@ -70,11 +50,11 @@ module _ (i : Number) (dealt : Values) where
         let can = same_can i dealt (values ++ made) (held ++ made) more tape gate take in
         let first = same_made i dealt (values ++ made) (held ++ made) more tape gate take in
         let draws = same_draws i dealt (values ++ made) (held ++ made) more gate take in
-        gate_first gate gates (values ++ made) tape
+        gate_first i dealt gate gates (values ++ made) tape
         ∙ (λ d. first_then (can d) (first d) (λ more. own_gates i dealt gates ((values ++ made) ++ more) (drop (draws d) tape)))
         ∙ by_test gates (run_alike gates) h.1 made (drop (own_draws i dealt (held ++ made) gate) tape)
-        (can_run i dealt (held ++ made) tape gate) (made_by_gate gate (held ++ made) tape)
-        ∙ ap (λ s. then_do s whole) (sym (gate_first gate gates (held ++ made) tape))
+        (can_run i dealt (held ++ made) tape gate) (made_by_gate i dealt gate (held ++ made) tape)
+        ∙ ap (λ s. then_do s whole) (sym (gate_first i dealt gate gates (held ++ made) tape))
 
     pub gates_need : (gates : List Gate) (tape : List ℕ) → AllTake Taken gates
         → own_gates i dealt gates values tape ≡ then_do (own_gates i dealt gates held tape) whole

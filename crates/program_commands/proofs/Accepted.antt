@@ -4,8 +4,8 @@ use Rattle.outside.specs.Files.{Contents}
 use Rattle.typed_tree.specs.Programs.{TypedProgramTree}
 use Rattle.well_typed.specs.Sources.{IsWellWritten}
 use Rattle.well_written.proofs.Grammar.{well_written}
-use Rattle.placed_text.proofs.Spelled.{placed_where_spelled}
-use Rattle.placed_text.proofs.Verified.{accepted_runs}
+use Rattle.program_commands.proofs.Spelled.{placed_where_spelled}
+use Rattle.program_run.proofs.Verified.{accepted_runs}
 use Rattle.reached_instances.specs.Instances.{Instance}
 use Rattle.reached_instances.specs.Reached.{IsReachedList}
 use Rattle.program_run.specs.Accepted.{IsAccepted}

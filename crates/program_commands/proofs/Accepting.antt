@@ -6,7 +6,7 @@ use Rattle.command_frame.specs.Answer.{Answer, Cause, missing}
 use Rattle.command_frame.specs.Status.{can_refuse}
 use Rattle.secrec_ast.specs.Programs.{ProgramTree}
 use Rattle.typed_tree.specs.Programs.{TypedProgramTree}
-use Rattle.program_limits.specs.declared.limit_err.LimitErr.{LimitErr}
+use Rattle.reached_instances.specs.declared.limit_err.LimitErr.{LimitErr}
 use Rattle.program_commands.specs.Judging.{Sized, IsSized, Finding, FoundAt, its_program}
 use Rattle.program_commands.specs.Programs.{program_at, small_enough, too_large, tree_at}
 use Rattle.program_commands.specs.Held.{HoldsProgram, HoldsBadProgram, HoldsTyped, HoldsLarge, ProgramRefused, bad_text, too_large as size_refused}

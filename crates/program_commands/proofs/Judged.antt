@@ -13,7 +13,7 @@ use Rattle.command_frame.specs.declared.stop.Stop.TheVariants as stops
 use Rattle.command_frame.specs.Answer.{Cause, bytes_at, missing}
 use Rattle.command_frame.specs.Reads.{Stops}
 use Rattle.command_frame.specs.Stops.{IsRefusalFor}
-use Rattle.program_limits.specs.declared.limit_err.LimitErr.TheVariants.{Memory}
+use Rattle.reached_instances.specs.declared.limit_err.LimitErr.TheVariants.{Memory}
 use Rattle.program_commands.specs.Judging.{JudgedAt, Sized, HasFinding, nothing}
 
 -- the bytes that were read are those of the file

@@ -1,3 +1,5 @@
+pub mod Lexed
+pub mod Spelled
 pub mod Accepted
 pub mod Accepting
 pub mod Codes

@@ -6,9 +6,9 @@ use Rattle.outside.specs.Files.{Contents, FilesState, file_at}
 use Rattle.secrec_ast.specs.Programs.{ProgramTree}
 use Rattle.typed_tree.specs.Programs.{TypedProgramTree}
 use Rattle.name_resolution.specs.Functions.{typed_of}
-use Rattle.program_limits.specs.declared.limit_err.LimitErr.{LimitErr}
-use Rattle.program_limits.specs.declared.limit_err.LimitErr.TheVariants.{TooManyInstances, ProgramTooLarge, FunctionTooLarge, Memory}
-use Rattle.program_limits.specs.Answer.{IsAnswer}
+use Rattle.reached_instances.specs.declared.limit_err.LimitErr.{LimitErr}
+use Rattle.reached_instances.specs.declared.limit_err.LimitErr.TheVariants.{TooManyInstances, ProgramTooLarge, FunctionTooLarge, Memory}
+use Rattle.reached_instances.specs.LimitAnswer.{IsAnswer}
 use Rattle.front_end.specs.Judgement.{Judged, IsJudged}
 use Rattle.command_frame.specs.declared.object.Object.TheVariants as objects
 use Rattle.command_frame.specs.declared.stop.Stop.{Stop}

@@ -4,9 +4,9 @@ use Rattle.outside.specs.Files.{Contents}
 use Rattle.secrec_ast.specs.Programs.{ProgramTree}
 use Rattle.typed_tree.specs.Programs.{TypedProgramTree}
 use Rattle.name_resolution.specs.Functions.{typed_of}
-use Rattle.program_limits.specs.declared.limit_err.LimitErr.{LimitErr}
-use Rattle.program_limits.specs.Answer.{IsJust}
-use Rattle.program_limits.specs.Limits.{IsVerdict}
+use Rattle.reached_instances.specs.declared.limit_err.LimitErr.{LimitErr}
+use Rattle.reached_instances.specs.LimitAnswer.{IsJust}
+use Rattle.reached_instances.specs.Limits.{IsVerdict}
 use Rattle.front_end.specs.Judgement.{Judged}
 use Rattle.command_frame.specs.Answer.{Cause, ◌>>=◌, bytes_at}
 use Rattle.reached_instances.specs.Instances.{Instance}

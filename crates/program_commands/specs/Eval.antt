@@ -25,7 +25,7 @@ use Rattle.program_commands.specs.Reading.{inputs_at}
 abbrev pub longest : List ℕ
 longest = replicate 4 18446744073709551615
 
--- the evaluation of a program on the inputs of a file
+-- the evaluation of a program on the inputs of a file, where no tapes are at hand: none can end it
 unfoldable pub report_for : TypedProgramTree → List Entry → (budget : ℕ) → Report
 report_for program entries budget = eval program (offered entries longest) budget
 

@@ -10,8 +10,8 @@ use Rattle.command_words.specs.Ask.{Ask, EvalAsk, DealAsk, eval, need}
 use Rattle.typed_tree.specs.Programs.{TypedProgramTree}
 use Rattle.input_share.specs.Dealing.{need_of}
 use Rattle.name_resolution.specs.Functions.{typed_of}
-use Rattle.program_limits.specs.declared.limit_err.LimitErr.{LimitErr}
-use Rattle.program_limits.specs.Limits.{IsVerdict, IsWithinLimits}
+use Rattle.reached_instances.specs.declared.limit_err.LimitErr.{LimitErr}
+use Rattle.reached_instances.specs.Limits.{IsVerdict, IsWithinLimits}
 use Rattle.tape_file.specs.Format.{read_of as tapes_read_of}
 use Rattle.tape_file.specs.Tapes.{FourTapes}
 use Rattle.value_file.specs.declared.inputs.Entry.{Entry}

@@ -3,8 +3,8 @@ use Rattle.std.specs.Prelude.{◌≡◌, ℕ, List, true, Option, Some, None, Re
 use Rattle.secrec_ast.specs.Programs.{ProgramTree}
 use Rattle.typed_tree.specs.Programs.{TypedProgramTree}
 use Rattle.name_resolution.specs.Functions.{typed_of}
-use Rattle.program_limits.specs.declared.limit_err.LimitErr.{LimitErr}
-use Rattle.program_limits.specs.Limits.{IsVerdict, IsWithinLimits}
+use Rattle.reached_instances.specs.declared.limit_err.LimitErr.{LimitErr}
+use Rattle.reached_instances.specs.Limits.{IsVerdict, IsWithinLimits}
 use Rattle.reached_instances.specs.Instances.{Instance}
 use Rattle.reached_instances.specs.Reached.{IsReachedList}
 use Rattle.outside.specs.Files.{Contents, FilesState, file_at}

@@ -1,3 +1,4 @@
+pub mod PlacedText
 pub mod Check
 pub mod Compile
 pub mod Deal

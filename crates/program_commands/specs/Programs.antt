@@ -9,8 +9,8 @@ use Rattle.front_end.specs.Judgement.{Judged}
 use Rattle.command_frame.specs.declared.status.Status.TheVariants.{Program}
 use Rattle.command_frame.specs.Answer.{Cause, ◌>>=◌, bytes_at}
 use Rattle.typed_tree.specs.Programs.{TypedProgramTree}
-use Rattle.program_limits.specs.declared.limit_err.LimitErr.{LimitErr}
-use Rattle.program_limits.specs.Refusals.{fault_said}
+use Rattle.reached_instances.specs.declared.limit_err.LimitErr.{LimitErr}
+use Rattle.reached_instances.specs.LimitRefusals.{fault_said}
 use Rattle.program_commands.specs.Judging.{Finding, Sized}
 
 -- the refusal of a text for its first fault

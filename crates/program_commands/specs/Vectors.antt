@@ -3,7 +3,7 @@ use Rattle.std.specs.Prelude.{◌≡◌, [], codes, refl}
 use Rattle.std.specs.Fmt.{digits}
 use Rattle.sc_text.specs.Elements.{elements_text, element_text}
 use Rattle.sc_text.specs.Fault.{fault_line, fault_text, counted_code}
-use Rattle.program_limits.specs.declared.limit_err.LimitErr.TheVariants.{FunctionTooLarge}
+use Rattle.reached_instances.specs.declared.limit_err.LimitErr.TheVariants.{FunctionTooLarge}
 use Rattle.language_model.specs.Effects.{Ended}
 use Rattle.language_model.specs.Reports.{Report}
 use Rattle.sc_text.specs.declared.end.Ending.TheVariants.{Done}

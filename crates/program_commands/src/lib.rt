@@ -12,6 +12,7 @@ mod orders;
 mod paths;
 mod programs;
 mod readers;
+mod text_laws;
 mod writes;
 
 pub use check::plan_check;
@@ -25,4 +26,5 @@ pub use programs::{read_typed, typed_of_text};
 pub use readers::{
     read_inputs, read_opened_file, read_public_file, read_share_file, read_tape_file, tape_stop,
 };
+pub use text_laws::texts_have_lines_and_names;
 pub use writes::add_write;

@@ -6,7 +6,7 @@ use Rattle.code_inputs.specs.Sources.{IsWellWritten}
 use Rattle.writable_code.specs.Sources.{IsPlacedProgram}
 use Rattle.typed_tree.specs.Programs.{TypedProgramTree}
 use Rattle.name_resolution.specs.Functions.{typed_of}
-use Rattle.program_limits.specs.Limits.{IsWithinLimits}
+use Rattle.reached_instances.specs.Limits.{IsWithinLimits}
 
 pub record IsAccepted (p : TypedProgramTree) : Type 0 where
   pub source : ProgramTree

@@ -9,3 +9,4 @@ pub use Rattle.writable_code.specs.RawCodes
 pub use Rattle.code_runs.specs.Telling
 pub use Rattle.clear_eval.specs.Offers
 pub use Rattle.lowering.specs.Meaning
+pub use Rattle.writable_code.specs.Sources

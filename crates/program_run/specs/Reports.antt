@@ -9,7 +9,7 @@ pub use Rattle.tape_file.specs.Tapes.{lengths_of}
 use Rattle.clear_eval.specs.Offers.{offered}
 use Rattle.program_run.specs.declared.running.RunReport.{RunReport}
 
--- evaluation in the clear, with tapes of these lengths
+-- evaluation in the clear, with four tapes, of which it takes the lengths
 abbrev pub eval_with : TypedProgramTree → List Entry → FourTapes → (budget : ℕ) → Report
 eval_with p entries tapes budget = eval p (offered entries (lengths_of tapes)) budget
 

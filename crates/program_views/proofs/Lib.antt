@@ -1,3 +1,4 @@
+pub mod Entries
 pub mod Given
 pub mod Dealt
 pub mod Undealt

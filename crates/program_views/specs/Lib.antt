@@ -1,3 +1,4 @@
+pub mod Coming
 pub mod Views
 pub mod TapeMaps
 pub mod Counting

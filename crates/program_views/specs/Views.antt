@@ -26,7 +26,7 @@ use Rattle.view_model.specs.Seen.{Seen, seen_by, made_for}
 
 -- ---- THE RUN
 
--- in the clear
+-- in the clear, by the tapes' lengths alone: a view has no tapes
 abbrev pub run_on : TypedProgramTree → List Entry → (lengths : List ℕ) → (budget : ℕ) → Report
 run_on p entries lengths budget = eval p (offered entries lengths) budget
 

@@ -2,7 +2,7 @@
 ghost use Rattle.std.specs.Prelude.{◌≡◌, ◌++◌, ◌∷◌, [], map, IfOk, OnOk};
 ghost use Rattle.program_views.specs.Views.{input_shares, received};
 
-use arrival_order::Arrival;
+use crate::arrival::Arrival;
 use input_share::ShareEntry;
 use std::alloc::{AllocError, Global};
 use view_text::{InputShare, Received};

@@ -2,6 +2,7 @@
 use crate::lines::{add_words, line};
 use gates::{Gate, RingKind, Words};
 use joint_run::{JointErr, JointRun, SharedValues, Tapes, joint_run};
+use plans::{compare, equality};
 use proto_core::{Link, Number};
 use row_files::Lines;
 use std::alloc::{AllocError, Global};

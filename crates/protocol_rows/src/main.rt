@@ -7,12 +7,12 @@
 mod blocks;
 mod converting;
 mod gate_lists;
+mod gate_plans;
 mod joint_runs;
 mod lines;
 mod miners;
 mod multiplying;
 mod opening;
-mod plans;
 mod resharing;
 mod rings;
 mod splitting;
@@ -37,7 +37,7 @@ fn told(alloc: Global) -> Result<String, AllocError> {
     blocks::tell(alloc, &mut lines);
     tell_protocols(&mut lines);
     gate_lists::tell(alloc, &mut lines);
-    plans::tell(alloc, &mut lines);
+    gate_plans::tell(alloc, &mut lines);
     joint_runs::tell(alloc, &mut lines);
     miners::tell(alloc, &mut lines);
     lines.whole()

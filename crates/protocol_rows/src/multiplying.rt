@@ -1,9 +1,10 @@
 // Products in both rings.
 use crate::lines::{add_cause, add_words, line};
+use lane_kernel::LaneRing;
 use multiply::{Mul, Operands, Part, multiply_together};
 use proto_core::{Block, Msg, P1, P2, P3};
 use row_files::Lines;
-use share_ring::{AddRing, ShareRing, XorRing};
+use share_ring::{AddRing, XorRing};
 
 const TOP: u64 = 18_446_744_073_709_551_615;
 
@@ -27,7 +28,7 @@ fn tell_parts<R>(
 }
 
 // One element by three miners.
-fn tell_three<R: ShareRing>(lines: &mut Lines, u: [u64; 3], v: [u64; 3], words: [[u64; 3]; 3]) {
+fn tell_three<R: LaneRing>(lines: &mut Lines, u: [u64; 3], v: [u64; 3], words: [[u64; 3]; 3]) {
     let (first, second, third) = multiply_together::<R>(
         Operands {
             u: &Block::from_words(&[u[0]]),

@@ -4,3 +4,8 @@ pub mod Settling
 pub mod Passing
 pub mod Whole
 pub mod Samples
+pub use Rattle.code_model.proofs.Forward
+pub use Rattle.code_model.proofs.Lengths
+pub use Rattle.code_model.proofs.Means
+pub use Rattle.code_model.proofs.Reached
+pub use Rattle.code_model.proofs.Widths

@@ -1,3 +1,10 @@
 pub mod Instructions
 pub mod Right
 pub mod Laws
+pub use Rattle.code_model.specs.Expressions
+pub use Rattle.code_model.specs.Fit
+pub use Rattle.code_model.specs.Kinded
+pub use Rattle.code_model.specs.Kinds
+pub use Rattle.code_model.specs.Meaning
+pub use Rattle.code_model.specs.Programs
+pub use Rattle.code_model.specs.Statements

@@ -4,3 +4,4 @@ pub mod Listing
 pub mod Keys
 pub mod Bound
 pub mod ReachedLists
+pub mod Verdicts

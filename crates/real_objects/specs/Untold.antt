@@ -11,7 +11,7 @@ abbrev pub untold_files : ℕ → (List ℕ → Option ℕ) → FilesState
 untold_files faults sized = record { told = false; contents = empty; faults = faults; steady = false; sized = sized }
 
 abbrev pub untold_sink : ℕ → SinkState
-untold_sink faults = record { told = false; written = []; faults = faults; shortages = 0; steady = false }
+untold_sink faults = record { told = false; written = []; lost = []; faults = faults; shortages = 0; steady = false }
 
 abbrev pub untold_links : ℕ → LinksState
 untold_links faults = record { told = false; sent = λ _. []; coming = λ _. []; faults = faults; steady = false }

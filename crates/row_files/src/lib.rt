@@ -19,6 +19,6 @@ pub use lines::Lines;
 pub use objects::Objects;
 pub use reader::{Refused, read_rows};
 pub use row::{Failing, Kind, Object, Row, Text, peer_of};
-pub use slow::{SlowLinks, SlowSink};
+pub use slow::SlowLinks;
 pub use tally::Tally;
 pub use wrong::Wrong;

@@ -1,15 +1,17 @@
 // The objects that a call of the program is given.
+ghost use Rattle.std.specs.Prelude.{◌<◌};
+
 use crate::compared::Outcome;
 use crate::row::{Kind, Object, Row, peer_of};
-use crate::slow::{SlowLinks, SlowSink};
+use crate::slow::SlowLinks;
 use outside::{MemFiles, MemLinks, MemSink, MemSpawner};
 use std::alloc::{AllocError, Global};
 
 /// What a call of the program finds, as a row says: files, streams, links and children in memory.
 pub struct Objects {
     pub files: MemFiles,
-    pub out: SlowSink,
-    pub err: SlowSink,
+    pub out: MemSink,
+    pub err: MemSink,
     pub links: SlowLinks,
     pub children: MemSpawner,
 }
@@ -54,8 +56,10 @@ fn children_of(alloc: Global, row: &Row) -> Result<MemSpawner, AllocError> {
     Ok(MemSpawner::new(alloc, statuses, row.fails(alloc, Object::Children)?))
 }
 
-fn sink_of(alloc: Global, row: &Row, object: Object) -> Result<MemSink, AllocError> {
-    Ok(MemSink::new(alloc, row.fails(alloc, object)?))
+fn sink_of(alloc: Global, row: &Row, object: Object, most: usize) -> Result<MemSink, AllocError>
+    requires { 0 < most }
+{
+    Ok(MemSink::slow(alloc, row.fails(alloc, object)?, most))
 }
 
 impl Objects {
@@ -65,12 +69,12 @@ impl Objects {
         let files = files_of(alloc, row)?;
         let links = links_of(alloc, row)?;
         let children = children_of(alloc, row)?;
-        let out = sink_of(alloc, row, Object::Out)?;
-        let err = sink_of(alloc, row, Object::Err)?;
+        let out = sink_of(alloc, row, Object::Out, most)?;
+        let err = sink_of(alloc, row, Object::Err, most)?;
         Ok(Objects {
             files,
-            out: SlowSink { sink: out, most },
-            err: SlowSink { sink: err, most },
+            out,
+            err,
             links: SlowLinks { links, most },
             children,
         })
@@ -80,8 +84,8 @@ impl Objects {
     pub fn outcome(self, status: u8) -> Outcome {
         let Objects {
             files,
-            out: SlowSink { sink: out, most: _ },
-            err: SlowSink { sink: err, most: _ },
+            out,
+            err,
             links: SlowLinks { links, most: _ },
             children,
         } = self;

@@ -27,7 +27,7 @@ use Rattle.run_engine.specs.Headline.{WritesViewsAndLinks, is_whole, net_given, 
 use Rattle.run_engine.specs.Call.{Call}
 use Rattle.run_engine.specs.Promises.{Gives, Keeps, RunEffect}
 use Rattle.run_engine.specs.Told.{contents_in, outside_of}
-use Rattle.miner_commands.specs.Run.{run_report, run_told}
+use Rattle.miner_commands.specs.Run.{run_told}
 use Rattle.program_commands.specs.Schedules.{refused_with}
 use Rattle.run_engine.specs.Runs.{IsNotTaken, RunRefused, bad_program, bad_input, bad_tape, bad_schedule, not_taken}
 use Rattle.program_commands.specs.Held.{ProgramRefused, bad_text, too_large}
@@ -47,7 +47,6 @@ module _ (words : List (List ℕ)) (m m' : Moment) (s : Status)
       (g.program, g.entries, g.tapes, g.delivery, given.held, taken, refl) steady
 
   pub prints : PrintsEvaluation g m.out m'.out s
-  unfolding run_report
   prints = elim done [ inl whole ↦ inl (whole.status, whole.text) | inr memory ↦ inr memory ]
 
   pub writes : WritesViewsAndLinks g (contents_in m) (contents_in m') s

@@ -33,7 +33,7 @@ use Rattle.clear_eval.specs.Offers.{offered}
 use Rattle.language_model.specs.Effects.{Clear}
 use Rattle.language_model.specs.Reports.{world_of}
 use Rattle.run_engine.proofs.ViewLaws.{maps_correspond, simulated_so, twins_see_it}
-use Rattle.workload_program.proofs.Runnable.{load_is_runnable}
+use Rattle.workload.proofs.Runnable.{load_is_runnable}
 use Rattle.run_engine.proofs.ViewPromises.{map_keeps, simulate_keeps, twin_keeps}
 
 module _ (words : List (List ℕ)) (m m' : Moment) (s : Status) (call : Call words m m' s)

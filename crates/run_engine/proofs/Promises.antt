@@ -11,8 +11,8 @@ use Rattle.program_commands.specs.Eval.{end_of, eval_text, need_text, report_for
 use Rattle.run_engine.specs.Call.{Call}
 use Rattle.run_engine.specs.Commands.{Asks}
 use Rattle.run_engine.specs.Promises.{CheckEffect, CompileEffect, DealEffect, EvalEffect, RunEffect, Gives, Keeps, KeepsOf, is_refusal}
-use Rattle.miner_commands.specs.Run.{run_report}
 use Rattle.program_commands.specs.Held.{DealRefused, EvalRefused, ProgramRefused}
+use Rattle.program_commands.specs.Reports.{eval_with}
 use Rattle.run_engine.specs.Runs.{RunRefused}
 use Rattle.run_engine.specs.Told.{Outside, contents_in, outside_of}
 use Rattle.run_engine.specs.Words.{IsAnswer, answer_to, reach_in, reach_of}
@@ -157,7 +157,7 @@ module _ (words : List (List ℕ)) (m m' : Moment) (s : Status) (call : Call wor
       keeps words m m' s call (run ask) asks (λ told. refl) (told_alone m.sources t) can_refuse (as_refusal s) refl
       (RunEffect ask (contents_in m)) (RunRefused ask (contents_in m)) is_end
       (λ effect w. subst (IsEndingAnswer words outside) (sym w.6)
-      (record { answer = run_answered words ask outside w.0 w.1 w.2 w.3 asks w.4 w.5; ends = end_is (end_of (run_report w.0 w.1 w.2 ask.budget)).how }))
+      (record { answer = run_answered words ask outside w.0 w.1 w.2 w.3 asks w.4 w.5; ends = end_is (end_of (eval_with w.0 w.1 w.2 ask.budget)).how }))
       (λ answer a r u. run_refused_only words ask outside asks answer a (refuses answer r u))
       (λ status refused. run_answered_so words ask outside status asks refused)
 

@@ -17,10 +17,11 @@ use Rattle.program_commands.specs.Judging.{Finding, FoundAt, its_program}
 use Rattle.program_commands.specs.Programs.{program_at}
 use Rattle.program_commands.specs.Reading.{bad_input, bad_schedule, bad_tape, delivery_at, inputs_at, schedule_file_at, tape_file_at, tapes_at}
 use Rattle.run_engine.specs.Headline.{refused_line}
-use Rattle.miner_commands.specs.Run.{run_of, run_report, run_told}
+use Rattle.miner_commands.specs.Run.{run_of, run_told}
 use Rattle.program_commands.specs.Schedules.{by_net, refused_with}
 use Rattle.run_engine.specs.Runs.{HoldsRun, IsNotTaken, RunRefused, net_for, not_taken}
 use Rattle.program_commands.specs.Held.{HoldsTyped}
+use Rattle.program_commands.specs.Reports.{eval_with}
 use Rattle.run_engine.specs.Runs.{bad_program, bad_input as input_refused, bad_schedule as schedule_refused, bad_tape as tape_refused}
 use Rattle.run_engine.specs.Told.{Outside}
 use Rattle.run_engine.specs.Words.{answer_to, question_of}
@@ -166,7 +167,7 @@ module _ (found : Finding) (ask : RunAsk) (files : Contents) (h : FoundAt (its_p
                 not_taken (refusing r c is_r ∙ refused.1) p entries tapes delivery
                 (record { program = held; inputs = inputs; tapes = taped; order = order }) refused.0
             | inr (taken, e, done) ↦
-                no_ending (status_in_answer r) (end_of (run_report p entries tapes ask.budget)).how why (ap status_in_answer (sym done))
+                no_ending (status_in_answer r) (end_of (eval_with p entries tapes ask.budget)).how why (ap status_in_answer (sym done))
           ]
 
       at_order : (delivery_at files ask.order >>= run_under ask p entries tapes) ≡ r → RunRefused ask files (status_in_answer r)

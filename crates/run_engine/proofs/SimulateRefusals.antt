@@ -23,7 +23,7 @@ use Rattle.program_commands.specs.Programs.{program_at}
 use Rattle.program_commands.specs.Reading.{bad_input, bad_opened, bad_schedule, bad_tape, delivery_at, opened_at, public_at, schedule_file_at, tape_file_at}
 use Rattle.program_commands.specs.Schedules.{by_net}
 use Rattle.program_commands.specs.Held.{HoldsTyped}
-use Rattle.simulate_command.specs.Simulate.{by_told, net_simulated, simulate_of, stop_told}
+use Rattle.tape_commands.specs.Simulate.{by_told, net_simulated, simulate_of, stop_told}
 use Rattle.run_engine.specs.SimulatePromises.{HoldsSimulation, IsSimulated, SimulateRefused, for_opened, for_program}
 use Rattle.run_engine.specs.SimulatePromises.{for_public, for_schedule, for_tape, net_refuses, told_too_little}
 use Rattle.run_engine.specs.Told.{Outside}
@@ -35,7 +35,7 @@ use Rattle.program_commands.proofs.Refusals.{refusing, schedule_status, status_i
 use Rattle.run_engine.proofs.RunRefusals.{net_cases, refused_by_net}
 use Rattle.run_engine.proofs.Runs.{AnswersAtOnce, HasAnswerOf, command_answers, is_answer}
 use Rattle.program_commands.proofs.Held.{read_there}
-use Rattle.simulate_command.proofs.SimulatePlanned.{by_the_net, by_the_words, enough, short_told, simulated_to, taken_so}
+use Rattle.tape_commands.proofs.SimulatePlanned.{by_the_net, by_the_words, enough, short_told, simulated_to, taken_so}
 
 -- ---- files that are as they must be
 

@@ -29,7 +29,8 @@ use Rattle.run_engine.specs.TrioPromises.{KeepsTrio, StartsByStatus, StartsMiner
 use Rattle.run_engine.specs.Words.{IsAnswer, answer_to, question_of, reach_in}
 use Rattle.run_engine.proofs.Runs.{carried_status, course_answers, is_answer, no_fault_end, reach_by, refused_if}
 use Rattle.run_engine.proofs.Tops.{no_file, no_memory}
-use Rattle.run_engine.proofs.Trios.{EndingCourse, HasCourse, IsPrepared, is_dealt, is_undealt, no_end_refused, trio_effect, trio_refused, trio_refused_by, trio_unprepared}
+use Rattle.run_engine.proofs.Trios.{EndingCourse, HasCourse, IsPrepared, is_dealt, is_undealt, no_end_refused, trio_effect, trio_refused}
+use Rattle.run_engine.proofs.Trios.{trio_refused_by, trio_unprepared}
 
 -- a fault that has the status of a refusal is one of other programs
 fault_child : (reach : Reach) (m m' : Moment) (s : Status) → is_refusal s ≡ true → HasFailed reach m m' s

@@ -14,13 +14,13 @@ use Rattle.program_views.specs.TapeMaps.{IsTwin, MapsCorrespond, twinned}
 use Rattle.program_views.proofs.Corresponding.{tapes_corresponding}
 use Rattle.program_views.proofs.Simulated.{views_simulated}
 use Rattle.program_views.proofs.Twins.{twins_see}
-use Rattle.simulate_command.proofs.Runs.{nets_simulated}
+use Rattle.tape_commands.proofs.Runs.{nets_simulated}
 use Rattle.run_engine.specs.MapPromises.{HoldsMap}
 use Rattle.run_engine.specs.SimulatePromises.{HoldsOfRun, IsOfRun, opened_and, tapes_mapped}
 use Rattle.run_engine.specs.TwinPromises.{AreTaken, HoldsTwin}
 use Rattle.run_engine.proofs.Miners.{given_to, of_words}
 use Rattle.run_engine.proofs.OfWords.{file_of_words}
-use Rattle.simulate_command.proofs.SimulatePlanned.{view_ended}
+use Rattle.tape_commands.proofs.SimulatePlanned.{view_ended}
 
 pub maps_correspond : (ask : MapAsk) (files : Contents) (p : TypedProgramTree) (entries : List Entry) (tapes : FourTapes)
     → HoldsMap ask files p entries tapes → MapsCorrespond ask.miner p entries tapes ask.budget

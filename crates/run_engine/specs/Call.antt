@@ -60,7 +60,7 @@ pub record Call (words : List (List ℕ)) (before after : Moment) (given : Statu
   -- The answer is carried out: all of its files and its text and nothing on `err`; or its refusal's line on `err`, nothing on `out`, and no
   -- file but those that are to be written before it is decided. Or a fault is told by the status of the object that failed, whose count
   -- rose, or memory ran out. A line is on `err` whole, or a prefix of it where the count of `err`'s faults rose, or that of its calls without
-  -- memory.
+  -- memory, and the rest of this same line is what `err` lost. So want of memory doesn't stand in for another stop whose line `err` didn't take.
   pub answer_carried_out :
       OfEachAnswer words before after (λ answer. AllTold words before
       → CarriedOut before after given answer ⊎ HasFailed (reach words before) before after given)
@@ -93,7 +93,8 @@ pub record Call (words : List (List ℕ)) (before after : Moment) (given : Statu
       → CarriedOut before after given answer
       ⊎ (ChildrenFailed (reach words before) answer before.sources after.sources × PutLine child_line before.err after.err))
   -- Memory ran out: the output is as it was, and of the files none is written, or those before one of them, which then holds any bytes, or those
-  -- that come before the answer is decided; or all files are written, and the output, which had no memory itself, holds a prefix of the text.
+  -- that come before the answer is decided; or all files are written, and the output, which had no memory itself, holds a prefix of the text. What
+  -- `err` was given and lost is memory's line, so where the line of another stop was tried and `err` failed, the status is that of this stop.
   pub memory_said : given ≡ statuses.Memory → PutLine memory_line before.err after.err
   pub memory_cuts_text : given ≡ statuses.Memory → PutsNothing before after ⊎ Rose before.out.shortages after.out.shortages
   pub memory_leaves : OfEachAnswer words before after (λ answer. given ≡ statuses.Memory → RunsShort (reach words before) answer before after)

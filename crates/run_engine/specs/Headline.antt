@@ -52,7 +52,7 @@ pub record IsGiven (words : List (List ℕ)) (files : Contents) (g : Given) : Ty
   pub held : HoldsRun g.ask files g.program g.entries g.tapes g.delivery
 
 module _ (g : Given) where
-  -- evaluation in the clear, with tapes of these lengths
+  -- evaluation of what is given
   abbrev pub report_given : Report
   report_given = eval_with g.program g.entries g.tapes g.ask.budget
 

@@ -21,8 +21,8 @@ use Rattle.program_commands.specs.Compile.{CodeMeansProgram}
 use Rattle.program_commands.specs.Held.{HoldsTyped}
 use Rattle.program_views.specs.TapeMaps.{IsTwin, MapsCorrespond, twinned}
 use Rattle.workload.specs.Load.{load_program}
-use Rattle.workload_program.specs.LoadTree.{load_typed}
-use Rattle.workload_program.specs.Runnable.{IsRunnable}
+use Rattle.workload.specs.LoadTree.{load_typed}
+use Rattle.workload.specs.Runnable.{IsRunnable}
 use Rattle.program_views.specs.Views.{openings, run_on}
 use Rattle.view_reader.specs.Opened.{opened_words}
 use Rattle.run_engine.specs.Chains.{MappedIsSimulated, TwinIsReadAgain}

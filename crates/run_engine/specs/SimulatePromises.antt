@@ -23,7 +23,7 @@ use Rattle.program_views.specs.Views.{lengths_of, net_of, run_on, view_of}
 use Rattle.program_commands.specs.Reading.{delivery_at, opened_at, public_at, tape_file_at}
 use Rattle.program_commands.specs.Held.{HoldsTyped, ProgramRefused}
 use Rattle.run_engine.specs.Runs.{IsNotTaken}
-use Rattle.simulate_command.specs.Simulate.{net_simulated, simulate_effect, stop_told, view_simulated}
+use Rattle.tape_commands.specs.Simulate.{net_simulated, simulate_effect, stop_told, view_simulated}
 
 -- the files that `simulate` reads are there: a program of this typed tree, this public part, these opened words, these tapes and this order
 -- of delivery

@@ -22,7 +22,7 @@ use Rattle.run_engine.specs.Told.{Outside, Told, place_of, told_of}
 use Rattle.tape_commands.specs.Map.{map_of, map_paths, mapped_paths}
 use Rattle.miner_commands.specs.Load.{load_of}
 use Rattle.miner_commands.specs.Run.{ran_paths, run_of, run_paths}
-use Rattle.simulate_command.specs.Simulate.{simulate_of, simulate_paths, simulated_paths}
+use Rattle.tape_commands.specs.Simulate.{simulate_of, simulate_paths, simulated_paths}
 use Rattle.tape_commands.specs.Twin.{twin_of, twin_paths, twinned_paths}
 
 -- what a command comes to, by all that is told

@@ -18,9 +18,8 @@ use miner_command::plan_miner;
 use miner_commands::{plan_load, plan_run};
 use outside::{Files, Links, Sink, Spawner};
 use program_commands::{plan_check, plan_compile, plan_deal, plan_eval, plan_need};
-use simulate_command::plan_simulate;
 use std::alloc::Global;
-use tape_commands::{plan_map, plan_twin};
+use tape_commands::{plan_map, plan_simulate, plan_twin};
 use trio_command::plan_trio;
 
 // Does all that a command does before its effect: it reads files, sends and reads what goes to peers and comes from them, or writes files

@@ -14,7 +14,7 @@ use Rattle.wire.specs.Hellos.{HasDigests, first_difference, greeted, hello_bytes
 use Rattle.wire.proofs.HelloLaws.{greeted-hello_bytes}
 use Rattle.miner_node.specs.Peers.{coming_to, higher_peer, lower_peer, with_peer}
 use Rattle.miner_node.specs.Serving.{Agreed, CutOff, Stops, at_hello, compared, greeting, heard, hello_from, then_hear}
-use Rattle.joined_frames.specs.Joined.{GreetsFirst}
+use Rattle.served_miners.specs.JoinedFrames.{GreetsFirst}
 
 -- ---- one hello
 

@@ -19,11 +19,11 @@ use Rattle.served_bytes.proofs.Messages.{serves_its_messages}
 use Rattle.wire.specs.declared.fields.Hello.{Hello}
 use Rattle.wire.specs.Frames.{IsFrameable, framed}
 use Rattle.wire.specs.Hellos.{HasDigests, hello_bytes}
-use Rattle.joined_frames.specs.Joined.{AllCame, CanAllBeFramed, IsFramedRun, ReadsWhatWasSent, in_frames}
-use Rattle.joined_frames.proofs.Fronts.{hellos_come_whole}
-use Rattle.joined_frames.proofs.Joining.{ends_where_all_came, frames_join}
-use Rattle.joined_frames.proofs.Reading.{begins_all, frames_begin, reads_frames}
-use Rattle.miner_runs.specs.OwnCode.{Ended}
+use Rattle.served_miners.specs.JoinedFrames.{AllCame, CanAllBeFramed, IsFramedRun, ReadsWhatWasSent, in_frames}
+use Rattle.served_miners.proofs.Fronts.{hellos_come_whole}
+use Rattle.served_miners.proofs.Joining.{ends_where_all_came, frames_join}
+use Rattle.served_miners.proofs.Reading.{begins_all, frames_begin, reads_frames}
+use Rattle.joined_nodes.specs.OwnCode.{Ended}
 use Rattle.miner_node.specs.Peers.{coming_to}
 use Rattle.miner_node.specs.Serving.{Agreed, CutOff, Finished, Serving, after_greeting, hello_from, hello_to, outcome_at, serving}
 use Rattle.served_miners.proofs.Greetings.{Came, Greets, after_both, all_left, greets, greets_whole, higher_link, lower_link}

@@ -1,3 +1,10 @@
+pub mod Digests
+pub mod Honest
+pub mod Hellos
+pub mod Fronts
+pub mod Reading
+pub mod Joining
+pub mod JoinedTexts
 pub mod Greetings
 pub mod Messages
 pub mod Joined

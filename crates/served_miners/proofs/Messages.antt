@@ -8,12 +8,12 @@ use Rattle.proto_core.specs.Strand.{Act, Begins, Mail, Strand, run}
 use Rattle.proto_core.proofs.Beginnings.{begins-self}
 use Rattle.served_bytes.specs.Served.{Coming, Spells, served}
 use Rattle.served_bytes.proofs.Messages.{serves_its_messages}
-use Rattle.miner_runs.specs.OwnCode.{Ended}
+use Rattle.joined_nodes.specs.OwnCode.{Ended}
 use Rattle.wire.specs.declared.fields.Hello.{Hello}
 use Rattle.wire.specs.Frames.{framed}
 use Rattle.miner_node.specs.Peers.{coming_to}
 use Rattle.miner_node.specs.Serving.{CutOff, Serving, after_greeting, outcome_at, serving}
-use Rattle.joined_frames.proofs.Fronts.{no_frame}
+use Rattle.served_miners.proofs.Fronts.{no_frame}
 use Rattle.served_miners.proofs.Greetings.{Greets, agreed, cut}
 
 -- it waits for a hello; or it does what its bytes lead to

@@ -21,8 +21,8 @@ use Rattle.wire.specs.declared.fields.Hello.{Hello}
 use Rattle.wire.specs.Hellos.{hello_bytes}
 use Rattle.framed_runs.proofs.FramedMessages.{run-framed}
 use Rattle.framed_runs.proofs.FramedScripts.{run_gates-fit}
-use Rattle.joined_frames.specs.Joined.{CanAllBeFramed, in_frames}
-use Rattle.joined_frames.proofs.Reading.{frames_begin}
+use Rattle.served_miners.specs.JoinedFrames.{CanAllBeFramed, in_frames}
+use Rattle.served_miners.proofs.Reading.{frames_begin}
 use Rattle.bytecode.specs.Raw.{RawCode}
 use Rattle.typed_tree.specs.Programs.{TypedProgramTree}
 use Rattle.value_file.specs.declared.inputs.Entry.{Entry}
@@ -39,30 +39,31 @@ use Rattle.program_run.specs.Offers.{offered}
 use Rattle.program_run.specs.Reports.{eval_with, lengths_of}
 use Rattle.miner_core.specs.declared.answer.End.TheVariants as stops
 use Rattle.miner_core.specs.Story.{HasEnded, IsEnd, Story, node}
-use Rattle.miner_runs.specs.OwnCode.{Ended, Reached, Unfit}
-use Rattle.miner_runs.specs.OwnRuns.{OwnRunAsReported, own_end, own_nodes, public_world}
-use Rattle.miner_runs.specs.Places.{Place}
-use Rattle.miner_runs.specs.Runs.{gates_to_run, messages}
-use Rattle.miner_runs.specs.Stories.{IsStoryOf}
-use Rattle.miner_runs.proofs.Stories.{does_its_part}
+use Rattle.joined_nodes.specs.OwnCode.{Ended, Reached, Unfit}
+use Rattle.joined_nodes.specs.OwnRuns.{OwnRunAsReported, own_end, own_nodes, public_world}
+use Rattle.joined_nodes.specs.Places.{Place}
+use Rattle.joined_nodes.specs.Runs.{gates_to_run, messages}
+use Rattle.joined_nodes.specs.Stories.{IsStoryOf}
+use Rattle.joined_nodes.proofs.Stories.{does_its_part}
 use Rattle.miner_text.specs.Lines.{text_of}
 use Rattle.miner_text.specs.Texts.{IsText}
 use Rattle.trio.specs.Answers.{join_of}
-use Rattle.told_text.specs.Told.{lines_told}
+use Rattle.node_run.specs.Told.{lines_told}
 use Rattle.miner_node.specs.Serving.{CutOff, Finished, Serving, hello_to, serving}
 use Rattle.miner_node.proofs.Honest.{does_as_its_miner}
 use Rattle.joined_nodes.specs.Joined.{AgreeWith, AreJoined, EndsAs, sent_by}
 use Rattle.joined_nodes.proofs.Ends.{begins-told}
 use Rattle.joined_nodes.proofs.Nodes.{joined_nodes_agree_on_programs}
-use Rattle.joined_texts.proofs.Joined.{texts_of_a_run_are_its_text}
-use Rattle.honest_nodes.specs.Honest.{HasItsPart}
-use Rattle.honest_nodes.specs.Nodes.{end_in, ended_at, own_hello}
-use Rattle.honest_nodes.proofs.Digests.{sha256_length}
-use Rattle.honest_nodes.proofs.Hellos.{digests, expected}
-use Rattle.honest_nodes.proofs.Honest.{ends_with_the_run, ran, same_strand}
+use Rattle.served_miners.proofs.JoinedTexts.{texts_of_a_run_are_its_text}
+use Rattle.served_miners.specs.Honest.{HasItsPart}
+use Rattle.node_run.specs.Nodes.{end_in, ended_at, own_hello}
+use Rattle.served_miners.proofs.Digests.{sha256_length}
+use Rattle.served_miners.proofs.Hellos.{digests, expected}
+use Rattle.served_miners.proofs.Honest.{ends_with_the_run, ran, same_strand}
 use Rattle.served_miners.specs.Laws.{ThreeServedMiners}
 use Rattle.served_miners.proofs.Joined as joined
-use Rattle.served_miners.specs.Served.{AgreeWithTheRun, AreServed, HasEndedSo, ServedAgree, WaitsOrHasEnded, came_on, has_ended, part_of, run_bytes, sent_on, served, waits}
+use Rattle.served_miners.specs.Served.{AgreeWithTheRun, AreServed, HasEndedSo, ServedAgree, WaitsOrHasEnded, came_on, has_ended, part_of, run_bytes, sent_on}
+use Rattle.served_miners.specs.Served.{served, waits}
 
 -- ---- how a miner has ended
 

@@ -1,13 +1,13 @@
 -- What is promised of three served miners.
 use Rattle.std.specs.Prelude.{ℕ, List}
 use Rattle.bytecode.specs.Raw.{RawCode}
-use Rattle.honest_nodes.specs.Honest.{EndsWithTheRun}
-use Rattle.honest_nodes.specs.Nodes.{Own}
+use Rattle.served_miners.specs.Honest.{EndsWithTheRun}
+use Rattle.node_run.specs.Nodes.{Own}
 use Rattle.joined_nodes.specs.Laws.{JoinedNodesAgreeOnPrograms}
-use Rattle.joined_texts.specs.Laws.{TextsOfARunAreItsText}
+use Rattle.served_miners.specs.Texts.{TextsOfARunAreItsText}
 use Rattle.miner_core.specs.Story.{Story}
 use Rattle.miner_node.specs.Laws.{DoesAsItsMiner}
-use Rattle.miner_runs.specs.OwnCode.{Ended}
+use Rattle.joined_nodes.specs.OwnCode.{Ended}
 use Rattle.proto_core.specs.declared.party.Number.{Number}
 use Rattle.proto_core.specs.Strand.{Mail, Strand}
 use Rattle.tape_file.specs.Tapes.{FourTapes}

@@ -1,4 +1,7 @@
+pub mod Honest
+pub mod JoinedFrames
+pub mod Texts
 pub mod Served
 pub mod Laws
-pub use Rattle.honest_nodes.specs.Honest
-pub use Rattle.honest_nodes.specs.Nodes
+pub use Rattle.node_run.specs.Nodes
+pub use Rattle.node_run.specs.Told

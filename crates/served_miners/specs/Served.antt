@@ -20,15 +20,15 @@ use Rattle.program_run.specs.Codes.{IsCodeOf}
 use Rattle.program_run.specs.Dealt.{CanBeDealt}
 use Rattle.program_run.specs.Inputs.{dealt_of}
 use Rattle.program_run.specs.Reports.{eval_with, lengths_of}
-use Rattle.miner_runs.specs.Runs.{messages}
-use Rattle.miner_runs.specs.Telling.{Tells}
-use Rattle.miner_runs.specs.OwnCode.{Ended}
+use Rattle.joined_nodes.specs.Runs.{messages}
+use Rattle.joined_nodes.specs.Telling.{Tells}
+use Rattle.joined_nodes.specs.OwnCode.{Ended}
 use Rattle.miner_text.specs.Texts.{IsText}
-use Rattle.told_text.specs.Told.{lines_told}
+use Rattle.node_run.specs.Told.{lines_told}
 use Rattle.trio.specs.Answers.{join_of}
 use Rattle.wire.specs.Hellos.{hello_bytes}
 use Rattle.miner_node.specs.Serving.{CutOff, Finished, Serving, frames, hello_to}
-use Rattle.honest_nodes.specs.Nodes.{Outgoing, Own, end_in, node_text, own_bytes, own_hello, own_serving}
+use Rattle.node_run.specs.Nodes.{Outgoing, Own, end_in, node_text, own_bytes, own_hello, own_serving}
 
 -- ---- where a miner stands
 

@@ -6,9 +6,9 @@ use Rattle.gates.specs.declared.ring_kind.RingKind.TheVariants.{Arithmetic, Bool
 use Rattle.gates.specs.declared.gate.Gate.{Gate}
 use Rattle.gates.specs.declared.gate.Gate.TheVariants.{Sub}
 use Rattle.gates.specs.Counts.{made_by, made_by_all}
-use Rattle.equality.specs.Plan as equality
-use Rattle.bit_extract.specs.Plan as bits
-use Rattle.compare.specs.Plan as compare
+use Rattle.plans.specs.Equality as equality
+use Rattle.plans.specs.BitExtract as bits
+use Rattle.plans.specs.Compare as compare
 use Rattle.shared_gates.specs.Shares.{Kind, Shared, Known, kind_at}
 use Rattle.shared_gates.specs.Kinds.{AllKinded}
 use Rattle.shared_plans.specs.Plans.{zero_test_kinds, equality_kinds, bits_kinds, comparison_kinds}

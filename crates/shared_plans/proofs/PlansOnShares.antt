@@ -13,15 +13,15 @@ use Rattle.gates.proofs.Columns.{word, stands, Column-of, Column-same, Column-ex
 use Rattle.gates.specs.Clear.{value, each_two}
 use Rattle.gates.specs.Counts.{Miner}
 use Rattle.gates.specs.WordTests.{zero_test, less_test}
-use Rattle.equality.specs.Plan.{eq_plan}
-use Rattle.equality.specs.Law as equality
-use Rattle.equality.proofs.Laws as equality_laws
-use Rattle.bit_extract.specs.Plan.{bits_plan}
-use Rattle.bit_extract.specs.Law as bits
-use Rattle.bit_extract.proofs.Laws as bits_laws
-use Rattle.compare.specs.Plan.{less_plan}
-use Rattle.compare.specs.Law as compare
-use Rattle.compare.proofs.Laws as compare_laws
+use Rattle.plans.specs.Equality.{eq_plan}
+use Rattle.plans.specs.EqualityLaw as equality
+use Rattle.plans.proofs.EqualityLaws as equality_laws
+use Rattle.plans.specs.BitExtract.{bits_plan}
+use Rattle.plans.specs.BitExtractLaw as bits
+use Rattle.plans.proofs.BitExtractLaws as bits_laws
+use Rattle.plans.specs.Compare.{less_plan}
+use Rattle.plans.specs.CompareLaw as compare
+use Rattle.plans.proofs.CompareLaws as compare_laws
 use Rattle.shared_gates.specs.Shares.{AreShares}
 use Rattle.shared_plans.specs.GateRuns.{GateRun, IsWellFormed, dealt_sizes, value_count, value_sizes, shares_of, IsNumber, Reach}
 use Rattle.shared_plans.specs.Outcomes.{Follows}

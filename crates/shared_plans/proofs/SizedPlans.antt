@@ -5,9 +5,9 @@ use Rattle.proto_core.proofs.Beginnings.{append-none}
 use Rattle.gates.specs.declared.gate.Gate.{Gate}
 use Rattle.gates.specs.declared.gate.Gate.TheVariants.{Sub, Cat, Xor, And, Not, Shl, Shr, Low, Part, Split}
 use Rattle.gates.specs.Counts.{size_of}
-use Rattle.equality.specs.Plan as equality
-use Rattle.bit_extract.specs.Plan as bits
-use Rattle.compare.specs.Plan as compare
+use Rattle.plans.specs.Equality as equality
+use Rattle.plans.specs.BitExtract as bits
+use Rattle.plans.specs.Compare as compare
 use Rattle.shared_gates.specs.Model.{sizes_made, PairOf, SizesSuit, AllSizesSuit}
 
 -- ---- sizes by number

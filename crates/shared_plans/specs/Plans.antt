@@ -2,9 +2,9 @@
 use Rattle.std.specs.Prelude.{ℕ, ◌+◌, List, ◌∷◌, replicate, ◌==◌, if◌then◌else◌}
 use Rattle.gates.specs.declared.ring_kind.RingKind.TheVariants.{Arithmetic, Boolean}
 use Rattle.gates.specs.declared.gate.Gate.TheVariants.{Sub}
-use Rattle.equality.specs.Plan.{eq_plan}
-use Rattle.bit_extract.specs.Plan.{bits_plan}
-use Rattle.compare.specs.Plan.{less_plan}
+use Rattle.plans.specs.Equality.{eq_plan}
+use Rattle.plans.specs.BitExtract.{bits_plan}
+use Rattle.plans.specs.Compare.{less_plan}
 use Rattle.shared_gates.specs.Shares.{Kind, Shared}
 use Rattle.shared_plans.specs.GateRuns.{GateRun, value_count, then_gates}
 

@@ -1,2 +1,11 @@
 pub mod Strands
 pub mod Miners
+pub mod Alike
+pub mod Reading
+pub mod Nodes
+pub mod Nets
+pub mod Ended
+pub mod Counts
+pub mod Needs
+pub mod Stories
+pub mod Shared

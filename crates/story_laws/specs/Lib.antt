@@ -1,1 +1,4 @@
 pub mod Stories
+pub mod Alike
+pub mod Drawn
+pub mod DrawnLaws

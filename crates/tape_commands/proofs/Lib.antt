@@ -1,4 +1,6 @@
 pub mod MapPlanned
 pub mod OpenLines
 pub mod TwinPlanned
+pub mod SimulatePlanned
 pub use Rattle.tape_twin.proofs.FirstDifferences
+pub use Rattle.view_simulator.proofs.Runs

@@ -1,5 +1,7 @@
 -- What a source that reads a file means: by the party's number, where in the file its next word stands, and how many are left.
-use Rattle.std.specs.Prelude.{◌≤◌, ℕ, ◌+◌, ◌*◌, List, [], length, Bool, false, ◌&&◌, nat_le, slice_index, Option, Some, None, IsSomeAnd}
+use Rattle.std.specs.Prelude.{◌≡◌, ◌≤◌, ℕ, ◌+◌, ◌*◌, List, [], length, Bool, true, false, ◌&&◌, nat_le, slice_index, Option, Some}
+use Rattle.std.specs.Prelude.{None, IsSomeAnd}
+use Rattle.outside.specs.Causes.{Rose}
 use Rattle.outside.specs.Files.{FilesState, file_at}
 use Rattle.outside.specs.Tapes.{TapesState}
 use Rattle.tape_file.specs.Format.{words_at}
@@ -43,3 +45,8 @@ pub record AreWithin (size : ℕ) (next left : List ℕ) : Type 0 where
   pub one : slice_index next 1 + 8 * slice_index left 1 ≤ size
   pub two : slice_index next 2 + 8 * slice_index left 2 ≤ size
   pub three : slice_index next 3 + 8 * slice_index left 3 ≤ size
+
+-- words of a tape couldn't be read: the count of the files' faults rose, and where they tell, they were not steady
+pub record TapeFaulted (old new : FilesState) : Type 0 where
+  pub rose : Rose old.faults new.faults
+  pub unsteady : old.told ≡ true → old.steady ≡ true → ⊥

@@ -1,3 +1,5 @@
+mod DealerWords
+pub mod Whole
 mod Differences
 pub mod FirstDifferences
 mod Runs

@@ -5,14 +5,17 @@
 #![tactic(auto)]
 
 mod alike;
-mod laws;
+mod dealer;
+mod dealt;
 mod mapped_run;
 mod maps;
 mod running;
+mod tape_maps;
 mod twin_err;
 mod twinning;
 
-pub use laws::counting;
+pub use dealer::seen_dealer;
+pub use dealt::dealt_values;
 pub use mapped_run::{MappedRun, map_run};
 pub use maps::{from_sim, to_sim};
 pub use twin_err::TwinErr;

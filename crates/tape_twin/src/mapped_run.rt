@@ -9,11 +9,11 @@ ghost use Rattle.program_views.specs.TapeMaps.{mapped};
 ghost use Rattle.program_views.specs.Accepted.{IsAcceptedProgram};
 
 use crate::running::report_on;
+use crate::tape_maps::to_simulated;
 use clear_eval::Report;
 use proto_core::Number;
 use std::alloc::{AllocError, Global};
 use tape_file::Tapes;
-use tape_maps::to_simulated;
 use typed_tree::TypedProgram;
 use value_file::Inputs;
 

@@ -7,10 +7,10 @@ ghost use Rattle.program_views.specs.TapeMaps.{mapped, mapped_back};
 ghost use Rattle.program_views.specs.Accepted.{IsAcceptedProgram};
 
 use crate::running::report_on;
+use crate::tape_maps::{from_simulated, to_simulated};
 use proto_core::Number;
 use std::alloc::{AllocError, Global};
 use tape_file::Tapes;
-use tape_maps::{from_simulated, to_simulated};
 use typed_tree::TypedProgram;
 use value_file::Inputs;
 

@@ -10,11 +10,11 @@ ghost use Rattle.tape_twin.specs.Alike.{RefusesTwin};
 
 use crate::alike::{first_difference, public_difference};
 use crate::running::report_on;
+use crate::tape_maps::{from_simulated, to_simulated};
 use crate::twin_err::TwinErr;
 use proto_core::Number;
 use std::alloc::Global;
 use tape_file::Tapes;
-use tape_maps::{from_simulated, to_simulated};
 use typed_tree::TypedProgram;
 use value_file::Inputs;
 use view_model::see_tapes;

@@ -1,10 +1,11 @@
 -- How the answers of what puts texts together belong to the definitions.
-use Rattle.std.specs.Prelude.{◌≡◌, ◌≤◌, ℕ, List, Bool, true, false, if◌then◌else◌, Option, Some, None, Result, Ok, Err, Vec}
+use Rattle.std.specs.Prelude.{◌≡◌, ◌≤◌, ℕ, List, true, if◌then◌else◌, Option, Some, None, Result, Ok, Err, Vec}
 use Rattle.std.specs.declared.alloc.Global.{Global}
 use Rattle.outside.specs.Causes.{Rose}
 use Rattle.outside.specs.Files.{FilesState, SameFiles, IsMissing, file_at}
 use Rattle.proto_core.specs.declared.party.Number.{Number}
 use Rattle.proto_core.specs.declared.party.Number.TheVariants.{One, Two, Three}
+use Rattle.proto_core.specs.Parties.{is_same}
 use Rattle.miner_text.specs.Reading.{read_of}
 use Rattle.miner_text.specs.declared.line.MinerLine.{MinerLine}
 use Rattle.trio.specs.Joining.{Joined, Difference, joined_of}
@@ -48,15 +49,9 @@ join_second found one = and_then (text_in Two (found Two)) (join_third found one
 abbrev pub join_of : (Number → Option (List ℕ)) → Result Joined JoinErr
 join_of found = and_then (text_in One (found One)) (join_second found)
 
-abbrev pub same_miner : Number → Number → Bool
-same_miner One One = true
-same_miner Two Two = true
-same_miner Three Three = true
-same_miner _ _ = false
-
 -- as if this miner's file were not there
 abbrev pub without : Number → (Number → Option (List ℕ)) → Number → Option (List ℕ)
-without i found j = if same_miner i j then None else found j
+without i found j = if is_same i j then None else found j
 
 -- no file changed, and no fault was counted that a steady store would not count
 pub record Passed (old new : FilesState) : Type 0 where

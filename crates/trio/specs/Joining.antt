@@ -7,7 +7,7 @@ use Rattle.sc_text.specs.declared.event.Event.TheVariants.{Publish}
 use Rattle.sc_text.specs.Event.{event_line}
 use Rattle.language_model.specs.Values.{element_of}
 use Rattle.code_runs.specs.Places.{field_of}
-use Rattle.told_events.specs.Telling.{all_added_up}
+use Rattle.code_runs.specs.ClientTold.{all_added_up}
 use Rattle.miner_text.specs.Shares.{ResultShare}
 use Rattle.miner_text.specs.Lines.{type_word, line_text}
 use Rattle.miner_text.specs.declared.line.MinerLine.{MinerLine}

@@ -7,10 +7,10 @@ use crate::comparing::{first_difference, share_of};
 use crate::difference::Difference;
 use crate::join_err::JoinErr;
 use crate::joined::Joined;
+use code_runs::all_added_up;
 use miner_text::{MinerLine, ResultShare};
 use sc_text::{Elements, End, Event};
 use std::alloc::{AllocError, Global};
-use told_events::all_added_up;
 use vector_ops::elements;
 
 /// The words of a line that is a share; else none.

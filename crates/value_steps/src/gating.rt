@@ -1,9 +1,9 @@
 // The gates that a run makes.
 ghost use Rattle.std.specs.Prelude.{◌≡◌, ◌≤◌, ◌+◌, ◌^◌, IfSome, IfOk};
 ghost use Rattle.gates.specs.Counts.{made_by_all};
-ghost use Rattle.equality.specs.Plan.{eq_plan};
-ghost use Rattle.bit_extract.specs.Plan.{bits_plan};
-ghost use Rattle.compare.specs.Plan.{less_plan};
+ghost use Rattle.plans.specs.Equality.{eq_plan};
+ghost use Rattle.plans.specs.BitExtract.{bits_plan};
+ghost use Rattle.plans.specs.Compare.{less_plan};
 ghost use Rattle.language_model.specs.Effects.{gate, next_number, put_gates, planned};
 ghost use Rattle.language_model.specs.Operations.{number_of, less_gates};
 ghost use Rattle.language_model.specs.Values.{ring_for};
@@ -14,6 +14,7 @@ use crate::halt::Halt;
 use crate::stage::Stage;
 use crate::value::{Secrecy, Value};
 use gates::{Gate, RingKind, Words};
+use plans::{bit_extract, compare, equality};
 use secrec_ast::DataType;
 use std::alloc::Global;
 

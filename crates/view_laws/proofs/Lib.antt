@@ -1,3 +1,8 @@
+pub mod Effects
+pub mod Rows
+pub mod Steps
+pub mod Lines
+pub mod Programs
 pub mod Shares
 pub mod Messages
 pub mod Openings

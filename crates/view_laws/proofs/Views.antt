@@ -29,8 +29,8 @@ use Rattle.program_views.specs.Laws.{IsGivenTo}
 use Rattle.program_views.specs.Views.{lengths_of, run_on, received, openings, input_shares, nothing_seen, view_at, seen_of, view_of}
 use Rattle.program_views.proofs.Given.{same_need}
 use Rattle.program_views.proofs.Simulated.{can_run}
-use Rattle.ending_laws.specs.Ends.{HasRoom, CanBeWritten}
-use Rattle.ending_laws.proofs.Programs.{programs_end}
+use Rattle.view_laws.specs.Ends.{HasRoom, CanBeWritten}
+use Rattle.view_laws.proofs.Programs.{programs_end}
 use Rattle.view_laws.specs.Views.{CanBeRun, ViewsAreOfTheirForm, IsSeen, IsReadAgain, AreEqualByTheirTexts}
 use Rattle.view_laws.proofs.Shares.{are_words, shares_are, need_most}
 use Rattle.view_laws.proofs.Messages.{are_received}

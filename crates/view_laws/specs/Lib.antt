@@ -1,3 +1,4 @@
+pub mod Ends
 pub mod Views
-pub use Rattle.program_run.specs.Accepted
 pub mod Openings
+pub use Rattle.program_run.specs.Accepted

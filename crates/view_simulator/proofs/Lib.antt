@@ -1,3 +1,7 @@
+mod Kept
+mod Links
+mod Walking
+pub mod InputPieces
 pub mod Zeros
 pub mod Suiting
 pub mod Pieces

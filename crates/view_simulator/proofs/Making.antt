@@ -16,12 +16,12 @@ use Rattle.joint_run.specs.Three.{each_of}
 use Rattle.value_file.specs.declared.public.PublicEntry.{PublicEntry}
 use Rattle.input_share.specs.declared.entry.ShareEntry.{ShareEntry}
 use Rattle.tape_file.specs.Tapes.{FourTapes}
-use Rattle.arrival_order.specs.Coming.{AreArrivals}
+use Rattle.program_views.specs.Coming.{AreArrivals}
 use Rattle.made_run.specs.declared.made.MadeRun.{MadeRun}
 use Rattle.made_run.specs.Made.{own_run, IsMade}
-use Rattle.made_inputs.specs.Need as need
-use Rattle.made_inputs.specs.Need.{made_shares}
-use Rattle.made_inputs.proofs.Pieces.{sizes-made}
+use Rattle.view_simulator.specs.Need as need
+use Rattle.view_simulator.specs.Need.{made_shares}
+use Rattle.view_simulator.proofs.InputPieces.{sizes-made}
 use Rattle.view_model.specs.Dealing.{hidden_sizes, hidden_draws, made_entries}
 use Rattle.view_model.specs.TapeMaps.{miners_of}
 use Rattle.view_model.specs.Seen.{Seen, gates_made}

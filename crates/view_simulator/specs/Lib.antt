@@ -1,3 +1,6 @@
+pub mod Blocks
+pub mod Sizes
+pub mod Need
 pub mod Refusals
 pub mod Making
 pub mod Simulating

@@ -5,11 +5,17 @@
 //! that come to it of these shares, of the opened words and of the miners' tapes; which links they come on is counted by the gates alone.
 #![tactic(auto)]
 
+mod block;
 mod dealing;
+mod entries;
 mod errors;
+mod gate_by_gate;
 mod laws;
 mod made;
 mod net;
+mod script_laws;
+mod script_sizes;
+mod share_laws;
 mod simulating;
 mod sizes;
 mod telling;
@@ -18,4 +24,5 @@ mod words;
 
 pub use errors::SimulateErr;
 pub use laws::{runs_are_simulated, told_runs_can_be_made};
+pub use share_laws::made_shares_are_sized;
 pub use simulating::{SimulatedRun, simulate};

@@ -7,12 +7,12 @@ ghost use Rattle.program_views.specs.Views.{can_deal};
 ghost use Rattle.view_simulator.specs.Making.{CanBeMade, made_in_order, seen_in_order, seen_of};
 
 use crate::dealing::suffices;
-use arrival_order::{Arrival, arrivals};
+use crate::entries::made_entries;
 use clear_eval::Report;
 use input_share::ShareEntry;
 use joint_run::Tapes as MinersTapes;
-use made_inputs::made_entries;
 use made_run::made_run;
+use program_views::{Arrival, arrivals};
 use proto_core::{Link, Number};
 use std::alloc::{AllocError, Global};
 use tape_file::Tapes;

@@ -2,13 +2,13 @@
 ghost use Rattle.std.specs.Prelude.{ℕ, List, []};
 ghost use Rattle.proto_core.specs.declared.party.Number.{Number};
 ghost use Rattle.counted_net.specs.Answers.{delivery_seen, IsNetAnswer};
-ghost use Rattle.gate_scripts.specs.Sizes.{SizesFit};
+ghost use Rattle.view_simulator.specs.Sizes.{SizesFit};
 ghost use Rattle.view_model.specs.Dealing.{hidden_sizes};
 ghost use Rattle.view_simulator.specs.Simulating.{scripts_made};
 
+use crate::gate_by_gate::scripts;
 use crate::sizes::hidden_sizes;
 use counted_net::{Delivery, DeliveryErr, deliver_counts};
-use gate_scripts::scripts;
 use gates::Gate;
 use proto_core::Link;
 use std::alloc::Global;

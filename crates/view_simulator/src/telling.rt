@@ -4,15 +4,15 @@ ghost use Rattle.typed_tree.specs.Programs.{typed_program_tree};
 ghost use Rattle.typed_tree.specs.Sound.{IsSound};
 ghost use Rattle.value_file.specs.PublicFile.{IsWritable};
 ghost use Rattle.clear_eval.specs.Reports.{IsBlindAnswer};
-ghost use Rattle.gate_scripts.specs.Sizes.{SizesFit};
+ghost use Rattle.view_simulator.specs.Sizes.{SizesFit};
 ghost use Rattle.view_model.specs.Dealing.{hidden_sizes};
 ghost use Rattle.program_views.specs.Views.{lengths_of, told_run};
 ghost use Rattle.code_inputs.specs.Accepted.{IsAcceptedProgram};
 ghost use Rattle.view_simulator.specs.Making.{CanBeMade};
 
+use crate::script_laws::few_words_fit;
 use crate::words::see_part;
 use clear_eval::{BlindErr, Report, blind};
-use gate_scripts::few_words_fit;
 use input_share::see_words;
 use std::alloc::Global;
 use tape_file::Tapes;

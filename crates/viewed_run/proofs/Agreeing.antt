@@ -16,7 +16,7 @@ use Rattle.view_model.specs.Dealing.{dealt_to, private_sizes, size_then}
 use Rattle.view_model.specs.Held.{private_values, value_then}
 use Rattle.view_model.specs.TapeMaps.{gates_dealt}
 use Rattle.program_views.specs.Inputs.{dealt_of}
-use Rattle.code_views.specs.Runs.{gates_to_run}
+use Rattle.delivered_run.specs.Runs.{gates_to_run}
 use Rattle.program_views.specs.Views.{lengths_of, run_on}
 use Rattle.viewed_run.specs.Laws.{NetsAgree}
 

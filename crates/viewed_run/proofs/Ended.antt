@@ -29,15 +29,15 @@ use Rattle.view_text.specs.View.{InputShare, Received, View}
 use Rattle.view_model.specs.TapeMaps.{AreTapes, gates_dealt, miners_of, no_values}
 use Rattle.view_model.specs.Seen.{Seen, seen_by}
 use Rattle.program_views.specs.Inputs.{dealt_of}
-use Rattle.code_views.specs.Runs.{messages, shares}
+use Rattle.delivered_run.specs.Runs.{messages, shares}
 use Rattle.program_views.specs.Views.{input_shares, lengths_of, nothing_seen, openings, received, run_on, seen_of, view_at, view_of}
 use Rattle.program_views.specs.Laws.{IsGivenTo}
 use Rattle.program_views.proofs.Simulated.{drew_counted}
-use Rattle.code_views.specs.CodeViews.{shown_in}
-use Rattle.code_views.proofs.CodeViews.{shown_same}
-use Rattle.code_views.specs.Accepted.{IsAccepted}
+use Rattle.viewed_run.specs.CodeViews.{shown_in}
+use Rattle.viewed_run.proofs.CodeViews.{shown_same}
+use Rattle.delivered_run.specs.Accepted.{IsAccepted}
 use Rattle.miner_core.specs.OwnCode.{Ended as Stopping}
-use Rattle.code_views.specs.OwnRuns.{OwnRunAsReported}
+use Rattle.delivered_run.specs.OwnRuns.{OwnRunAsReported}
 use Rattle.link_schedule.specs.Net.{NetState, net_node, net_posted}
 use Rattle.link_schedule.specs.Streams.{with_tapes}
 use Rattle.delivered_run.specs.declared.running.NetRun.{NetRun}

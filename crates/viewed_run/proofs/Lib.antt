@@ -1,9 +1,10 @@
+pub mod CodeViews
 pub mod Agreeing
 pub mod Pieces
 pub mod Sitting
 pub mod Ended
 pub mod Undealt
 pub mod Viewed
-pub use Rattle.code_views.proofs.CodeViews
 pub use Rattle.delivered_run.proofs.Taken
 pub use Rattle.delivered_run.proofs.Programs
+pub use Rattle.delivered_run.proofs.Sources

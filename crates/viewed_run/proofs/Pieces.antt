@@ -6,8 +6,8 @@ use Rattle.secrec_ast.specs.declared.expression.DataType.TheVariants as datatype
 use Rattle.sc_text.specs.declared.elements.Element.{Element}
 use Rattle.proto_core.specs.Strand.{Notice, Shown, Published, Handed}
 use Rattle.miner_core.specs.Places.{field_of}
-use Rattle.code_views.specs.Telling.{elements_told, type_of}
-use Rattle.code_views.specs.CodeViews.{shown_in}
+use Rattle.delivered_run.specs.Telling.{elements_told, type_of}
+use Rattle.viewed_run.specs.CodeViews.{shown_in}
 
 pub shown_append : (ns ms : List Notice) → shown_in (ns ++ ms) ≡ shown_in ns ++ shown_in ms
 shown_append [] ms = refl

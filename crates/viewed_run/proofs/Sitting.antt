@@ -20,7 +20,7 @@ use Rattle.miner_core.specs.Story.{at_stop_or, drawn_in, has_told, node}
 use Rattle.miner_core.specs.Streams.{StreamState, ForEachTape, with_tape}
 use Rattle.view_text.specs.View.{InputShare, Received, View}
 use Rattle.program_views.specs.Views.{input_shares, received}
-use Rattle.code_views.specs.CodeViews.{shown_in}
+use Rattle.viewed_run.specs.CodeViews.{shown_in}
 use Rattle.link_schedule.specs.Net.{net_node, net_posted}
 use Rattle.link_schedule.specs.Streams.{StreamNet, MayHave, with_tapes}
 use Rattle.delivered_run.proofs.Netting.{own_tape}

@@ -10,7 +10,7 @@ use Rattle.input_share.specs.declared.dealing.Dealt.{Dealt}
 use Rattle.view_model.specs.TapeMaps.{miners_of}
 use Rattle.protocol_model.specs.Runs.{Tapes}
 use Rattle.program_views.specs.Views.{view_of}
-use Rattle.code_views.specs.Accepted.{IsAccepted}
+use Rattle.delivered_run.specs.Accepted.{IsAccepted}
 use Rattle.miner_core.specs.declared.answer.Lost.{Lost}
 use Rattle.miner_core.specs.Streams.{has_lost}
 use Rattle.link_schedule.specs.Streams.{StreamNet, MayHave, with_tapes}

@@ -1,9 +1,11 @@
+pub mod CodeViews
 pub mod Seats
 pub mod Seen
 pub mod Laws
-pub use Rattle.code_views.specs.CodeViews
 pub use Rattle.program_views.specs.Views
 pub use Rattle.delivered_run.specs.Premises
 pub use Rattle.delivered_run.specs.Deliveries
 pub use Rattle.delivered_run.specs.Programs
 pub use Rattle.delivered_run.specs.declared.running.DeliveredRun
+pub use Rattle.delivered_run.specs.Sources
+pub use Rattle.delivered_run.specs.declared.errors.CourseErr

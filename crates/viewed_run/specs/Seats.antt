@@ -18,7 +18,7 @@ use Rattle.miner_core.specs.Story.{Story, has_told, node}
 use Rattle.miner_core.specs.Streams.{StreamState, ForEachTape}
 use Rattle.view_text.specs.View.{View}
 use Rattle.program_views.specs.Views.{input_shares, received}
-use Rattle.code_views.specs.CodeViews.{shown_in}
+use Rattle.viewed_run.specs.CodeViews.{shown_in}
 use Rattle.link_schedule.specs.Net.{NetState, net_node, net_posted}
 use Rattle.link_schedule.specs.Streams.{StreamNet, ForEachTapes, IsMinerOf}
 use Rattle.viewed_run.specs.declared.seat.Seat.{Seat}

@@ -4,11 +4,11 @@ ghost use Rattle.proto_core.specs.Parties.{from_previous, from_next};
 ghost use Rattle.proto_core.specs.Strand.{Mail};
 ghost use Rattle.protocol_model.specs.Arrivals.{arrivals};
 ghost use Rattle.program_views.specs.Views.{received};
-ghost use Rattle.code_views.specs.CodeViews.{shown_in};
+ghost use Rattle.viewed_run.specs.CodeViews.{shown_in};
 ghost use Rattle.miner_core.specs.Views.{notice_seen};
 
-use arrival_order::arrivals;
 use miner_core::Notice;
+use program_views::arrivals;
 use proto_core::{Link, Messages, Number};
 use sc_text::Elements;
 use std::alloc::{AllocError, Global};

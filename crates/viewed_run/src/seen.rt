@@ -3,7 +3,7 @@ ghost use Rattle.std.specs.Prelude.{◌≡◌, IfOk};
 ghost use Rattle.outside.specs.Tapes.{TapesState};
 ghost use Rattle.value_file.specs.Input.{AreInputs};
 ghost use Rattle.typed_tree.specs.Programs.{typed_program_tree};
-ghost use Rattle.code_views.specs.Accepted.{IsAccepted};
+ghost use Rattle.delivered_run.specs.Accepted.{IsAccepted};
 ghost use Rattle.delivered_run.specs.Deliveries.{delivery_seen};
 ghost use Rattle.delivered_run.specs.Sources.{RunsFrom};
 ghost use Rattle.viewed_run.specs.Seats.{nothing_but};

@@ -1,2 +1,5 @@
 mod Arrays
 mod Forms
+mod Tokens
+mod Spelled
+pub mod Runnable

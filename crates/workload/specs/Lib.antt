@@ -1,2 +1,4 @@
 pub mod Load
 pub mod Vectors
+pub mod LoadTree
+pub mod Runnable

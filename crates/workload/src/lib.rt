@@ -4,6 +4,8 @@
 mod inputs;
 mod laws;
 mod load;
+mod program_laws;
 
 pub use laws::load_entries_are_inputs;
 pub use load::{Workload, make};
+pub use program_laws::load_program_is_runnable;

@@ -18,8 +18,8 @@ use Rattle.name_resolution.proofs.SoundValues.{mapped, some_is}
 use Rattle.reached_instances.specs.Instances.{Instance}
 use Rattle.reached_instances.specs.Reached.{IsReachedList}
 use Rattle.reached_instances.proofs.ReachedLists.{is_the_only_list}
-use Rattle.program_limits.specs.Limits as limits
-use Rattle.program_limits.specs.Limits.{size_in, sizes, templates, is_too_large, IsWithinLimits}
+use Rattle.reached_instances.specs.Limits as limits
+use Rattle.reached_instances.specs.Limits.{size_in, sizes, templates, is_too_large, IsWithinLimits}
 use Rattle.verified_code.specs.Steps.{Step, Function, Literal, Move, Store, Binary, Not, Cast, Classify, Fill, At, Put, Size, Cat, Sum, Bits, Declassify}
 use Rattle.verified_code.specs.Steps.{Argument, Publish, Assert, Branch, Jump, Call, Return, ReturnNone}
 use Rattle.code_model.specs.Programs.{numbers_in, code_of_found, instance_code, code_of}

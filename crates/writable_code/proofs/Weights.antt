@@ -9,7 +9,7 @@ use Rattle.name_resolution.specs.Sizes.{function_nodes, counted}
 use Rattle.name_resolution.specs.Functions.{typed_function, typed_of}
 use Rattle.reached_instances.specs.declared.instance.BoundDomain.{BoundDomain}
 use Rattle.reached_instances.specs.Instances.{Instance}
-use Rattle.program_limits.specs.Limits.{size_in, sizes}
+use Rattle.reached_instances.specs.Limits.{size_in, sizes}
 use Rattle.code_model.specs.Expressions.{Numbers}
 use Rattle.code_model.specs.Statements.{statements_depth}
 use Rattle.code_model.proofs.Widths.{statements_width, statements_deep}

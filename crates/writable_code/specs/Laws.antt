@@ -8,7 +8,7 @@ use Rattle.typed_tree.specs.Programs.{TypedProgramTree}
 use Rattle.name_resolution.specs.Functions.{typed_of}
 use Rattle.reached_instances.specs.Instances.{Instance}
 use Rattle.reached_instances.specs.Reached.{IsReachedList}
-use Rattle.program_limits.specs.Limits.{sizes, IsWithinLimits}
+use Rattle.reached_instances.specs.Limits.{sizes, IsWithinLimits}
 use Rattle.bytecode.specs.Raw.{RawFunction}
 use Rattle.bytecode.specs.Writable.{IsWritable}
 use Rattle.verified_code.specs.Steps.{Step, Function}

@@ -1,4 +1,4 @@
-use Rattle.language_model.specs.Reports.{beginning}
+use Rattle.blind_evaluation.specs.Reports.{beginning}
 use Rattle.code_model.proofs.Ends.{starts}
 use Rattle.code_model.proofs.Forward.{all_forward}
 use Rattle.code_model.proofs.laws.runs_of_code_end.Goals as goal

@@ -1,6 +1,6 @@
 use Rattle.std.proofs.Common.{◌+◌, List, [], ◌∷◌, ◌++◌, drop, map, sym, ◌∙◌, ap, append_assoc}
 use Rattle.sc_text.specs.declared.event.Event.{Event}
-use Rattle.told_events.specs.Telling.{first_words, told_beside, told_by_three}
+use Rattle.code_runs.specs.ClientTold.{first_words, told_beside, told_by_three}
 use Rattle.miner_core.specs.declared.notice.Notice.{Notice}
 use Rattle.miner_core.specs.Views.{notice_seen}
 use Rattle.delivered_run.proofs.Telling.{told_more}

@@ -1,5 +1,5 @@
 use Rattle.std.proofs.Common.{◌≡◌, ◌++◌, drop, map}
-use Rattle.told_events.specs.Telling.{told_beside}
+use Rattle.code_runs.specs.ClientTold.{told_beside}
 use Rattle.miner_core.specs.Views.{notice_seen}
 use Rattle.delivered_run.proofs.client.told_to_client.Given as goal
 

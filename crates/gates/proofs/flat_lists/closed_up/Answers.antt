@@ -1,10 +1,10 @@
-use Rattle.std.proofs.Common.{rules, ◌≡◌, ℕ, ◌+◌, ◌≤◌, List, ◌∷◌, length, Some, sym, ap, subst, ◌∙◌, arith}
+use Rattle.std.proofs.Common.{rules, ◌≡◌, ◌∷◌, sym, subst, ◌∙◌}
 use Rattle.std.specs.Ordering.{nat_cmp}
 use Rattle.std.specs.Cmp.{nat_cmp_total}
 use Rattle.std.specs.Map.Iter.{deref_pair}
 use Rattle.std.specs.BTreeMap.{IsOrdered}
 use Rattle.std.proofs.lemmas.Map.Iter.{rest_more, btree_map_turn}
-use Rattle.gates.specs.inner.Spans.{found, within, words_at, list_at, HasPut}
+use Rattle.gates.specs.inner.Spans.{found, words_at, list_at, HasPut}
 use Rattle.gates.proofs.Spans.{at_some, sorted_rest, all_but_rest}
 use Rattle.gates.proofs.flat_lists.closed_up.Goals as goal
 
@@ -13,7 +13,8 @@ of-requires c =
     let spans = c.args.spans.now in
     let ordered : IsOrdered nat_cmp spans = search rules in
     let start : c.into_iter-number-iterator.result ≡ spans.entries = search rules in
-    let turn = btree_map_turn deref_pair c.loop-number.yielded c.into_iter-number-iterator.result c.loop-number.number-iterator c.next.new.self c.next.result (c.in-Some.number, c.in-Some.span)
+    let turn = btree_map_turn deref_pair c.loop-number.yielded c.into_iter-number-iterator.result c.loop-number.number-iterator c.next.new.self c.next.result
+    (c.in-Some.number, c.in-Some.span)
     c.loop-number.yielded_by c.in-Some.is c.next.ensures.steps nat_cmp_total spans start ordered in
     c.requires.end c.in-Some.number.now c.in-Some.span.now turn.1
 

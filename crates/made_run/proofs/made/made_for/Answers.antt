@@ -14,7 +14,8 @@ loop-gate-init g c =
     goes-begin i c.args.own c.args.gates.now c.args.opened.now (each_of c.args.tapes)
     (record { node = c.new.result; mails = c.new-2.result; opened = c.args.opened; tapes = c.args.tapes })
     c.in_ok-tape.tape.items
-    (comes-here c.new.result i [] (c.new.ensures.left []) ∙ ap (λ t. Ends (Whole [] t.1)) c.new.ensures.tape) c.new.ensures.values c.new.ensures.tape c.new.ensures.from_previous c.new.ensures.from_next c.new.ensures.dealt
+    (comes-here c.new.result i [] (c.new.ensures.left []) ∙ ap (λ t. Ends (Whole [] t.1)) c.new.ensures.tape)
+    c.new.ensures.values c.new.ensures.tape c.new.ensures.from_previous c.new.ensures.from_next c.new.ensures.dealt
     (c.in_ok-tape.ensures ∙ c.of.ensures ∙ ap (each_of c.args.tapes) c.number.ensures) refl refl c.new-2.ensures.previous c.new-2.ensures.next
     c.requires.suit c.requires.reach
 

@@ -1,6 +1,6 @@
 use Rattle.std.proofs.Common.{◌<◌, ◌++◌, ◌∷◌, [], map, length, drop, sym, ◌∙◌, ap, arith, length-drop}
 use Rattle.std.proofs.lemmas.List.{map-append}
-use Rattle.code_turns.specs.Views.{speech_seen}
+use Rattle.miner_core.specs.TurnViews.{speech_seen}
 use Rattle.miner_core.specs.Views.{notice_seen, if_any}
 use Rattle.miner_core.proofs.Notices.{made_is}
 use Rattle.miner_core.proofs.notice.tell.Goals as goal

@@ -1,6 +1,6 @@
 use Rattle.std.proofs.Common.{◌∙◌, ap}
 use Rattle.miner_text.specs.Lines.{text_of}
-use Rattle.told_text.specs.Told.{lines_told}
+use Rattle.node_run.specs.Told.{lines_told}
 use Rattle.node_run.proofs.Joins.{if_ok_so}
 use Rattle.node_run.proofs.text.text_of.Goals as goal
 

@@ -3,7 +3,7 @@ use Rattle.secrec_ast.specs.Programs.{program_tree}
 use Rattle.program_commands.specs.Programs.{accepted}
 use Rattle.program_commands.proofs.Judged.{refusal_known, refusal_only}
 use Rattle.program_commands.proofs.OfTexts.{own_refusal, refuses_so}
-use Rattle.placed_text.proofs.Spelled.{placed_where_spelled}
+use Rattle.program_commands.proofs.Spelled.{placed_where_spelled}
 use Rattle.well_written.proofs.Grammar.{well_written}
 use Rattle.program_commands.proofs.programs.tree_of_text.Goals as goal
 

@@ -1,5 +1,5 @@
-use Rattle.bit_extract.specs.Plan.{bits_plan}
-use Rattle.bit_extract.specs.Law.{words_taken}
+use Rattle.plans.specs.BitExtract.{bits_plan}
+use Rattle.plans.specs.BitExtractLaw.{words_taken}
 use Rattle.shared_plans.specs.Plans.{bits_kinds}
 use Rattle.shared_plans.specs.GateRuns.{value_count}
 use Rattle.shared_plans.proofs.PlanRuns.{words-then, outcome}

@@ -1,5 +1,5 @@
 use Rattle.std.proofs.Common.{◌<◌, subst, sym}
-use Rattle.bit_extract.specs.Plan.{bits_plan}
+use Rattle.plans.specs.BitExtract.{bits_plan}
 use Rattle.shared_plans.proofs.KindedPlans.{bits-kinded}
 use Rattle.shared_plans.proofs.SizedPlans.{suited-sizes, bits-suited}
 use Rattle.shared_plans.proofs.laws.bits_suit.Goals as goal

@@ -1,5 +1,5 @@
-use Rattle.compare.specs.Plan.{less_plan}
-use Rattle.compare.specs.Law.{words_taken}
+use Rattle.plans.specs.Compare.{less_plan}
+use Rattle.plans.specs.CompareLaw.{words_taken}
 use Rattle.shared_plans.specs.Plans.{comparison_kinds}
 use Rattle.shared_plans.specs.GateRuns.{value_count}
 use Rattle.shared_plans.proofs.PlanRuns.{words-then, outcome}

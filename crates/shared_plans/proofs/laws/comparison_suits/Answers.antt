@@ -1,5 +1,5 @@
 use Rattle.std.proofs.Common.{◌<◌, subst, sym}
-use Rattle.compare.specs.Plan.{less_plan}
+use Rattle.plans.specs.Compare.{less_plan}
 use Rattle.shared_plans.proofs.KindedPlans.{comparison-kinded}
 use Rattle.shared_plans.proofs.SizedPlans.{suited-sizes, comparison-suited}
 use Rattle.shared_plans.proofs.laws.comparison_suits.Goals as goal

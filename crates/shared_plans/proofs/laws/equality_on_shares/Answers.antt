@@ -1,7 +1,7 @@
 use Rattle.std.proofs.Common.{◌+◌, ◌∷◌}
 use Rattle.gates.specs.declared.gate.Gate.TheVariants.{Sub}
-use Rattle.equality.specs.Plan.{eq_plan}
-use Rattle.equality.specs.Law.{words_taken}
+use Rattle.plans.specs.Equality.{eq_plan}
+use Rattle.plans.specs.EqualityLaw.{words_taken}
 use Rattle.shared_plans.specs.Plans.{equality_kinds}
 use Rattle.shared_plans.specs.GateRuns.{value_count}
 use Rattle.shared_plans.proofs.PlanRuns.{words-then, outcome}

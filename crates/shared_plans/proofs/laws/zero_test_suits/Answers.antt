@@ -1,6 +1,6 @@
 use Rattle.std.proofs.Common.{◌<◌, refl, subst, sym}
 use Rattle.gates.specs.Counts.{size_of}
-use Rattle.equality.specs.Plan.{eq_plan}
+use Rattle.plans.specs.Equality.{eq_plan}
 use Rattle.shared_plans.proofs.KindedPlans.{zero-test-kinded}
 use Rattle.shared_plans.proofs.SizedPlans.{suited-sizes, zero-test-suited}
 use Rattle.shared_plans.proofs.laws.zero_test_suits.Goals as goal

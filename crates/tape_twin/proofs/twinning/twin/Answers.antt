@@ -1,5 +1,5 @@
 use Rattle.std.proofs.Common.{◌≡◌, List, ℕ, sym, ◌∙◌, ap, subst}
-use Rattle.tape_maps.proofs.Whole.{none-says}
+use Rattle.tape_twin.proofs.Whole.{none-says}
 use Rattle.gates.specs.declared.gate.Gate.{Gate}
 use Rattle.typed_tree.specs.Programs.{typed_program_tree}
 use Rattle.clear_eval.specs.Reports.{report_seen}

@@ -1,4 +1,4 @@
-use Rattle.compare.specs.Plan.{less_plan}
+use Rattle.plans.specs.Compare.{less_plan}
 use Rattle.value_steps.specs.Views.{stage_seen}
 use Rattle.value_steps.proofs.Plans.{puts_plan}
 use Rattle.value_steps.proofs.gating.less_gates.Goals as goal

@@ -1,4 +1,4 @@
-use Rattle.equality.specs.Plan.{eq_plan}
+use Rattle.plans.specs.Equality.{eq_plan}
 use Rattle.value_steps.specs.Views.{stage_seen}
 use Rattle.value_steps.proofs.Plans.{puts_plan}
 use Rattle.value_steps.proofs.gating.zero_test.Goals as goal

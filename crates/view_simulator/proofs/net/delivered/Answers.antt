@@ -4,7 +4,7 @@ use Rattle.protocol_model.specs.Gates.{gates_script}
 use Rattle.gates.specs.Clear.{Values}
 use Rattle.shared_gates.specs.Model.{run_gates}
 use Rattle.counted_net.specs.Scripts.{AreScripts}
-use Rattle.gate_scripts.specs.Sizes.{SizesFit}
+use Rattle.view_simulator.specs.Sizes.{SizesFit}
 use Rattle.view_model.specs.Dealing.{private_shares, hidden_sizes, made_entries}
 use Rattle.view_simulator.specs.Simulating.{scripts_made}
 use Rattle.view_simulator.proofs.net.delivered.Goals as goal

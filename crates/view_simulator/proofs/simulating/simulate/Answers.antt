@@ -2,7 +2,7 @@ use Rattle.std.proofs.Common.{◌≡◌, List, [], Ok, Err, ap, ◌∙◌, sym, 
 use Rattle.typed_tree.specs.Programs.{typed_program_tree}
 use Rattle.gates.specs.declared.gate.Gate.{Gate}
 use Rattle.proto_core.specs.declared.link.Link.{Link}
-use Rattle.gate_scripts.specs.Sizes.{SizesFit}
+use Rattle.view_simulator.specs.Sizes.{SizesFit}
 use Rattle.view_model.specs.Dealing.{hidden_sizes}
 use Rattle.counted_net.specs.Answers.{delivery_seen, IsNetAnswer}
 use Rattle.view_simulator.specs.Refusals.{told_refusal, net_refusal}

@@ -5,7 +5,7 @@ use Rattle.typed_tree.specs.Programs.{typed_program_tree}
 use Rattle.value_file.specs.declared.public.PublicEntry.{PublicEntry}
 use Rattle.language_model.specs.Reports.{Report}
 use Rattle.clear_eval.specs.Reports.{IsBlindAnswer}
-use Rattle.gate_scripts.specs.Sizes.{SizesFit}
+use Rattle.view_simulator.specs.Sizes.{SizesFit}
 use Rattle.view_model.specs.Dealing.{private_shares, hidden_sizes, made_entries}
 use Rattle.view_model.specs.TapeMaps.{AreTapes}
 use Rattle.program_views.specs.Views.{lengths_of, told_run}

@@ -1,7 +1,7 @@
 use Rattle.std.proofs.Common.{◌≡◌, ◌+◌, List, [], ◌∷◌, ◌++◌, map, take, sym, ◌∙◌, ap}
 use Rattle.std.proofs.lemmas.List.{map-append, take_more}
 use Rattle.sc_text.specs.declared.elements.Element.{Element}
-use Rattle.code_views.specs.CodeViews.{shown_in}
+use Rattle.viewed_run.specs.CodeViews.{shown_in}
 use Rattle.miner_core.specs.declared.notice.Notice.{Notice}
 use Rattle.miner_core.specs.Views.{notice_seen}
 use Rattle.viewed_run.proofs.Pieces.{shown_append}

@@ -1,5 +1,5 @@
 use Rattle.std.proofs.Common.{◌≡◌, map, take}
-use Rattle.code_views.specs.CodeViews.{shown_in}
+use Rattle.viewed_run.specs.CodeViews.{shown_in}
 use Rattle.miner_core.specs.Views.{notice_seen}
 use Rattle.viewed_run.proofs.parts.openings.Given as goal
 

@@ -1,5 +1,5 @@
 use Rattle.std.proofs.Common.{◌∙◌, ap}
-use Rattle.code_views.specs.CodeViews.{shown_in}
+use Rattle.viewed_run.specs.CodeViews.{shown_in}
 use Rattle.program_views.specs.Views.{input_shares}
 use Rattle.viewed_run.proofs.Sitting.{sees_from}
 use Rattle.viewed_run.proofs.seat.view.Goals as goal

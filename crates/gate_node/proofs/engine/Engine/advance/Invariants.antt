@@ -1,5 +1,4 @@
-use Rattle.std.proofs.Common.{length}
-use Rattle.gate_node.specs.Nodes.{gates_left, DoesTheSame, IsSound, Keeps}
+use Rattle.gate_node.specs.Nodes.{to_come, DoesTheSame, IsSound, Keeps}
 use Rattle.gate_node.proofs.engine.Engine.advance.Given as goal
 
 abbrev pub invariant-loop-self : goal.invariant-loop-self
@@ -10,4 +9,4 @@ invariant-loop-self g l = record {
 }
 
 abbrev pub decreases-loop-self : goal.decreases-loop-self
-decreases-loop-self g l = length (gates_left g.P.Party.me l.self)
+decreases-loop-self g l = to_come g.P.Party.me l.self

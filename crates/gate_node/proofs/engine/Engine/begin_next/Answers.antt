@@ -1,11 +1,12 @@
 use Rattle.std.proofs.Common.{◌≡◌, ◌≤◌, ◌<◌, ◌+◌, ◌-◌, [], ◌∷◌, ◌++◌, length, drop, nat_le, true, sym, ◌∙◌, ap, subst, arith}
 use Rattle.protocol_model.specs.Gates.{sizes_of}
 use Rattle.gates.specs.Clear.{value}
-use Rattle.shared_gates.specs.LocalGates.{local_share}
+use Rattle.joint_run.specs.LocalGates.{local_share}
 use Rattle.joint_run.specs.Exchanges.{protocol_of}
 use Rattle.joint_run.specs.Steps.{second_value}
 use Rattle.block_steps.specs.Outcomes.{outcome_of}
 use Rattle.gate_node.specs.OwnGates.{can_run, own_gates}
+use Rattle.gate_node.specs.Plans.{then_wanted}
 use Rattle.gate_node.specs.Nodes.{blocks_then, first_can_run, work_left, filled}
 use Rattle.gate_node.specs.declared.engine.Work.TheVariants.{Between}
 use Rattle.gate_node.proofs.Turns.{put-to-work, sound-work, runs-alone}
@@ -19,11 +20,14 @@ returns-in-Wants-clause-wants g c =
     let gate = c.index-gate.result.now in
     λ more.
     let exactly = subst (λ k. can_run k e.dealt e.values (e.tape.1 ++ more) gate ≡ nat_le c.in-Wants.count (length more)) c.number.ensures
-    (subst (λ t. can_run c.number.result e.dealt e.values (t ++ more) gate ≡ nat_le c.in-Wants.count (length more)) c.left.ensures (c.in-Wants.ensures.1 more)) in
+    (subst (λ t. can_run c.number.result e.dealt e.values (t ++ more) gate ≡ nat_le c.in-Wants.count (length more)) c.left.ensures
+    (c.in-Wants.ensures.1 more)) in
     record {
       some = c.in-Wants.ensures.0;
       idle = c.requires.idle;
-      exactly = ap (first_can_run i e.dealt e.values (e.tape.1 ++ more)) (drop-front e.begun e.gates.items gate c.requires.more (sym c.index-gate.ensures)) ∙ exactly;
+      exactly =
+          ap (first_can_run i e.dealt e.values (e.tape.1 ++ more)) (drop-front e.begun e.gates.items gate c.requires.more (sym c.index-gate.ensures))
+          ∙ exactly;
     }
 
 pub returns-in_ok-push-in-Alone-clause-same : goal.returns-in_ok-push-in-Alone-clause-same
@@ -55,12 +59,13 @@ returns-in-Together-clause-same g c =
     λ more.
     put-to-work i (filled (record e { begun = e.begun + 1; work = c.put-in-Together.new.place }) more)
     (Between (record { gate = x; begun = 0; made = c.new-made.result })) c.put-in-Together.ensures
-    ∙ sym (ap (λ w. outcome_of i e.links (work_left i (filled e more) w)) c.requires.idle
-    ∙ ap (λ l. outcome_of i e.links (own_gates i e.dealt l e.values (e.tape.1 ++ more))) (drop-front e.begun e.gates.items gate some (sym c.index-gate.ensures))
-    ∙ ap (outcome_of i e.links) (gate-begins i e.dealt e.values (e.tape.1 ++ more) gate rest x c.in-Together.ensures.1 (can-more i e.dealt e.values e.tape.1 gate can more))
-    ∙ ap (λ m. outcome_of i e.links
-    (blocks_then p i 0 (value e.values x.u) (second_value e.values x.v) (e.tape.1 ++ more) m (λ made left. own_gates i e.dealt rest (e.values ++ made) left)))
-    (sym c.new-made.ensures))
+    ∙ ap (λ s. outcome_of i e.links (then_wanted i e.dealt e.wanted s))
+    (sym (ap (work_left i (filled e more)) c.requires.idle
+    ∙ ap (λ l. own_gates i e.dealt l e.values (e.tape.1 ++ more)) (drop-front e.begun e.gates.items gate some (sym c.index-gate.ensures))
+    ∙ gate-begins i e.dealt e.values (e.tape.1 ++ more) gate rest x c.in-Together.ensures.1 (can-more i e.dealt e.values e.tape.1 gate can more)
+    ∙ ap (λ m.
+    blocks_then p i 0 (value e.values x.u) (second_value e.values x.v) (e.tape.1 ++ more) m (λ made left. own_gates i e.dealt rest (e.values ++ made) left))
+    (sym c.new-made.ensures)))
 
 pub returns-in-Together-clause-sound : goal.returns-in-Together-clause-sound
 returns-in-Together-clause-sound g c =

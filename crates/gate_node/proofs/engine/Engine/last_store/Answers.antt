@@ -2,7 +2,7 @@ use Rattle.std.proofs.Common.{◌≡◌, ◌+◌, ◌↔◌, IsTrue, length, get
 use Rattle.protocol_model.specs.Gates.{sizes_of}
 use Rattle.gates.specs.declared.gate.Gate.TheVariants.{Put}
 use Rattle.gates.specs.Clear.{value, first_word}
-use Rattle.shared_gates.specs.Model.{SizesSuit}
+use Rattle.joint_run.specs.Model.{SizesSuit}
 use Rattle.gate_node.proofs.Storing.{stores-last}
 use Rattle.gate_node.proofs.engine.Engine.last_store.Goals as goal
 
@@ -16,6 +16,7 @@ returns-else-not-suits g c =
     record {
       stores =
           stores-last g.P.Party.me e c.args.array c.in-Put.index c.in-Put.element (slice_index_or c.value.result.now 0 0) c.suits.result
-          (c.is_idle.ensures.idle c.if-not-is_idle.false) last (subst (λ x. get_or e.gates.items e.begun x ≡ x) is (sym c.index-gate.ensures))
+          (c.is_idle.ensures.idle c.if-not-is_idle.false) (c.is_all.ensures.all c.if-not-is_all.false) last
+          (subst (λ x. get_or e.gates.items e.begun x ≡ x) is (sym c.index-gate.ensures))
           (subst (λ x. IsTrue c.suits.result ↔ SizesSuit (sizes_of e.dealt) (sizes_of e.values) x) is c.suits.ensures) c.if-not-suits.false word;
     }

@@ -1,5 +1,5 @@
 use Rattle.std.proofs.Common.{◌≡◌, true, [], ◌∷◌, ◌++◌, refl, sym, ◌∙◌, ap, subst}
-use Rattle.shared_gates.specs.LocalGates.{local_share}
+use Rattle.joint_run.specs.LocalGates.{local_share}
 use Rattle.gate_node.specs.OwnGates.{can_run}
 use Rattle.gate_node.proofs.Turns.{runs-alone}
 use Rattle.gate_node.proofs.engine.Engine.run_alone.Goals as goal

@@ -1,9 +1,8 @@
-use Rattle.std.proofs.Common.{rules, ◌≡◌, ◌≢◌, ℕ, ◌+◌, ◌≤◌, ◌<◌, List, length, Some, None, sym, ap, subst, ◌∙◌, arith}
+use Rattle.std.proofs.Common.{rules, ◌≡◌, ◌≢◌, ℕ, ◌+◌, ◌<◌, length, Some, None, sym, ap, subst, ◌∙◌, arith}
 use Rattle.std.specs.Prelude.{set}
 use Rattle.std.proofs.lemmas.Grind.{common_steps}
 use Rattle.std.proofs.lemmas.List.{length-set}
-use Rattle.gates.specs.declared.span.Span.{Span}
-use Rattle.gates.specs.inner.Spans.{found, words_at, list_at, AreSpans, live_words, HasMoved}
+use Rattle.gates.specs.inner.Spans.{found, words_at, list_at, live_words, HasMoved}
 use Rattle.gates.proofs.Spans.{at_some, length-within, moved_has, moved_spans, nothing_there, live_put, live_removed}
 use Rattle.gates.proofs.flat_lists.FlatLists.move_with.Goals as goal
 

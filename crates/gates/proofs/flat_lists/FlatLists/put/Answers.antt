@@ -1,4 +1,4 @@
-use Rattle.std.proofs.Common.{rules, ◌≡◌, ◌≢◌, ℕ, ◌+◌, ◌≤◌, List, ◌++◌, length, Some, OnErr, sym, ap, subst, ◌∙◌, arith, length-append}
+use Rattle.std.proofs.Common.{rules, ◌≡◌, ◌≢◌, ℕ, ◌+◌, ◌++◌, length, Some, sym, ap, subst, ◌∙◌, arith, length-append}
 use Rattle.std.proofs.lemmas.Grind.{common_steps}
 use Rattle.gates.specs.declared.span.Span.{Span}
 use Rattle.gates.specs.inner.Spans.{found, words_at, list_at, AreSpans, live_words, HasPut}
@@ -13,7 +13,8 @@ invariant_of-self-in_err-insert c =
     let now = c.extend_from_slice.new.self.items in
     let grown : now ≡ before ++ more = search rules in
     let same : c.insert.new.self.entries ≡ es = search rules in (
-      subst (λ fs. AreSpans now (found fs)) (sym same) (subst (λ ws. AreSpans ws (found es)) (sym grown) (spans_more before more (found es) c.self.invariant.0)),
+      subst (λ fs. AreSpans now (found fs)) (sym same)
+          (subst (λ ws. AreSpans ws (found es)) (sym grown) (spans_more before more (found es) c.self.invariant.0)),
       c.self.invariant.1 ∙ ap live_words (sym same),
       omega (arith, c.self.invariant.2, ap length grown, length-append before more),
     )

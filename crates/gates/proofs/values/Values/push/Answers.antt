@@ -1,5 +1,5 @@
-use Rattle.std.proofs.Common.{◌≡◌, ℕ, ◌<◌, ◌≤◌, ◌+◌, ◌++◌, ◌∷◌, [], rules, arith, ap, ◌∙◌}
-use Rattle.gates.specs.Held.{first_values, NothingFrom}
+use Rattle.std.proofs.Common.{◌≡◌, ◌+◌, ◌++◌, ◌∷◌, [], rules, arith, ap, ◌∙◌}
+use Rattle.gates.specs.Held.{first_values}
 use Rattle.gates.specs.inner.Spans.{list_at}
 use Rattle.gates.proofs.Held.{first_push, first_same}
 use Rattle.gates.proofs.values.Values.push.Goals as goal

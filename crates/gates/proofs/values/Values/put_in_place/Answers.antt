@@ -1,7 +1,7 @@
-use Rattle.std.proofs.Common.{◌≡◌, ◌≢◌, ℕ, ◌<◌, ◌≤◌, ◌+◌, ◌++◌, ◌∷◌, [], length, rules, arith, ap, sym, ◌∙◌}
+use Rattle.std.proofs.Common.{◌≡◌, ◌≤◌, ◌+◌, ◌++◌, ◌∷◌, [], length, rules, arith, ap, sym, ◌∙◌}
 use Rattle.std.specs.Prelude.{set}
 use Rattle.gates.specs.Clear.{value}
-use Rattle.gates.specs.Held.{first_values, NothingFrom}
+use Rattle.gates.specs.Held.{first_values}
 use Rattle.gates.specs.inner.Spans.{list_at}
 use Rattle.gates.proofs.Held.{first_moved, first_same, value_held}
 use Rattle.gates.proofs.values.Values.put_in_place.Goals as goal

@@ -32,4 +32,5 @@ returns-in-Three g c =
     let m = c.args.self.now in
     let after : Miners = record { one = m.one; two = m.two; three = c.give-in-Three.new.miner } in
     comes_to c.args.link c.args.message.now m after (g.T.TapeSource.state c.args.tapes.now) (g.T.TapeSource.state c.give-in-Three.new.tapes)
-    c.requires.going c.requires.left Three (sym c.receiver.ensures ∙ c.in-Three.is) (other_three m c.give-in-Three.new.miner) c.give-in-Three.result c.give-in-Three.ensures
+    c.requires.going c.requires.left Three (sym c.receiver.ensures ∙ c.in-Three.is) (other_three m c.give-in-Three.new.miner)
+    c.give-in-Three.result c.give-in-Three.ensures

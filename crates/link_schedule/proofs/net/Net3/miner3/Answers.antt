@@ -1,6 +1,6 @@
 use Rattle.proto_core.specs.declared.party.Number.TheVariants.{Three}
-use Rattle.link_schedule.proofs.Giving.{miner_at}
+use Rattle.link_schedule.proofs.Giving.{held, miner_at}
 use Rattle.link_schedule.proofs.net.Net3.miner3.Goals as goal
 
 pub returns : goal.returns
-returns c = λ going. miner_at c.args.self.now c.self.inside c.self.view_is c.self.invariant going Three
+returns c = λ going. miner_at c.args.self.now (held c.self.inside) c.self.view_is c.self.invariant going Three

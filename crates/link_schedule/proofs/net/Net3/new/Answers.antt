@@ -1,4 +1,5 @@
 use Rattle.std.proofs.Common.{sym, subst}
+use Rattle.counted_net.specs.Cursors.{tally_on}
 use Rattle.link_schedule.specs.declared.miners.Miners.{Miners}
 use Rattle.link_schedule.specs.Coming.{AreNet}
 use Rattle.link_schedule.proofs.Giving.{fresh_net}
@@ -10,5 +11,5 @@ invariant_of-result c =
     let m : Miners = record { one = c.args.miner1; two = c.args.miner2; three = c.args.miner3 } in
     let alike = c.requires.alike in
     let fresh = c.requires.fresh in
-    subst (λ ls. AreNet m ls c.new.result) (sym c.new-2.ensures.items)
-    (fresh_net m alike.0 alike.1 fresh.0 fresh.1 fresh.2 c.new.result c.new.ensures)
+    subst (λ ls. AreNet m ls (tally_on c.new.result)) (sym c.new-2.ensures.items)
+    (fresh_net m alike.0 alike.1 fresh.0 fresh.1 fresh.2 (tally_on c.new.result) c.new.ensures)

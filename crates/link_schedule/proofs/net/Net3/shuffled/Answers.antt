@@ -56,7 +56,8 @@ returns-in_err-deliver_full-clause-made g c = λ going.
     let p = err_from_is_err_and c.from_residual.result c.from_residual.ensures.1 in
     rw (p.1, p.2)
     (lost_on c.args.self.now c.loop-link.self c.deliver_full.new.self (state c.args.tapes.now) (state c.loop-link.tapes) (state c.deliver_full.new.tapes)
-    (Shuffling c.args.seed c.loop-link.words) (Delivered c.in-Some-chosen.link (Err why)) (λ x y. OnOk {T = Unit {0}} (Err why) (Makes (stream_word c.args.seed 4) x y)) why
+    (Shuffling c.args.seed c.loop-link.words) (Delivered c.in-Some-chosen.link (Err why))
+    (λ x y. OnOk {T = Unit {0}} (Err why) (Makes (stream_word c.args.seed 4) x y)) why
     c.loop-link.invariant c.in_err-deliver_full.ensures (λ x y. tt))
 
 pub returns-clause-made : goal.returns-clause-made

@@ -8,4 +8,4 @@ returns g c = λ going.
     let i = g.P.Party.me in
     let m = c.self.inside.inner in
     subst (λ s. c.drawn.result ≡ drawn_in i s) c.self.view_is
-    (at_whole m (λ s. c.drawn.result ≡ drawn_in i s) c.self.invariant c.drawn.ensures (ap (λ (s : Story). s.lost) c.self.view_is ∙ going))
+    (at_whole m (λ s. c.drawn.result ≡ drawn_in i s) c.self.invariant c.drawn.ensures.tapes (ap (λ (s : Story). s.lost) c.self.view_is ∙ going))

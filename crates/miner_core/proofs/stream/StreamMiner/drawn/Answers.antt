@@ -1,24 +1,36 @@
 use Rattle.std.proofs.Common.{◌≡◌, sym, ◌∙◌, ap, subst}
-use Rattle.code_turns.specs.Dealt.{drawn_by}
+use Rattle.own_code.specs.Dealt.{drawn_by}
 use Rattle.shared_gates.specs.Model.{miner_of}
 use Rattle.value_steps.specs.Views.{drawn_seen}
-use Rattle.miner_core.specs.Drawing.{whole}
 use Rattle.miner_core.specs.Engines.{if_ended}
-use Rattle.miner_core.specs.Story.{drawn_in, story_of}
-use Rattle.miner_core.specs.Streams.{ForEachTape}
-use Rattle.miner_core.proofs.Stops.{drawn_is}
-use Rattle.miner_core.proofs.Streaming.{at_tape}
+use Rattle.miner_core.specs.Past.{no_past}
+use Rattle.miner_core.specs.Story.{drawn_in}
+use Rattle.miner_core.specs.Streams.{ForEachTape, ForWordsDrawn}
+use Rattle.miner_core.proofs.Streaming.{seen, stops_at, stops_drawn}
 use Rattle.miner_core.proofs.stream.StreamMiner.drawn.Goals as goal
 
-pub returns : goal.returns
-returns g c =
+pub returns-clause-tapes : goal.returns-clause-tapes
+returns-clause-tapes g c =
     let i = g.P.Party.me in
     let m = c.self.inside in
     let n = c.if_ended.result in
     subst (λ v. ForEachTape v (λ s. n ≡ drawn_in i s)) c.self.view_is
-    (at_tape i m.engine m.rest m.budget m.ahead m.lost (λ s. n ≡ drawn_in i s) c.self.invariant
-    (λ tape f rests.
+    (stops_at i no_past m.engine m.rest (seen m.engine m.budget m.ahead m.lost) c.self.invariant (λ s. n ≡ drawn_in i s)
+    (λ s ending cost drawn.
     c.if_ended.ensures
     ∙ ap (if_ended c.ending.result) (c.drawn_of.ensures ∙ ap (λ k. drawn_by (drawn_seen m.engine.stage.drawn) (miner_of k)) c.number.ensures)
     ∙ ap (λ o. if_ended o (drawn_by (drawn_seen m.engine.stage.drawn) (miner_of i))) c.ending.ensures
-    ∙ sym (drawn_is i (whole m.engine tape) m.rest (record (story_of m.engine m.budget) { tape = tape }) f rests)))
+    ∙ sym drawn))
+
+pub returns-clause-alone : goal.returns-clause-alone
+returns-clause-alone g c =
+    let i = g.P.Party.me in
+    let m = c.self.inside in
+    let n = c.if_ended.result in
+    subst (λ v. ForWordsDrawn v (λ s. n ≡ drawn_in i s)) c.self.view_is
+    (stops_drawn i no_past m.engine m.rest (seen m.engine m.budget m.ahead m.lost) c.self.invariant (λ s. n ≡ drawn_in i s)
+    (λ s ending cost drawn.
+    c.if_ended.ensures
+    ∙ ap (if_ended c.ending.result) (c.drawn_of.ensures ∙ ap (λ k. drawn_by (drawn_seen m.engine.stage.drawn) (miner_of k)) c.number.ensures)
+    ∙ ap (λ o. if_ended o (drawn_by (drawn_seen m.engine.stage.drawn) (miner_of i))) c.ending.ensures
+    ∙ sym drawn))

@@ -1,10 +1,9 @@
 use Rattle.std.proofs.Common.{◌≡◌, ◌∙◌, ap, subst}
-use Rattle.block_steps.specs.Outcomes.{Outcome}
 use Rattle.block_steps.specs.declared.links.Links.{Links}
-use Rattle.own_code.specs.OwnCode.{Ended}
+use Rattle.miner_core.specs.Past.{no_past}
 use Rattle.miner_core.specs.Story.{sent_to_next}
 use Rattle.miner_core.specs.Streams.{ForEachTape}
-use Rattle.miner_core.proofs.Streaming.{at_tape}
+use Rattle.miner_core.proofs.Streaming.{seen, next_at}
 use Rattle.miner_core.proofs.stream.StreamMiner.sent_to_next.Goals as goal
 
 pub returns : goal.returns
@@ -13,5 +12,5 @@ returns g c =
     let m = c.self.inside in
     let sent = c.to_next.ensures ∙ ap (λ (l : Links). l.to_next) c.links.ensures in
     subst (λ v. ForEachTape v (λ s. c.to_next.result.now ≡ sent_to_next i s)) c.self.view_is
-    (at_tape i m.engine m.rest m.budget m.ahead m.lost (λ s. c.to_next.result.now ≡ sent_to_next i s) c.self.invariant
-    (λ tape f rests. sent ∙ ap (λ (o : Outcome Ended). o.to_next) f.same))
+    (λ going tape of.
+    sent ∙ next_at i no_past m.engine m.rest (seen m.engine m.budget m.ahead m.lost) c.self.invariant going tape of)

@@ -1,5 +1,0 @@
-use Rattle.ending_laws.proofs.Programs.{programs_end}
-use Rattle.ending_laws.proofs.laws.ends_can_be_written.Goals as goal
-
-pub returns : goal.returns
-returns c = programs_end

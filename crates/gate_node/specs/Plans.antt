@@ -1,0 +1,47 @@
+-- Plans: gates behind which the values of some numbers alone are wanted.
+use Rattle.std.specs.Prelude.{◌≡◌, ℕ, ◌+◌, Bool, false, ◌&&◌, ◌||◌, nat_le, List, [], ◌∷◌, length}
+use Rattle.std.specs.Ordering.{nat_cmp}
+use Rattle.std.specs.BTreeSet.{BTreeSet, contains}
+use Rattle.proto_core.specs.declared.party.Number.{Number}
+use Rattle.proto_core.specs.Strand.{Strand, then_do}
+use Rattle.gates.specs.declared.gate.Gate.{Gate}
+use Rattle.gates.specs.Clear.{Values}
+use Rattle.gates.specs.Held.{kept_only}
+use Rattle.gates.specs.Taken.{operands, is_among, first_size}
+use Rattle.gate_node.specs.declared.wanted.Wanted.{Wanted}
+use Rattle.gate_node.specs.declared.wanted.Wanted.TheVariants as wanted
+use Rattle.gate_node.specs.OwnGates.{Halted, Whole, Stuck, then_gates}
+
+-- ---- what is wanted
+
+-- an end with the values of these numbers alone
+abbrev pub with_these : BTreeSet ℕ → Halted → Halted
+with_these numbers (Whole values tape) = Whole (kept_only numbers values) tape
+with_these numbers Stuck = Stuck
+
+-- where this is left of the gates, all that is left: behind a plan the values that are wanted, and then the later gates
+abbrev pub then_wanted : Number → (dealt : Values) → Wanted → Strand Halted → Strand Halted
+then_wanted i dealt wanted.All left = left
+then_wanted i dealt (wanted.These numbers later) left = then_do left (λ h. then_gates i dealt later.items (with_these numbers h))
+
+-- how much comes behind the gates: the end of a plan, and the later gates
+abbrev pub later_count : Wanted → ℕ
+later_count wanted.All = 0
+later_count (wanted.These numbers later) = length later.items + 1
+
+-- a value of this number is not wanted
+abbrev pub IsUnwanted : ℕ → Wanted → Type 0
+IsUnwanted k wanted.All = ⊥
+IsUnwanted k (wanted.These numbers later) = contains nat_cmp numbers k ≡ false
+
+-- ---- what gates take
+
+-- whether one of these gates takes the value of a number
+abbrev pub any_takes : ℕ → List Gate → Bool
+any_takes k [] = false
+any_takes k (gate ∷ gates) = is_among k (operands gate) || any_takes k gates
+
+-- there are many gates, and the first takes a large value
+abbrev pub is_large_plan : Values → List Gate → Bool
+is_large_plan values [] = false
+is_large_plan values (gate ∷ gates) = nat_le 8 (length (gate ∷ gates)) && nat_le 256 (first_size values (operands gate))

@@ -1,3 +1,0 @@
-pub mod Digests
-pub mod Honest
-pub mod Hellos

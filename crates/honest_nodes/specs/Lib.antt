@@ -1,2 +1,0 @@
-pub mod Honest
-pub use Rattle.node_run.specs.Nodes

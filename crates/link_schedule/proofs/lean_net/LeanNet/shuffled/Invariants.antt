@@ -1,0 +1,13 @@
+use Rattle.std.proofs.Common.{◌-◌, ◌^◌, length}
+use Rattle.std.specs.Prelude.{None}
+use Rattle.link_schedule.specs.Lean.{ForEachState, LeanAlong}
+use Rattle.link_schedule.proofs.Making.{Shuffling}
+use Rattle.link_schedule.proofs.lean_net.LeanNet.shuffled.Given as goal
+
+abbrev pub invariant-loop-link : goal.invariant-loop-link
+invariant-loop-link g l =
+    ForEachState l.fn.self (g.T.TapeSource.state l.fn.tapes)
+    (λ s. LeanAlong s l.self (g.T.TapeSource.state l.fn.tapes) (g.T.TapeSource.state l.tapes) None (Shuffling l.fn.seed l.words))
+
+abbrev pub decreases-loop-link : goal.decreases-loop-link
+decreases-loop-link g l = 2 ^ 63 - length l.self.recorded.items

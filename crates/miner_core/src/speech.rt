@@ -1,0 +1,46 @@
+// What a step tells the client.
+ghost use Rattle.std.specs.Prelude.{◌≡◌, ℕ, List, IfOk};
+ghost use Rattle.own_code.specs.Places.{told_by, next_step};
+ghost use Rattle.code_machine.specs.Views.{machine_seen};
+ghost use Rattle.miner_core.specs.TurnViews.{speech_seen};
+
+use code_machine::{Machine, name_in};
+use sc_text::Name;
+use std::alloc::{AllocError, Global};
+use typed_tree::Shape;
+use value_steps::Value;
+use verified_code::{Step, Verified};
+
+/// What a step tells the client, where it makes an event.
+pub enum Speech {
+    /// It tells nothing.
+    Nothing,
+    /// The words that it has opened, of a value of this shape.
+    Opens(Shape),
+    /// A value, under a name.
+    Gives(Name, Value),
+}
+
+// Written out, so that an early exit calls this once.
+impl Drop for Speech {
+    fn drop(self) {
+        match self {
+            Speech::Nothing | Speech::Opens(_) | Speech::Gives(_, _) => {}
+        }
+    }
+}
+
+/// What the next step of a machine tells.
+pub fn next_speech(alloc: Global, code: &Verified, machine: &Machine) -> Result<Speech, AllocError>
+    ensures { IfOk result (λ speech. (opened last : List ℕ) → speech_seen speech opened last
+        ≡ told_by (next_step (machine_seen code.now machine.now)) (machine_seen code.now machine.now) opened last) }
+{
+    match machine.next_step(code) {
+        Some(Step::Declassify { source, .. }) => Ok(Speech::Opens(machine.shape_in(source))),
+        Some(Step::Publish { text, source }) => {
+            let name = name_in(alloc, text)?;
+            Ok(Speech::Gives(name, machine.value_in(alloc, source)?))
+        }
+        _ => Ok(Speech::Nothing),
+    }
+}

@@ -1,8 +1,0 @@
-use Rattle.std.proofs.Common.{◌≡◌, ◌≤◌, ◌+◌}
-use Rattle.proto_core.specs.Lists.{at}
-use Rattle.proto_core.proofs.Edits.{edited}
-use Rattle.multiply.proofs.arithmetic.add_field.Given as goal
-
-abbrev pub invariant-loop-at : goal.invariant-loop-at
-invariant-loop-at g l =
-    (l.at ≤ l.n) × (l.x ≡ edited l.at (λ k. g.R.ShareRing.ring.add (at l.fn.x k) (at l.words (l.from + k))) l.fn.x)

@@ -1,0 +1,4 @@
+pub mod Waiting
+pub mod Nets
+pub mod Orders
+pub mod OneNet

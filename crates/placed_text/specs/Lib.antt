@@ -1,2 +1,0 @@
-pub mod Laws
-pub use Rattle.writable_code.specs.Sources

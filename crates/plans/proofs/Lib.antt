@@ -1,0 +1,3 @@
+pub mod EqualityLaws
+pub mod BitExtractLaws
+pub mod CompareLaws

@@ -1,0 +1,14 @@
+pub mod Equality
+pub mod EqualityLaw
+pub mod EqualityVectors
+pub mod BitExtract
+pub mod BitExtractLaw
+pub mod BitExtractVectors
+pub mod Compare
+pub mod CompareLaw
+pub mod CompareVectors
+pub use Rattle.gates.specs.Clear
+pub use Rattle.gates.specs.Counts
+pub use Rattle.gates.specs.Rings
+pub use Rattle.gates.specs.declared.gate.Gate
+pub use Rattle.gates.specs.declared.ring_kind.RingKind

@@ -1,0 +1,148 @@
+// The gates that compare two words by their bits, in blocks that double.
+ghost use Rattle.std.specs.Prelude.{◌≡◌, ◌+◌, ◌≤◌, ◌^◌, ◌++◌, OnOk, IfOk};
+ghost use Rattle.plans.specs.Compare.{less_plan, order_start, order_step};
+ghost use Rattle.plans.specs.CompareLaw.{TellsLess, TakesWords};
+
+use crate::bit_extract;
+use gates::Gate;
+use std::alloc::{AllocError, Global};
+
+/// How many bits a block has before it is joined with the one above it.
+const WIDTHS: [u64; 6] = [1, 2, 4, 8, 16, 32];
+
+/// The gates that tell of each single bit whether it is less in the first word, and whether it is the same in both. They make
+/// the values `first + 55` to `first + 60`, of the bits of all words, which stand in the value `first + 54`.
+#[tactic(auto, using(crate::proofs::CompareLaws::pushes))]
+fn push_start(gates: &mut Vec<Gate>, first: u64, n: u64) -> Result<(), AllocError>
+    requires { first + 110 ≤ 2 ^ 64 }
+    ensures { OnOk result (gates.new.items ≡ gates.old.items ++ order_start first n) }
+{
+    gates.push(Gate::Part {
+        operand: first + 54,
+        from: 0,
+        count: n,
+    })?;
+    gates.push(Gate::Part {
+        operand: first + 54,
+        from: n,
+        count: n,
+    })?;
+    gates.push(Gate::Not {
+        operand: first + 55,
+    })?;
+    gates.push(Gate::And {
+        left: first + 56,
+        right: first + 57,
+    })?;
+    gates.push(Gate::Xor {
+        left: first + 55,
+        right: first + 56,
+    })?;
+    gates.push(Gate::Not {
+        operand: first + 59,
+    })?;
+    Ok(())
+}
+
+/// The gates that join each block of `width` bits with the one above it, in both values at once: `less` tells whether the block
+/// that begins at a bit is less in the first word, `same` whether it is the same in both. They make the values from number
+/// `next` on; the new two are those of number `next + 6` and `next + 7`.
+#[tactic(auto, using(crate::proofs::CompareLaws::pushes))]
+fn push_step(
+    gates: &mut Vec<Gate>,
+    n: u64,
+    next: u64,
+    less: u64,
+    same: u64,
+    width: u64,
+) -> Result<(), AllocError>
+    requires { next + 8 ≤ 2 ^ 64 }
+    ensures { OnOk result (gates.new.items ≡ gates.old.items ++ order_step n next less same width) }
+{
+    gates.push(Gate::Shr {
+        operand: same,
+        count: width,
+    })?;
+    gates.push(Gate::Shr {
+        operand: less,
+        count: width,
+    })?;
+    gates.push(Gate::Cat {
+        left: next,
+        right: next,
+    })?;
+    gates.push(Gate::Cat {
+        left: less,
+        right: same,
+    })?;
+    gates.push(Gate::And {
+        left: next + 2,
+        right: next + 3,
+    })?;
+    gates.push(Gate::Part {
+        operand: next + 4,
+        from: 0,
+        count: n,
+    })?;
+    gates.push(Gate::Xor {
+        left: next + 1,
+        right: next + 5,
+    })?;
+    gates.push(Gate::Part {
+        operand: next + 4,
+        from: n,
+        count: n,
+    })?;
+    Ok(())
+}
+
+/// The gates of the plan.
+fn gates_of(
+    alloc: Global,
+    first: u64,
+    left: u64,
+    right: u64,
+    n: u64,
+) -> Result<Vec<Gate>, AllocError>
+    requires numbers { first + 110 ≤ 2 ^ 64 }
+    requires elements { n ≤ 1048576 }
+    ensures { IfOk result (λ gates. gates.items ≡ less_plan first left right n) }
+{
+    let mut gates = Vec::new(alloc);
+    gates.push(Gate::Cat { left, right })?;
+    let mut bits = bit_extract::plan(alloc, first + 1, first, 2 * n)?;
+    gates.append(&mut bits)?;
+    push_start(&mut gates, first, n)?;
+    let mut less = first + 58;
+    let mut same = first + 60;
+    let mut next = first + 61;
+    for width in WIDTHS {
+        push_step(&mut gates, n, next, less, same, width)?;
+        less = next + 6;
+        same = next + 7;
+        next += 8;
+    }
+    gates.push(Gate::Low { operand: less })?;
+    Ok(gates)
+}
+
+/// The gates that tell of each two of `n` shared numbers whether the first is less. `left` and `right` are the numbers of the
+/// values with the first and the second ones; the gates make the values from number `first` on.
+///
+/// The last value has 1 exactly where the first number is less than the second, as numbers below 2^64, else 0: the bits of all
+/// numbers are extracted at once, and then compared in blocks that double. Memory is the only error.
+pub fn plan(
+    alloc: Global,
+    first: u64,
+    left: u64,
+    right: u64,
+    n: u64,
+) -> Result<Vec<Gate>, AllocError>
+    requires numbers { first + 110 ≤ 2 ^ 64 }
+    requires elements { n ≤ 1048576 }
+    ensures gates { IfOk result (λ gates. gates.items ≡ less_plan first left right n) }
+    ensures less { IfOk result (λ gates. TellsLess first left right n gates.items) }
+    ensures words { IfOk result (λ gates. TakesWords first left right n gates.items) }
+{
+    gates_of(alloc, first, left, right, n)
+}

@@ -1,4 +1,0 @@
-pub mod Limits
-pub mod Refusals
-pub mod Answer
-pub mod Vectors

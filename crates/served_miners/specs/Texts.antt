@@ -1,0 +1,19 @@
+-- The texts that three miners write of one run.
+use Rattle.std.specs.Prelude.{◌≡◌, List, Some, Ok}
+use Rattle.sc_text.specs.declared.end.End.{End}
+use Rattle.sc_text.specs.declared.event.Event.{Event}
+use Rattle.sc_text.specs.Event.{run_text}
+use Rattle.proto_core.specs.declared.party.Number.{Number}
+use Rattle.proto_core.specs.Strand.{Notice}
+use Rattle.code_runs.specs.Telling.{Tells}
+use Rattle.miner_text.specs.Lines.{text_of}
+use Rattle.miner_text.specs.Texts.{IsText}
+use Rattle.node_run.specs.Told.{lines_told}
+use Rattle.trio.specs.Answers.{join_of}
+
+-- where each miner's names are names, and its words of 64 bits, as those of every miner are
+abbrev pub TextsOfARunAreItsText : Type 0
+TextsOfARunAreItsText =
+    (events : List Event) (notices : Number → List Notice) (end : End) → Tells events notices
+    → ((i : Number) → IsText (lines_told (notices i) end))
+    → join_of (λ i. Some (text_of (lines_told (notices i) end))) ≡ Ok (record { text = run_text events end; end = end })

@@ -1,2 +1,0 @@
-pub mod SimulatePlanned
-pub use Rattle.view_simulator.proofs.Runs

@@ -1,2 +1,0 @@
-mod DealerWords
-pub mod Whole

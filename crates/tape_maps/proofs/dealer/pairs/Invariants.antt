@@ -1,6 +1,0 @@
-use Rattle.std.proofs.Common.{◌≡◌, ◌++◌, drop}
-use Rattle.tape_maps.specs.Pairs.{pairs}
-use Rattle.tape_maps.proofs.dealer.pairs.Given as goal
-
-abbrev pub invariant-loop-k : goal.invariant-loop-k
-invariant-loop-k l = l.words.items ++ pairs (drop l.k l.third) (drop l.k l.second) ≡ pairs l.third l.second

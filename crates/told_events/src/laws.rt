@@ -1,8 +1,0 @@
-// What the client makes of what three miners tell.
-ghost use Rattle.told_events.specs.Laws.{ToldTogetherAreTheEvents};
-
-/// Law: where what three miners tell stands beside events, the client who puts their notices together is told these events: shares of
-/// numbers are added up, and of truth values bit 0 is taken of the three xored.
-pub fn told_together_are_the_events()
-    ensures { ToldTogetherAreTheEvents }
-{}

@@ -1,0 +1,12 @@
+// How an evaluation ends.
+ghost use Rattle.std.specs.Prelude.{ℕ, List};
+ghost use Rattle.secrec_ast.specs.Programs.{ProgramTree};
+ghost use Rattle.language_model.specs.Effects.{World};
+ghost use Rattle.view_laws.specs.Ends.{EndsCanBeWritten};
+
+/// Law: where an accepted program within the limits of size is evaluated with a budget and tapes of 64 bits, in the clear or by one who
+/// is told what is opened, it ends so that this can be written: a trap is at a line of 32 bits, and a tape that ends lacks fewer than
+/// 2^128 words of fewer than 2^64.
+pub fn ends_can_be_written()
+    ensures { (source : ProgramTree) (w : World) (budget : ℕ) (answers : List ℕ) → EndsCanBeWritten source w budget answers }
+{}

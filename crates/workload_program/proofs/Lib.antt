@@ -1,3 +1,0 @@
-mod Tokens
-mod Spelled
-pub mod Runnable

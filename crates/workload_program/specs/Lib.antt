@@ -1,2 +1,0 @@
-pub mod LoadTree
-pub mod Runnable
