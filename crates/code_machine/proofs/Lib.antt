@@ -6,3 +6,4 @@ pub mod Callers
 pub mod Worth
 pub mod Gains
 pub mod Naming
+pub mod OneWord

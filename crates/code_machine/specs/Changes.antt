@@ -1,5 +1,5 @@
 -- What a step changes of a machine.
-use Rattle.std.specs.Prelude.{ℕ, ◌<◌, ◌≤◌, List, [], ◌∷◌, length, Option, Some, None, Result, Ok, Err}
+use Rattle.std.specs.Prelude.{◌≡◌, ℕ, ◌<◌, ◌≤◌, List, [], ◌∷◌, length, Option, Some, None, Result, Ok, Err}
 use Rattle.std.specs.List.{slice_get}
 use Rattle.language_model.specs.Values.{Value, size}
 use Rattle.language_model.specs.Effects.{Effect}
@@ -15,7 +15,7 @@ use Rattle.value_steps.specs.Views.{value_seen, written}
 use Rattle.code_machine.specs.declared.machine.Machine as running
 use Rattle.code_machine.specs.declared.change.Change.{Change}
 use Rattle.code_machine.specs.declared.change.Change.TheVariants as change
-use Rattle.code_machine.specs.Views.{registers_seen}
+use Rattle.code_machine.specs.Views.{machine_seen, registers_seen}
 use Rattle.code_machine.specs.Standing.{HasAny, kinds_at}
 
 -- the value of a register, or another where none is named
@@ -55,6 +55,12 @@ HasEnough code (change.Element a e) = Unit {0}
 HasEnough code (change.Place place) = Unit {0}
 HasEnough code (change.Enter g d vs) = length (kinds_at code g.0) ≤ length vs.items
 HasEnough code (change.Leave r v) = Unit {0}
+
+-- a change puts a value into a register, whatever the code is, and leads to the next step
+pub record Puts (m : running.Machine) (d : Register) (v : Value) (change : Change) : Type 0 where
+  pub is : (code : RawCode) → changed code (machine_seen code m) change ≡ next d.0 v (machine_seen code m)
+  pub safe : IsSafe m change
+  pub enough : (code : RawCode) → HasEnough code change
 
 -- a value that was made goes to a register
 abbrev pub goes_to : Register → Result held.Value Halt → Result Change Halt

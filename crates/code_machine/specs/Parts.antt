@@ -7,11 +7,11 @@ use Rattle.language_model.specs.Operations as row
 use Rattle.language_model.specs.Evaluation.{array_elements, either}
 use Rattle.named_values.specs.Machine.{Machine, at, next, limit, same_bool}
 
--- a value is stored in a variable
-abbrev pub stored : Value → Effect Value
-stored v = do
+-- a value is stored in the register of a variable: this is charged
+abbrev pub stored : ℕ → Value → Machine → Effect Machine
+stored d v m = do
   _ ← row.charged row.no_traps (size v)
-  done v
+  done (next d v m)
 
 -- a call, where so many calls stand in one another
 abbrev pub call_charged : (depth line : ℕ) → (arguments : List Value) → Effect (Unit {0})

@@ -1,10 +1,11 @@
 -- Machines that have the registers which their code names.
-use Rattle.std.specs.Prelude.{ℕ, ◌<◌, ◌≤◌, List, [], ◌∷◌, length, map, Option, Some, None}
+use Rattle.std.specs.Prelude.{◌≡◌, ℕ, ◌+◌, ◌^◌, ◌<◌, ◌≤◌, List, [], ◌∷◌, length, map, Option, Some, None, IfSome, option_map}
 use Rattle.std.specs.List.{slice_get}
 use Rattle.bytecode.specs.declared.kind.Kind.{Kind}
 use Rattle.bytecode.specs.declared.instruction.Register.{Register}
 use Rattle.bytecode.specs.Raw.{RawCode}
-use Rattle.verified_code.specs.InMemory.{place_of}
+use Rattle.verified_code.specs.InMemory.{place_of, step_at, step_in}
+use Rattle.verified_code.specs.declared.step.Step as declared
 use Rattle.verified_code.specs.Settled.{settled}
 use Rattle.verified_code.specs.Steps.{Step, Literal, Move, Store, Binary, Not, Cast, Classify, Fill, At, Put, Size, Cat, Sum, Bits, Declassify}
 use Rattle.verified_code.specs.Steps.{Argument, Publish, Assert, Branch, Jump, Call, Return, ReturnNone}
@@ -77,3 +78,9 @@ pub record Stands (code : RawCode) (m : running.Machine) : Type 0 where
 -- in some code
 abbrev pub StandsSomewhere : running.Machine → Type 0
 StandsSomewhere m = (code : RawCode) × Stands code m
+
+-- what was read of the code is the step that comes next, if it is there: the registers that it names are there, and one more place can be counted
+pub record IsComing (code : RawCode) (m : running.Machine) (coming : Option declared.Step) : Type 0 where
+  pub step : option_map step_in coming ≡ step_at code m.function m.place
+  pub there : IfSome coming (λ s. AreThere (length m.registers.items) (step_in s))
+  pub room : IfSome coming (λ s. m.place + 1 < 2 ^ 64)

@@ -26,7 +26,7 @@ impl Machine {
         self.place += 1;
     }
 
-    /// An element is written into the array in a register, in place, and the next step comes.
+    /// A word is written into the value in a register, in place, and the next step comes.
     pub(crate) fn put_element(&mut self, array: Register, element: WrittenElement)
         requires safe { IsSafe self.old (change.Element array element) }
         requires room { self.old.place + 1 < 2 ^ 64 }

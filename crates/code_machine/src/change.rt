@@ -11,7 +11,7 @@ use value_steps::{Halt, Value, WrittenElement};
 pub(crate) enum Change {
     /// A value goes to a register, and the next step comes.
     Value(Register, Value),
-    /// An element is written into the array in a register, and the next step comes.
+    /// A word is written into the value in a register, in place, and the next step comes.
     Element(Register, WrittenElement),
     /// The step of a place comes.
     Place(usize),

@@ -93,11 +93,9 @@ pub(crate) fn change_of(
     ensures enough { IfOk result (HasEnough code.now) }
 {
     match coming {
-        Step::Literal { to, element, word } => {
-            into_register(to, literal(alloc, stage, element, word))
-        }
-        Step::Move { to, source } => into_register(to, moved(alloc, machine, stage, source)),
-        Step::Store { to, source } => into_register(to, stored(alloc, machine, stage, source)),
+        Step::Literal { to, element, word } => literal(alloc, machine, to, element, word),
+        Step::Move { to, source } => moved(alloc, machine, to, source),
+        Step::Store { to, source } => stored(alloc, machine, stage, to, source),
         Step::Binary {
             line,
             operator,

@@ -1,8 +1,7 @@
 // What can be read of a machine.
-ghost use Rattle.std.specs.Prelude.{◌≡◌, IfOk, option_map, slice_get};
-ghost use Rattle.verified_code.specs.InMemory.{step_in};
+ghost use Rattle.std.specs.Prelude.{◌≡◌, IfOk};
 ghost use Rattle.value_steps.specs.Views.{value_seen};
-ghost use Rattle.code_machine.specs.Views.{machine_seen, registers_seen};
+ghost use Rattle.code_machine.specs.Views.{registers_seen};
 
 use crate::machine::Machine;
 use bytecode::Register;
@@ -10,16 +9,8 @@ use secrec_ast::DataType;
 use std::alloc::{AllocError, Global};
 use typed_tree::Shape;
 use value_steps::Value;
-use verified_code::{Step, Verified};
 
 impl Machine {
-    /// The step that comes next, if it is there.
-    pub fn next_step<'c>(&self, code: &'c Verified) -> Option<Step<'c>>
-        ensures { option_map step_in result ≡ slice_get (machine_seen code.now self.now).steps (machine_seen code.now self.now).pc }
-    {
-        code.step(self.function, self.place)
-    }
-
     /// The shape of the value in a register; where there is no such register, that of the value that nobody reads.
     #[tactic(auto, unfolding(crate::specs::Views::registers_seen))]
     pub fn shape_in(&self, register: Register) -> Shape

@@ -22,7 +22,7 @@ pub(crate) fn put(registers: &mut Vec<Value>, register: Register, value: Value)
     registers[register.0 as usize] = value;
 }
 
-/// An element is written into the array in a register.
+/// A word is written into the value in a register.
 pub(crate) fn put_element(registers: &mut Vec<Value>, register: Register, element: WrittenElement)
     requires there { register.0 < length registers.old.items }
     requires within { element.index < size (registers_seen registers.old.items register.0) }

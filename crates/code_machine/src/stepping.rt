@@ -1,13 +1,12 @@
 // One step of a machine.
-ghost use Rattle.std.specs.Prelude.{◌≡◌, ◌+◌, ◌<◌, ◌^◌, IfErr, IfSome, length, option_map};
+ghost use Rattle.std.specs.Prelude.{◌≡◌, IfErr, length};
 ghost use Rattle.std.specs.List.{slice_get};
 ghost use Rattle.bytecode.specs.InMemory.{raw_code};
-ghost use Rattle.verified_code.specs.InMemory.{step_in, step_at};
 ghost use Rattle.verified_code.specs.InMemory as in_memory;
 ghost use Rattle.verified_code.specs.Settled.{settled};
 ghost use Rattle.value_steps.specs.Steps.{Does};
 ghost use Rattle.value_steps.specs.Views.{stage_seen, world_seen};
-ghost use Rattle.code_machine.specs.Standing.{AreThere, Stands};
+ghost use Rattle.code_machine.specs.Standing.{IsComing, Stands};
 ghost use Rattle.code_machine.specs.Views.{machine_seen, stepped};
 
 use crate::machine::Machine;
@@ -28,18 +27,41 @@ fn count_of(code: &Code, function: usize) -> usize
     }
 }
 
-/// The step that comes next. What it names is there.
-fn coming_step<'c>(code: &'c Verified, machine: &Machine) -> Option<Step<'c>>
+/// The step that comes next, read off the code, if it is there. What it names is there, too.
+pub fn coming_step<'c>(code: &'c Verified, machine: &Machine) -> Option<Step<'c>>
     requires { Stands code.now machine.now }
-    ensures step { option_map step_in result ≡ step_at code.now machine.now.function machine.now.place }
-    ensures there { IfSome result (λ s. AreThere (length machine.now.registers.items) (step_in s)) }
-    ensures room { IfSome result (λ s. machine.now.place + 1 < 2 ^ 64) }
+    ensures { IsComing code.now machine.now result }
 {
     if machine.place < count_of(code.code(), machine.function) {
         code.step(machine.function, machine.place)
     } else {
         None
     }
+}
+
+/// Does the step that comes next, which was read off the code, in this world. It stops where `step` does, and leaves the machine as `step`
+/// leaves it.
+pub fn take_step(
+    alloc: Global,
+    world: &World<'_>,
+    code: &Verified,
+    machine: &mut Machine,
+    stage: &mut Stage<'_>,
+    coming: Option<Step<'_>>,
+) -> Result<(), Halt>
+    requires stands { Stands code.now machine.old }
+    requires comes { IsComing code.now machine.old coming }
+    ensures step { Does (λ _. machine_seen code.now machine.new) (stepped (world_seen world.now) code.now (machine_seen code.now machine.old))
+        (stage_seen stage.old) result (stage_seen stage.new) }
+    ensures kept { IfErr result (λ _. machine_seen code.now machine.new ≡ machine_seen code.now machine.old) }
+    ensures stands { Stands code.now machine.new }
+{
+    let Some(step) = coming else {
+        return Err(Halt::Ended(Ending::Done));
+    };
+    let change = change_of(alloc, world, code, machine, stage, step)?;
+    change.make(machine)?;
+    Ok(())
 }
 
 /// Does the next step of the code, in this world. The step stops where the run ends, by itself or by a trap, where an opened value
@@ -57,10 +79,6 @@ pub fn step(
     ensures kept { IfErr result (λ _. machine_seen code.now machine.new ≡ machine_seen code.now machine.old) }
     ensures stands { Stands code.now machine.new }
 {
-    let Some(step) = coming_step(code, machine) else {
-        return Err(Halt::Ended(Ending::Done));
-    };
-    let change = change_of(alloc, world, code, machine, stage, step)?;
-    change.make(machine)?;
-    Ok(())
+    let coming = coming_step(code, machine);
+    take_step(alloc, world, code, machine, stage, coming)
 }

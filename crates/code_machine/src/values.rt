@@ -1,16 +1,22 @@
-// The values that steps make which have no line: what each reads is in the machine, and copied where an operation takes it.
-ghost use Rattle.std.specs.Prelude.{[], ◌∷◌, false};
+// The values that steps make which have no line: what each reads is in the machine, and copied where an operation takes it. Public scalars that
+// are only moved are written in place.
+ghost use Rattle.std.specs.Prelude.{[], ◌∷◌, false, IfOk};
 ghost use Rattle.typed_tree.specs.Shapes.{shape_of};
-ghost use Rattle.language_model.specs.Effects.{done};
+ghost use Rattle.language_model.specs.Effects.{Stage as Reached, done};
 ghost use Rattle.language_model.specs.Operations as row;
 ghost use Rattle.language_model.specs.Values.{plain};
+ghost use Rattle.bytecode.specs.Raw.{RawCode};
+ghost use Rattle.named_values.specs.Machine.{next};
 ghost use Rattle.value_steps.specs.Steps.{Does};
 ghost use Rattle.value_steps.specs.Views.{stage_seen, value_seen, world_seen};
+ghost use Rattle.code_machine.specs.Changes.{HasEnough, IsSafe, changed};
 ghost use Rattle.code_machine.specs.Parts as Parts;
-ghost use Rattle.code_machine.specs.Views.{kept};
+ghost use Rattle.code_machine.specs.Views.{kept, machine_seen};
 ghost use Rattle.code_machine.specs.Standing.{IsThere};
 
+use crate::change::Change;
 use crate::machine::Machine;
+use crate::scalars::{copy_into, scalar_into};
 use bytecode::Register;
 use secrec_ast::DataType;
 use std::alloc::Global;
@@ -19,50 +25,64 @@ use value_steps::{
     Halt, Stage, Value, World, cast_to, charged, declassified, negated, size_told, summed, wanted,
 };
 
-/// A public scalar.
+/// A public scalar goes to a register.
 pub(crate) fn literal(
     alloc: Global,
-    stage: &mut Stage<'_>,
+    machine: &Machine,
+    to: Register,
     element: DataType,
     word: u64,
-) -> Result<Value, Halt>
-    ensures { Does value_seen (done (plain (shape_of element false) (word ∷ []))) (stage_seen stage.old) result (stage_seen stage.new) }
+) -> Result<Change, Halt>
+    requires { IsThere machine.now to }
+    ensures step { (code : RawCode) (s : Reached) → Does (changed code (machine_seen code machine.now))
+        (done (next to.0 (plain (shape_of element false) (word ∷ [])) (machine_seen code machine.now))) s result s }
+    ensures safe { IfOk result (IsSafe machine.now) }
+    ensures enough { (code : RawCode) → IfOk result (HasEnough code) }
 {
-    let words = vec![in alloc; word]?;
     let shape = Shape {
         element,
         array: false,
     };
-    Ok(Value::plain(shape, words))
+    let change = scalar_into(alloc, machine, to, shape, word)?;
+    Ok(change)
 }
 
-/// The value of a register, moved.
+/// The value of a register is moved into another one.
 pub(crate) fn moved(
     alloc: Global,
     machine: &Machine,
-    stage: &mut Stage<'_>,
+    to: Register,
     source: Register,
-) -> Result<Value, Halt>
-    requires { IsThere machine.now source }
-    ensures { Does value_seen (done (kept machine.now source)) (stage_seen stage.old) result (stage_seen stage.new) }
+) -> Result<Change, Halt>
+    requires to_there { IsThere machine.now to }
+    requires source_there { IsThere machine.now source }
+    ensures step { (code : RawCode) (s : Reached) → Does (changed code (machine_seen code machine.now))
+        (done (next to.0 (kept machine.now source) (machine_seen code machine.now))) s result s }
+    ensures safe { IfOk result (IsSafe machine.now) }
+    ensures enough { (code : RawCode) → IfOk result (HasEnough code) }
 {
-    let value = machine.copied(alloc, source)?;
-    Ok(value)
+    let change = copy_into(alloc, machine, to, source)?;
+    Ok(change)
 }
 
-/// The value of a register, stored in a variable: this is charged.
+/// The value of a register is stored in the register of a variable: this is charged.
 pub(crate) fn stored(
     alloc: Global,
     machine: &Machine,
     stage: &mut Stage<'_>,
+    to: Register,
     source: Register,
-) -> Result<Value, Halt>
-    requires { IsThere machine.now source }
-    ensures { Does value_seen (Parts.stored (kept machine.now source)) (stage_seen stage.old) result (stage_seen stage.new) }
+) -> Result<Change, Halt>
+    requires to_there { IsThere machine.now to }
+    requires source_there { IsThere machine.now source }
+    ensures step { (code : RawCode) → Does (changed code (machine_seen code machine.now))
+        (Parts.stored to.0 (kept machine.now source) (machine_seen code machine.now)) (stage_seen stage.old) result (stage_seen stage.new) }
+    ensures safe { IfOk result (IsSafe machine.now) }
+    ensures enough { (code : RawCode) → IfOk result (HasEnough code) }
 {
     charged(stage, machine.register(source).size())?;
-    let value = machine.copied(alloc, source)?;
-    Ok(value)
+    let change = copy_into(alloc, machine, to, source)?;
+    Ok(change)
 }
 
 /// The negation of a register.

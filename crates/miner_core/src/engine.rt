@@ -9,11 +9,11 @@ ghost use Rattle.miner_core.specs.Engines.{acting, led_to, measure, GoesOn};
 use crate::letting_go::Letting;
 use crate::notice::{Notice, tell};
 use crate::outcome::Turned;
-use crate::speech::{Speech, next_speech};
+use crate::speech::{Speech, speech_of};
 use crate::stepping::{gates_from, is_done, step_alone, step_told};
 use crate::task::Task;
 use crate::telling::{Told, last_words, told_yet};
-use code_machine::{Machine, marked, rewind};
+use code_machine::{Machine, coming_step, marked, rewind};
 use gate_node::{GateNode, Stand};
 use proto_core::Party;
 use sc_text::Ending;
@@ -111,8 +111,10 @@ impl<P: Party> Engine<P> {
         let from = self.stage.gates.len();
         let before = told_yet(&self.stage);
         let mark = marked(&self.stage);
-        let speech = next_speech(self.alloc, &self.task.code, &self.machine)?;
-        let turned = step_alone(self.alloc, &self.task, &mut self.machine, &mut self.stage)?;
+        let task = &self.task;
+        let coming = coming_step(&task.code, &self.machine);
+        let speech = speech_of(self.alloc, coming, &self.machine)?;
+        let turned = step_alone(self.alloc, task, &mut self.machine, &mut self.stage, coming)?;
         self.fuel -= 1;
         if is_done(turned, &self.stage, from, before) {
             return Ok(true);
@@ -163,12 +165,15 @@ impl<P: Party> Engine<P> {
         ensures falls { OnOk result (measure self.new < measure self.old) }
     {
         let before = told_yet(&self.stage);
-        let speech = next_speech(self.alloc, &self.task.code, &self.machine)?;
+        let task = &self.task;
+        let coming = coming_step(&task.code, &self.machine);
+        let speech = speech_of(self.alloc, coming, &self.machine)?;
         let turned = step_told(
             self.alloc,
-            &self.task,
+            task,
             &mut self.machine,
             &mut self.stage,
+            coming,
             last_words(self.node.values()),
         )?;
         self.at = At::Acts {
@@ -268,7 +273,7 @@ impl<P: Party> Engine<P> {
     }
 
     /// Does all that the messages and the words that were supplied lead to, and answers where it then stands. What it has done, tells, and
-    /// does with the messages that are there, is the same before and behind, whatever words come.
+    /// does with the messages that are there, is the same before and after, whatever words come.
     pub fn advance(&mut self) -> Result<Stand, AllocError>
         requires sound { IsSoundAlways P.me self.old }
         ensures same { OnOk result (all_shown (outcome_with P.me self.new) ≡ all_shown (outcome_with P.me self.old)) }

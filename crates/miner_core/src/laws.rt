@@ -8,7 +8,7 @@ ghost use Rattle.miner_core.specs.declared.answer.MinerErr.{MinerErr};
 ghost use Rattle.miner_core.specs.Story.{Story};
 ghost use Rattle.miner_core.specs.Laws.{StaysRefused, AnswersAgain};
 
-/// Law: whatever comes to a miner behind a message that it refuses, it refuses that message for the same cause, and sends, opens and tells
+/// Law: whatever comes to a miner after a message that it refuses, it refuses that message for the same cause, and sends, opens and tells
 /// no more; so each later delivery answers the same, unless memory is wanting.
 pub fn a_refusal_stays()
     ensures stays { (i : Number) (s : Story) (link : Link) (m : List ℕ) → StaysRefused i s link m }

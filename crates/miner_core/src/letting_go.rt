@@ -1,4 +1,4 @@
-// What a miner lets go: between two steps values that nothing can name any more, and the list of its gates; behind a step the array into
+// What a miner lets go: between two steps values that nothing can name any more, and the list of its gates; after a step the array into
 // which it has stored; and, where no view is told, messages that it has taken and words that it has drawn.
 ghost use Rattle.std.specs.Prelude.{◌≡◌, ◌-◌, ◌&&◌, ◌||◌, ℕ, length, nat_eq, nat_le, nat_lt, IsTrue, IfSome, IfOk, OnOk};
 ghost use Rattle.std.specs.BTreeSet.{contains};
@@ -91,7 +91,7 @@ impl<P: Party> Engine<P> {
         Ok(())
     }
 
-    /// The number of the array into which the step at work has stored last, where it is large, and nothing names it behind the step. No more
+    /// The number of the array into which the step at work has stored last, where it is large, and nothing names it after the step. No more
     /// registers are looked through than it has words.
     fn spent(&self) -> Option<u64>
         ensures leads { IfSome result (λ array. LeadsOn self.now.at) }
@@ -119,7 +119,7 @@ impl<P: Party> Engine<P> {
         }
     }
 
-    /// Where the step at work stores into an array that nothing names behind it, it is stored in place, and the array is let go. What is left
+    /// Where the step at work stores into an array that nothing names after it, it is stored in place, and the array is let go. What is left
     /// to do, and all that is sent, opened and told then, is the same. No more words are held than before, so nothing large is left to let go.
     #[inline(never)]
     pub fn store_in_place(&mut self) -> Result<(), AllocError>
@@ -137,6 +137,7 @@ impl<P: Party> Engine<P> {
         }
         Ok(())
     }
+
     /// Lets go the messages that came, of each link on which all were taken, and the words that were supplied, once all were drawn.
     pub fn let_go_done(&mut self)
         ensures lighter { IsLighter self.old self.new }

@@ -1,4 +1,4 @@
-// What a miner lets go while the gates of a step run: values that none of the later gates takes, and nothing names behind the step.
+// What a miner lets go while the gates of a step run: values that none of the later gates takes, and nothing names after the step.
 ghost use Rattle.std.specs.Prelude.{◌≡◌, ◌-◌, true, IsTrue, IfOk, OnOk};
 ghost use Rattle.std.specs.BTreeSet.{contains};
 ghost use Rattle.std.specs.Ordering.{nat_cmp};
@@ -14,7 +14,7 @@ use std::alloc::AllocError;
 use std::collections::BTreeSet;
 
 impl<P: Party> Engine<P> {
-    /// Whether the gates of the step at work are a large plan, and another step comes behind it.
+    /// Whether the gates of the step at work are a large plan, and another step comes after it.
     fn plans(&self) -> bool
         ensures leads { result ≡ true → LeadsOn self.now.at }
     {
@@ -28,8 +28,8 @@ impl<P: Party> Engine<P> {
         self.node.is_large_plan()
     }
 
-    /// The numbers of the values that its machine names behind the step at work, and of the one that the step makes last.
-    fn needed_behind(&self) -> Result<BTreeSet<u64>, AllocError>
+    /// The numbers of the values that its machine names after the step at work, and of the one that the step makes last.
+    fn needed_after(&self) -> Result<BTreeSet<u64>, AllocError>
         ensures named { IfOk result (λ numbers. (code : RawCode) →
             AreAmong (MachineNames (machine_seen code self.now.machine)) (λ k. IsTrue (contains nat_cmp numbers k))) }
         ensures last { IfOk result (λ numbers. IsTrue (contains nat_cmp numbers (self.now.stage.made - 1))) }
@@ -39,7 +39,7 @@ impl<P: Party> Engine<P> {
         Ok(numbers)
     }
 
-    /// Where the gates of the step at work are a large plan, its miner is told which values are needed behind the step, so that each other one
+    /// Where the gates of the step at work are a large plan, its miner is told which values are needed after the step, so that each other one
     /// is let go once none of the gates takes it any more. What is left to do, and all that is sent, opened and told then, is the same.
     #[inline(never)]
     pub fn want_needed(&mut self) -> Result<(), AllocError>
@@ -52,7 +52,7 @@ impl<P: Party> Engine<P> {
         if !self.plans() {
             return Ok(());
         }
-        let numbers = self.needed_behind()?;
+        let numbers = self.needed_after()?;
         self.node.want_these(numbers, self.stage.made);
         Ok(())
     }

@@ -1,6 +1,8 @@
 // What a step tells the client.
-ghost use Rattle.std.specs.Prelude.{◌≡◌, ℕ, List, IfOk};
-ghost use Rattle.own_code.specs.Places.{told_by, next_step};
+ghost use Rattle.std.specs.Prelude.{◌≡◌, ℕ, List, IfOk, option_map};
+ghost use Rattle.bytecode.specs.Raw.{RawCode};
+ghost use Rattle.verified_code.specs.InMemory.{step_in};
+ghost use Rattle.own_code.specs.Places.{told_by};
 ghost use Rattle.code_machine.specs.Views.{machine_seen};
 ghost use Rattle.miner_core.specs.TurnViews.{speech_seen};
 
@@ -9,7 +11,7 @@ use sc_text::Name;
 use std::alloc::{AllocError, Global};
 use typed_tree::Shape;
 use value_steps::Value;
-use verified_code::{Step, Verified};
+use verified_code::Step;
 
 /// What a step tells the client, where it makes an event.
 pub enum Speech {
@@ -30,12 +32,16 @@ impl Drop for Speech {
     }
 }
 
-/// What the next step of a machine tells.
-pub fn next_speech(alloc: Global, code: &Verified, machine: &Machine) -> Result<Speech, AllocError>
-    ensures { IfOk result (λ speech. (opened last : List ℕ) → speech_seen speech opened last
-        ≡ told_by (next_step (machine_seen code.now machine.now)) (machine_seen code.now machine.now) opened last) }
+/// What the step tells that comes next of a machine, as it was read off the code.
+pub fn speech_of(
+    alloc: Global,
+    coming: Option<Step<'_>>,
+    machine: &Machine,
+) -> Result<Speech, AllocError>
+    ensures { IfOk result (λ speech. (code : RawCode) (opened last : List ℕ) → speech_seen speech opened last
+        ≡ told_by (option_map step_in coming.entry) (machine_seen code machine.now) opened last) }
 {
-    match machine.next_step(code) {
+    match coming {
         Some(Step::Declassify { source, .. }) => Ok(Speech::Opens(machine.shape_in(source))),
         Some(Step::Publish { text, source }) => {
             let name = name_in(alloc, text)?;

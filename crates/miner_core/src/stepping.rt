@@ -1,6 +1,6 @@
 // One step of the code, and the gates that it makes.
 ghost use Rattle.std.specs.Prelude.{◌≡◌, ◌≤◌, [], true, IfOk, drop, length};
-ghost use Rattle.code_machine.specs.Standing.{Stands};
+ghost use Rattle.code_machine.specs.Standing.{IsComing, Stands};
 ghost use Rattle.own_code.specs.Places.{step_told};
 ghost use Rattle.miner_core.specs.TurnViews.{place_in, went_to};
 ghost use Rattle.miner_core.specs.Engines.{IsDone};
@@ -10,47 +10,52 @@ use crate::outcome::Turned;
 use crate::step::{given_back, lent, turned};
 use crate::task::Task;
 use crate::telling::Told;
-use code_machine::{Machine, step};
+use code_machine::{Machine, take_step};
 use gates::Gate;
 use std::alloc::{AllocError, Global};
 use value_steps::Stage;
+use verified_code::Step;
 
-/// The next step, told no words. A step that doesn't go on leaves the machine as it was; with no memory left the stage may be
-/// anything.
+/// The next step, which was read off the code, told no words. A step that doesn't go on leaves the machine as it was; with no memory left the
+/// stage may be anything.
 pub(crate) fn step_alone(
     alloc: Global,
     task: &Task,
     machine: &mut Machine,
     stage: &mut Stage<'_>,
+    coming: Option<Step<'_>>,
 ) -> Result<Turned, AllocError>
-    requires { Stands task.now.code machine.old }
+    requires stands { Stands task.now.code machine.old }
+    requires comes { IsComing task.now.code machine.old coming }
     ensures step { IfOk result (λ turned. step_told (task_world task.now) (task_code task.now) (place_in task.now.code machine.old stage.old) []
         ≡ went_to task.now.code turned machine.new stage.new) }
     ensures stands { Stands task.now.code machine.new }
 {
     let world = task.world();
     stage.answers = &[];
-    let stepped = step(alloc, &world, &task.code, machine, stage);
+    let stepped = take_step(alloc, &world, &task.code, machine, stage, coming);
     turned(stepped)
 }
 
-/// The next step, told these words. Words that it doesn't take are let go. A step that doesn't go on leaves the machine as it was; with no
-/// memory left the stage may be anything.
+/// The next step, which was read off the code, told these words. Words that it doesn't take are let go. A step that doesn't go on leaves the
+/// machine as it was; with no memory left the stage may be anything.
 pub(crate) fn step_told(
     alloc: Global,
     task: &Task,
     machine: &mut Machine,
     stage: &mut Stage<'_>,
+    coming: Option<Step<'_>>,
     told: &[u64],
 ) -> Result<Turned, AllocError>
-    requires { Stands task.now.code machine.old }
+    requires stands { Stands task.now.code machine.old }
+    requires comes { IsComing task.now.code machine.old coming }
     ensures step { IfOk result (λ turned. step_told (task_world task.now) (task_code task.now) (place_in task.now.code machine.old stage.old) told.now
         ≡ went_to task.now.code turned machine.new stage.new) }
     ensures stands { Stands task.now.code machine.new }
 {
     let world = task.world();
     let mut own = lent(alloc, stage, told);
-    let stepped = step(alloc, &world, &task.code, machine, &mut own);
+    let stepped = take_step(alloc, &world, &task.code, machine, &mut own, coming);
     *stage = given_back(own);
     turned(stepped)
 }

@@ -30,7 +30,7 @@ use value_steps::Drawn;
 /// A miner at work on verified code that draws its tape from a source, word by word as its gates begin. Contracts see what it was made with, the messages
 /// that came, in order on each of its two links, the words that it has drawn, and how many of its tape are left in the source. All that it has
 /// sent, opened and told, and where it stands, is a function of these: what is said holds for every tape that begins with the words drawn, and has
-/// so many behind them.
+/// so many after them.
 ///
 /// Once memory was wanting or its tape couldn't be read, it is of no further use: each delivery answers so.
 pub struct StreamMiner<P: Party> {

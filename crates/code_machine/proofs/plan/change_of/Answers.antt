@@ -8,6 +8,42 @@ use Rattle.code_machine.specs.Changes.{changed}
 use Rattle.code_machine.specs.Views.{machine_seen}
 use Rattle.code_machine.proofs.plan.change_of.Goals as goal
 
+pub returns-in-Literal-clause-step : goal.returns-in-Literal-clause-step
+returns-in-Literal-clause-step c =
+    let w = world_seen c.args.world.now in
+    let code = c.args.code.now in
+    let m = machine_seen code c.args.machine.now in
+    let s = stage_seen c.args.stage.now in
+    subst (λ i. Does (changed code m) (step w (settled code) (Some (step_in i)) m) s c.literal.result s) (sym c.in-Literal.is)
+    (c.literal.ensures.step code s)
+
+pub returns-in-Literal-clause-enough : goal.returns-in-Literal-clause-enough
+returns-in-Literal-clause-enough c = c.literal.ensures.enough c.args.code.now
+
+pub returns-in-Move-clause-step : goal.returns-in-Move-clause-step
+returns-in-Move-clause-step c =
+    let w = world_seen c.args.world.now in
+    let code = c.args.code.now in
+    let m = machine_seen code c.args.machine.now in
+    let s = stage_seen c.args.stage.now in
+    subst (λ i. Does (changed code m) (step w (settled code) (Some (step_in i)) m) s c.moved.result s) (sym c.in-Move.is)
+    (c.moved.ensures.step code s)
+
+pub returns-in-Move-clause-enough : goal.returns-in-Move-clause-enough
+returns-in-Move-clause-enough c = c.moved.ensures.enough c.args.code.now
+
+pub returns-in-Store-clause-step : goal.returns-in-Store-clause-step
+returns-in-Store-clause-step c =
+    let w = world_seen c.args.world.now in
+    let code = c.args.code.now in
+    let m = machine_seen code c.args.machine.now in
+    let s = stage_seen c.args.stage.now in
+    subst (λ i. Does (changed code m) (step w (settled code) (Some (step_in i)) m) s c.stored.result (stage_seen c.stored.new.stage)) (sym c.in-Store.is)
+    (c.stored.ensures.step code)
+
+pub returns-in-Store-clause-enough : goal.returns-in-Store-clause-enough
+returns-in-Store-clause-enough c = c.stored.ensures.enough c.args.code.now
+
 pub returns-in-Put-clause-step : goal.returns-in-Put-clause-step
 returns-in-Put-clause-step c =
     let w = world_seen c.args.world.now in

@@ -1,4 +1,4 @@
-use Rattle.std.proofs.Common.{◌≡◌, ℕ, ◌≤◌, Option, Some, None, length, option_map, slice_get, arith, sym, ap, ◌∙◌}
+use Rattle.std.proofs.Common.{◌≡◌, ℕ, ◌+◌, ◌<◌, ◌≤◌, ◌^◌, Option, Some, None, length, option_map, slice_get, arith, sym, ap, ◌∙◌}
 use Rattle.std.specs.Option.{IfSome}
 use Rattle.std.proofs.lemmas.Option.{slice_get_past}
 use Rattle.bytecode.specs.Raw.{RawCode}
@@ -15,13 +15,25 @@ named : (code : RawCode) → IsVerified code → (function place n : ℕ) → le
 named code v function place n l None e = tt
 named code v function place n l (Some i) e = step-there code v function place n l (step_in i) (sym e)
 
-pub returns-then-machine-count_of-clause-there : goal.returns-then-machine-count_of-clause-there
-returns-then-machine-count_of-clause-there c =
-    named c.args.code.now c.code.ensures.verified c.args.machine.now.function c.args.machine.now.place (length c.args.machine.now.registers.items)
-    c.requires.registers c.step.result c.step.ensures
+counted : (place : ℕ) → place + 1 < 2 ^ 64 → (o : Option declared.Step) → IfSome o (λ i. place + 1 < 2 ^ 64)
+counted place l None = tt
+counted place l (Some i) = l
 
-pub returns-else-machine-count_of-clause-step : goal.returns-else-machine-count_of-clause-step
-returns-else-machine-count_of-clause-step c =
-    let f = c.args.machine.now.function in
-    let count = c.count_of.ensures ∙ ap (λ z. length (steps_of (slice_get (settled z) f))) c.code.ensures.code in
-    sym (slice_get_past (steps_of (slice_get (settled c.args.code.now) f)) c.args.machine.now.place (omega (arith, count, c.if-machine-count_of.false)))
+pub returns-then-machine-count_of : goal.returns-then-machine-count_of
+returns-then-machine-count_of c =
+    let m = c.args.machine.now in
+    record {
+      step = c.step.ensures;
+      there = named c.args.code.now c.code.ensures.verified m.function m.place (length m.registers.items) c.requires.registers c.step.result c.step.ensures;
+      room = counted m.place (omega arith) c.step.result;
+    }
+
+pub returns-else-machine-count_of : goal.returns-else-machine-count_of
+returns-else-machine-count_of c =
+    let m = c.args.machine.now in
+    let count = c.count_of.ensures ∙ ap (λ z. length (steps_of (slice_get (settled z) m.function))) c.code.ensures.code in
+    record {
+      step = sym (slice_get_past (steps_of (slice_get (settled c.args.code.now) m.function)) m.place (omega (arith, count, c.if-machine-count_of.false)));
+      there = tt;
+      room = tt;
+    }

@@ -1,4 +1,6 @@
 use Rattle.std.proofs.Common.{rules, ◌≡◌, ◌∙◌, ◌-◌, suc, length, drop, ap, arith}
+use Rattle.code_machine.specs.Views.{machine_seen}
+use Rattle.own_code.specs.Places.{told_by}
 use Rattle.gate_node.specs.Nodes.{filled}
 use Rattle.miner_core.proofs.Begins.{gates_quiet, begins_acts, begins_again, done_left}
 use Rattle.miner_core.specs.Engines.{with_words}
@@ -39,7 +41,9 @@ returns-clause-left g c =
     c.in_ok-turned.turned c.in_ok-gates.gates.items
     c.requires.ready (c.requires.through more) (c.in_ok-add.ensures.left more) c.add.ensures.kept.dealt fuel c.in_ok-turned.ensures.step made
     c.in_ok-speech.speech c.told_yet-before.result (c.wants_words.ensures.goes_on c.if-wants_words.false) c.told_yet-before.ensures.events
-    c.told_yet-before.ensures.opened c.in_ok-speech.ensures d
+    c.told_yet-before.ensures.opened
+    (λ words. λ last. c.in_ok-speech.ensures e.task.code words last
+    ∙ ap (λ o. told_by o (machine_seen e.task.code e.machine) words last) c.coming_step-coming.ensures.step) d
 
 pub returns-then-wants_words-clause-sound : goal.returns-then-wants_words-clause-sound
 returns-then-wants_words-clause-sound g c =
