@@ -35,7 +35,7 @@ use Rattle.gate_node.proofs.Always.{HaveSizes, then-same, then-all, then-assoc, 
 -- ---- blocks
 
 module _ (p : Protocol) (blockable : Blockable p) (i : Number) where
-  -- behind the last
+  -- after the last
   pub blocks-end :
       (from : ℕ) (u v tape : List ℕ) (made : List (List ℕ)) (go : List (List ℕ) → List ℕ → Strand Halted) → length u ≤ from →
       blocks_then p i from u v tape made go ≡ go (joined made (no_elements p)) tape
@@ -49,7 +49,7 @@ module _ (p : Protocol) (blockable : Blockable p) (i : Number) where
   take-of-more : (a b : ℕ) (xs : List ℕ) → a ≤ length xs → take a (take (a + b) xs) ≡ take a xs
   take-of-more a b xs h = ap (take a) (take-add a b xs) ∙ take-front a (take a xs) (take b (drop a xs)) (length-take-le a xs h)
 
-  -- the next, and those behind it
+  -- the next, and those after it
   module _ (from size : ℕ) (u v tape : List ℕ) (made : List (List ℕ)) (go : List (List ℕ) → List ℕ → Strand Halted) where
     abbrev k : ℕ
     k = length u - from

@@ -7,6 +7,7 @@ pub mod Blocks
 pub mod Turns
 pub mod LettingGo
 pub mod Storing
+pub mod Stores
 pub mod Supplied
 pub mod Holding
 pub mod OneGate

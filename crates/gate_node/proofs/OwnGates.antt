@@ -26,7 +26,7 @@ use Rattle.gate_node.specs.OwnGates.{Halted, Whole, Stuck, own_gate, own_draws, 
 use Rattle.gate_node.proofs.Always.{EndsAlways, HaveSizes, always-then, then-same, then-all, then-assoc, gate-sized}
 use Rattle.gate_node.proofs.Suiting.{test-is}
 
--- ---- one gate, and those behind it
+-- ---- one gate, and those after it
 
 nothing-more : (n : ℕ) → n + 0 ≡ n
 nothing-more n = omega arith
@@ -145,7 +145,7 @@ module _ (i : Number) (dealt : Values) (all_dealt : Number → Values) (own : al
       ∙ ap (λ k. then_do (gates_strand i (g ∷ []) values tape) (λ all. gates_strand i rest all (drop k tape))) (sym draws)
       ∙ sym (gates-apart i g rest values tape))
 
--- ---- gates behind gates
+-- ---- gates after gates
 
 module _ (i : Number) (dealt : Values) (behind : List Gate) where
   pub run-behind :

@@ -1,6 +1,7 @@
 -- The last gate, a store into an array that is let go, is run in place.
 use Rattle.std.proofs.Common.{◌≡◌, ℕ, ◌+◌, ◌<◌, ◌≤◌, Bool, true, IsTrue, ◌↔◌, List, [], ◌∷◌, ◌++◌, length, get_or, refl, sym, ◌∙◌, ap, subst, arith}
-use Rattle.std.specs.Prelude.{set, Result, Ok, Err, IfOk}
+use Rattle.std.specs.Prelude.{set, Option, Some, None, is_some, Result, Ok, Err, IfOk}
+use Rattle.std.proofs.lemmas.Bool.{false≢true}
 use Rattle.std.proofs.lemmas.List.{drop_all, length-map, length_push, set-append_left}
 use Rattle.proto_core.specs.declared.party.Number.{Number}
 use Rattle.proto_core.specs.Strand.{Ends}
@@ -104,3 +105,16 @@ stored_behind_all i array count e f h (Err x) ahead stored = tt
 pub ahead_of_all : {P : Type 0} (i : Number) (e f h : Engine P) → IsAhead i e f → IsAhead i f h → IsAhead i e h
 ahead_of_all i e f h a b =
     record { left = λ more. b.left more ∙ a.left more; links = b.links ∙ a.links; dealt = b.dealt ∙ a.dealt; tape = b.tape ∙ a.tape }
+
+-- what a test tells of a fact it tells of one that is as good
+pub tells-of : (b : Bool) {P Q : Type 0} → IsTrue b ↔ P → P ↔ Q → IsTrue b ↔ Q
+tells-of b told same = (λ h. same.0 (told.0 h), λ h. told.1 (same.1 h))
+
+pub all-tell : {E : Type 0} (r : Result Bool E) (P Q : Type 0) → P ↔ Q → IfOk r (λ done. IsTrue done ↔ P) → IfOk r (λ done. IsTrue done ↔ Q)
+all-tell (Ok done) P Q same told = tells-of done told same
+all-tell (Err x) P Q same told = tt
+
+-- there is no value where none is found
+pub none-there : {A : Type 0} (r : Option A) → ((x : A) → r ≡ Some x → ⊥) → IsTrue (is_some r) → ⊥
+none-there None none told = false≢true told
+none-there (Some x) none told = none x refl

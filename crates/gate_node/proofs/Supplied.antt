@@ -1,6 +1,6 @@
 -- Words that are supplied little by little, and where none come any more.
-use Rattle.std.proofs.Common.{◌≡◌, List, [], ◌++◌, ℕ, ◌+◌, ◌-◌, ◌<◌, ◌∷◌, false, drop, length, length-append}
-use Rattle.std.proofs.Common.{length-drop, append_assoc, sym, ◌∙◌, ap, subst, arith}
+use Rattle.std.proofs.Common.{◌≡◌, List, [], ◌++◌, ℕ, ◌+◌, ◌<◌, ◌∷◌, false, drop, length, length-append}
+use Rattle.std.proofs.Common.{append_assoc, sym, ◌∙◌, ap, subst, arith}
 use Rattle.std.proofs.lemmas.Bool.{lt-leb}
 use Rattle.std.proofs.Math.Seq.{drop-append_seam}
 use Rattle.proto_core.specs.declared.party.Number.{Number}
@@ -13,7 +13,7 @@ use Rattle.gate_node.specs.declared.stand.Stand.{Stand}
 use Rattle.gate_node.specs.declared.stand.Stand.TheVariants as stand
 use Rattle.gate_node.specs.OwnGates.{Whole, Stuck, own_gates}
 use Rattle.gate_node.specs.Nodes.{engine_left, engine_outcome, EngineStands, StandsWith, StandsAlways, settled, gates_left, left_at, first_can_run}
-use Rattle.gate_node.specs.Nodes.{ComesTo, DoesTheSame, HasTheSameLeft, filled, IsTapeOf, with_tape}
+use Rattle.gate_node.specs.Nodes.{ComesTo, DoesTheSame, filled, IsTapeOf}
 use Rattle.gate_node.specs.Plans.{then_wanted}
 use Rattle.gate_node.proofs.Blocks.{gate-stuck}
 use Rattle.gate_node.proofs.Plans.{wanted-stuck}
@@ -53,26 +53,7 @@ module _ {P : Type 0} (i : Number) (before after : Engine P) where
   pub same-here : DoesTheSame i before after → engine_outcome i after ≡ engine_outcome i before
   same-here h = ap (engine_outcome i) (sym (filled-none after)) ∙ h [] ∙ ap (engine_outcome i) (filled-none before)
 
-  pub left-here : HasTheSameLeft i before after → engine_left i after ≡ engine_left i before
-  left-here h = ap (engine_left i) (sym (filled-none after)) ∙ h [] ∙ ap (engine_left i) (filled-none before)
-
--- what holds whatever words come holds of each whole tape; and a supply changes nothing of that
-module _ {P : Type 0} (i : Number) where
-  pub same-whole :
-      (before after : Engine P) → DoesTheSame i before after → after.tape.0 ≡ before.tape.0 → (tape : List ℕ) →
-      engine_outcome i (with_tape after tape) ≡ engine_outcome i (with_tape before tape)
-  same-whole before after same kept tape =
-      ap (λ l. engine_outcome i (filled after (drop (length l) tape))) kept ∙ same (drop (length before.tape.0) tape)
-
-  pub wants-too-many :
-      (e : Engine P) (count ahead : ℕ) (tape : List ℕ) → StandsAlways i (stand.Wants count) e → IsTapeOf e.tape.0 ahead tape → ahead < count →
-      engine_left i (with_tape e tape) ≡ Ends Stuck
-  wants-too-many e count ahead tape wants of fewer =
-      let l : length (drop (length e.tape.0) tape) ≡ length tape - length e.tape.0 = length-drop (length e.tape.0) tape in
-      let counted = of.counted in
-      wants-fewer e i count (drop (length e.tape.0) tape) (wants (drop (length e.tape.0) tape)) (omega (arith, l, counted, fewer))
-
--- words that go over are those at the front of what is behind
+-- words that go over are those at the front of what is left
 module _ (supplied words tape : List ℕ) where
   abbrev rest : List ℕ
   rest = drop (length (supplied ++ words)) tape
@@ -89,9 +70,3 @@ module _ (supplied words tape : List ℕ) where
       let counted = of.counted in
       let l : length (supplied ++ words) ≡ length supplied + length words = length-append supplied words in
       record { begins = all-is of.begins ∙ ap (λ r. supplied ++ r) (sym (behind-is of.begins)); counted = omega (arith, counted, l, moved) }
-
-pub supplied-whole :
-    {P : Type 0} (e : Engine P) (words tape : List ℕ) → tape ≡ (e.tape.0 ++ words) ++ drop (length (e.tape.0 ++ words)) tape →
-    with_tape (filled e words) tape ≡ with_tape e tape
-supplied-whole e words tape is =
-    filled-filled e words (drop (length (e.tape.0 ++ words)) tape) ∙ ap (filled e) (sym (behind-is e.tape.0 words tape is))

@@ -6,7 +6,7 @@ use Rattle.block_steps.proofs.Inboxes.{lets_go, lets_none_go}
 pub drop-more : (n drawn : ℕ) (xs : List ℕ) → drop (drawn + n) xs ≡ drop n (drop drawn xs)
 drop-more n drawn xs = sym (drop-drop n drawn xs)
 
--- further words come behind: those at the front are the same, and so many are left as before, with the further ones
+-- further words come: those at the front are the same, and so many are left as before, with the further ones
 pub front-more : (n : ℕ) (xs more : List ℕ) → n ≤ length xs → (take n (xs ++ more) ≡ take n xs) × (drop n (xs ++ more) ≡ drop n xs ++ more)
 front-more n xs more h = (take-append-le n xs more h, drop-append-le n xs more h)
 

@@ -33,7 +33,7 @@ use Rattle.gate_node.proofs.Always.{then-all, then-assoc}
 use Rattle.gate_node.proofs.OwnGates.{run-behind}
 use Rattle.gate_node.proofs.Blocks.{blocks-begin, draws-apart, drop-front, gate-alone, can-more}
 
--- ---- what stands behind
+-- ---- what comes after
 
 pub outcome-behind :
     {A B : Type 0} (i : Number) (f : A → Strand B) (a b : Links) (s t : Strand A) → outcome_of i a s ≡ outcome_of i b t →
@@ -136,7 +136,7 @@ module _ {P : Type 0} (i : Number) (e : Engine P) (w : Work P) (is : e.work ≡ 
   pub sound-work : IsSoundWork i e w → IsSoundWork i e e.work
   sound-work = subst (IsSoundWork i e) (sym is)
 
--- a gate that sends nothing, and can run with the words that were supplied, is through at once, whatever words come behind
+-- a gate that sends nothing, and can run with the words that were supplied, is through at once, whatever words come later
 pub runs-alone :
     {P : Type 0} (i : Number) (e : Engine P) (gate : Gate) (values : Values) → e.work ≡ work.Idle → e.begun < length e.gates.items →
     get_or e.gates.items e.begun gate ≡ gate → can_run i e.dealt e.values e.tape.1 gate ≡ true → IsLocal gate →

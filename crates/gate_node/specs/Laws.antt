@@ -22,7 +22,7 @@ AreItsPartOfTheRun i dealt all_dealt gates values tape run =
     run ≡ run_gates all_dealt (sizes_of dealt) (sizes_of values) gates → needed run i ≤ length tape →
     own_gates i dealt gates values tape ≡ then_do (gates_strand i run values tape) (λ all. Ends (Whole all (drop (needed run i) tape)))
 
--- gates behind others are run where those came to an end
+-- gates after others are run where those came to an end
 abbrev pub RunOneAfterAnother : Number → Values → (before behind : List Gate) → (values : Values) → (tape : List ℕ) → Type 0
 RunOneAfterAnother i dealt before behind values tape =
     own_gates i dealt (before ++ behind) values tape ≡ then_do (own_gates i dealt before values tape) (then_gates i dealt behind)

@@ -3,4 +3,5 @@ pub mod OwnGates
 pub mod Laws
 pub mod Shares
 pub mod Plans
+pub mod Stores
 pub mod Nodes

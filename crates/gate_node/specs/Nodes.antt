@@ -1,9 +1,10 @@
 -- What a miner has that runs gates, and what is left for it to do.
 --
--- Of its tape it has the words that were supplied. What it does is the same whatever words come behind them, so all that is said of what it does
+-- Of its tape it has the words that were supplied. What it does is the same whatever words come after them, so all that is said of what it does
 -- is said with any further words.
-use Rattle.std.specs.Prelude.{◌≡◌, ℕ, ◌+◌, ◌-◌, ◌*◌, ◌<◌, ◌≤◌, Bool, true, false, nat_le, List, [], ◌∷◌, ◌++◌, length, take, drop, set}
+use Rattle.std.specs.Prelude.{◌≡◌, ℕ, ◌+◌, ◌-◌, ◌*◌, ◌<◌, ◌≤◌, Bool, true, false, not, ◌&&◌, nat_le, List, [], ◌∷◌, ◌++◌, length, take, drop, set}
 use Rattle.std.specs.BTreeSet.{BTreeSet}
+use Rattle.std.specs.List.{filter}
 use Rattle.proto_core.specs.declared.party.Number.{Number}
 use Rattle.proto_core.specs.Protocol.{Protocol}
 use Rattle.proto_core.specs.Strand.{Strand, Ends, then_do}
@@ -28,7 +29,8 @@ use Rattle.gate_node.specs.declared.wanted.Wanted.TheVariants as wanted
 use Rattle.gate_node.specs.declared.stand.Stand.{Stand}
 use Rattle.gate_node.specs.declared.stand.Stand.TheVariants as stand
 use Rattle.gate_node.specs.OwnGates.{Halted, Whole, Stuck, can_run, own_gates}
-use Rattle.gate_node.specs.Plans.{with_these, then_wanted, later_count, IsUnwanted, any_takes}
+use Rattle.gate_node.specs.Stores.{IsStore, with_first, EndInStore}
+use Rattle.gate_node.specs.Plans.{with_these, then_wanted, later_count, is_unwanted, any_takes, last_operands, is_large, without}
 
 -- ---- how a gate begins
 
@@ -46,7 +48,7 @@ first_can_run i dealt values tape (gate ∷ gates) = can_run i dealt values tape
 
 -- ---- a gate block by block
 
--- from an element on: the blocks that have not begun, and then what is done with all shares and with the tape behind
+-- from an element on: the blocks that have not begun, and then what is done with all shares and with the tape that is left
 abbrev pub blocks_then :
     Protocol → Number → (from : ℕ) → (u v tape : List ℕ) → (made : List (List ℕ)) → (List (List ℕ) → List ℕ → Strand Halted) → Strand Halted
 blocks_then p i from u v tape made go =
@@ -71,7 +73,7 @@ abbrev pub settled : Stand → Stand
 settled (stand.Wants count) = stand.Stuck
 settled s = s
 
--- with further words behind those that were supplied
+-- with further words after those that were supplied
 abbrev pub filled : {P : Type 0} → Engine P → (words : List ℕ) → Engine P
 filled e words = record e { tape = (e.tape.0 ++ words, e.tape.1 ++ words) }
 
@@ -95,14 +97,14 @@ module _ {P : Type 0} (i : Number) where
   work_left e (work.Within r block) = then_do (pending_left i block) (λ here. running_left e r (joined r.made here))
   work_left e work.Halt = Ends Stuck
 
-  -- and behind the gates, where they are at this
+  -- and after the gates, where they are at this
   abbrev pub left_at : Engine P → Work P → Strand Halted
   left_at e w = then_wanted i e.dealt e.wanted (work_left e w)
 
   abbrev pub engine_left : Engine P → Strand Halted
   engine_left e = left_at e e.work
 
-  -- how many gates have not begun, also of those behind a plan, and the plan's end
+  -- how many gates have not begun, also of those after a plan, and the plan's end
   abbrev pub to_come : Engine P → ℕ
   to_come e = length (gates_left e) + later_count e.wanted
 
@@ -110,7 +112,7 @@ module _ {P : Type 0} (i : Number) where
   abbrev pub engine_outcome : Engine P → Outcome Halted
   engine_outcome e = outcome_of i e.links (engine_left e)
 
-  -- whatever words come behind
+  -- whatever words come later
   abbrev pub DoesTheSame : (before after : Engine P) → Type 0
   DoesTheSame before after = (more : List ℕ) → engine_outcome (filled after more) ≡ engine_outcome (filled before more)
 
@@ -123,12 +125,13 @@ module _ {P : Type 0} (i : Number) where
 
   -- ---- plans
 
-  -- a value that isn't wanted, and that no gate takes which is left
-  pub record IsSpent (k : ℕ) (e : Engine P) : Type 0 where
-    pub unwanted : IsUnwanted k e.wanted
-    pub untaken : any_takes k (gates_left e) ≡ false
+  -- no gate is at work, there is no plan, and with those of the gates that are left there are so many values
+  pub record CanPlan (count : ℕ) (e : Engine P) : Type 0 where
+    pub idle : e.work ≡ work.Idle
+    pub all : e.wanted ≡ wanted.All
+    pub counted : length e.values + made_by_all (gates_left e) ≡ count
 
-  -- with those of its gates that are left there are so many values, and behind them the values of these numbers alone are wanted from then on
+  -- with those of its gates that are left there are so many values, and after them the values of these numbers alone are wanted from then on
   pub record IsPlanOf (numbers : BTreeSet ℕ) (count : ℕ) (before after : Engine P) : Type 0 where
     pub gates : (more : List ℕ) → engine_left (filled before more) ≡ own_gates i before.dealt (gates_left before) before.values (before.tape.1 ++ more)
     pub counted : length before.values + made_by_all (gates_left before) ≡ count
@@ -136,6 +139,36 @@ module _ {P : Type 0} (i : Number) where
     pub links : after.links ≡ before.links
     pub dealt : after.dealt ≡ before.dealt
     pub tape : after.tape ≡ before.tape
+
+  -- whether a value is not wanted after the plan, is large, and none of the gates that are left takes it
+  abbrev pub is_spent : (k : ℕ) → Engine P → Bool
+  is_spent k e = is_unwanted k e.wanted && (is_large (value e.values k) && not (any_takes k (gates_left e)))
+
+  -- the values, of which each that has one of these numbers and is spent is let go
+  abbrev pub without_spent : (ks : List ℕ) → Engine P → Values
+  without_spent ks e = without (filter (λ k. is_spent k e) ks) e.values
+
+  -- the numbers of the values that the last gate takes that has begun
+  abbrev pub last_taken : Engine P → List ℕ
+  last_taken e = last_operands (take e.begun e.gates.items)
+
+  -- ---- gates that send nothing, and a store
+
+  -- the first of the gates that are left is run, which sends nothing
+  abbrev pub after_first : Engine P → Engine P
+  after_first e = record e { values = with_first e.dealt i e.values (gates_left e); begun = e.begun + 1 }
+
+  -- no gate is at work, there is no plan, and the one gate that is left is a store into the array of this number, and suits
+  pub record LeavesStore (array : ℕ) (e : Engine P) : Type 0 where
+    pub idle : e.work ≡ work.Idle
+    pub all : e.wanted ≡ wanted.All
+    pub store : IsStore e.dealt array e.values (gates_left e)
+
+  -- no gate is at work, there is no plan, and the gates that are left send nothing and suit, the last of which is such a store
+  pub record CanStore (array count : ℕ) (e : Engine P) : Type 0 where
+    pub idle : e.work ≡ work.Idle
+    pub all : e.wanted ≡ wanted.All
+    pub gates : EndInStore e.dealt i array count e.values (gates_left e)
 
   -- ---- what holds of it
 
@@ -214,14 +247,10 @@ pub record HasStored {P : Type 0} (i : Number) (array count : ℕ) (before after
   pub values : Values
   pub stored : (more : List ℕ) → Stored i array count values (filled before more) (filled after more)
 
--- a tape that begins with the words that were supplied, and has so many behind them
+-- a tape that begins with the words that were supplied, and has so many after them
 pub record IsTapeOf (supplied : List ℕ) (ahead : ℕ) (tape : List ℕ) : Type 0 where
   pub begins : tape ≡ supplied ++ drop (length supplied) tape
   pub counted : length tape ≡ length supplied + ahead
-
--- the miner where it has its tape whole
-abbrev pub with_tape : {P : Type 0} → Engine P → (tape : List ℕ) → Engine P
-with_tape e tape = filled e (drop (length e.tape.0) tape)
 
 -- what came stays, and so does what it was made with
 pub record Keeps {P : Type 0} (before after : Engine P) : Type 0 where

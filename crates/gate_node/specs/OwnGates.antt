@@ -32,7 +32,7 @@ module _ (i : Number) (dealt : Values) where
       then then_do (gates_strand i (own_gate values gate ∷ []) values tape) (λ all. own_gates gates all (drop (own_draws values gate) tape))
       else Ends Stuck
 
-  -- further gates, behind those that came to this end
+  -- further gates, after those that came to this end
   abbrev pub then_gates : List Gate → Halted → Strand Halted
   then_gates gates (Whole values tape) = own_gates gates values tape
   then_gates gates Stuck = Ends Stuck

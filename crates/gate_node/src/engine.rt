@@ -1,12 +1,13 @@
 // A miner's gates, block by block.
-ghost use Rattle.std.specs.Prelude.{◌≡◌, ◌≢◌, ◌+◌, ◌≤◌, ◌<◌, ◌⊎◌, ℕ, List, length, true, false, None, IfSome, IfOk, OnOk, OnErr};
+ghost use Rattle.std.specs.Prelude.{◌≡◌, ◌≢◌, ◌+◌, ◌≤◌, ◌<◌, ◌⊎◌, ◌↔◌, ℕ, List, [], length, true, false, IsTrue, is_some, None, IfSome, IfOk, OnOk, OnErr};
 ghost use Rattle.proto_core.specs.Strand.{then_do};
 ghost use Rattle.gates.specs.Held.{kept_only};
 ghost use Rattle.block_steps.specs.Outcomes.{outcome_of};
 ghost use Rattle.gate_node.specs.OwnGates.{then_gates};
 ghost use Rattle.gate_node.specs.Nodes.{gates_left, left_at, to_come, engine_left, engine_outcome};
 ghost use Rattle.gate_node.specs.Nodes.{IsSoundRun, IsSound, StandsAlways, RunStands, Keeps, KeepsGates, measure};
-ghost use Rattle.gate_node.specs.Nodes.{StoresLast, HasStored, IsAhead, IsDone, HasTheSameLeft, DoesTheSame, filled};
+ghost use Rattle.gate_node.specs.Nodes.{StoresLast, HasStored, LeavesStore, CanStore, after_first, IsAhead, IsDone, HasTheSameLeft, DoesTheSame, filled};
+ghost use Rattle.gate_node.specs.Stores.{FirstRunsAlone};
 
 use crate::beginning::{Beginning, begins};
 use crate::made::Made;
@@ -57,10 +58,12 @@ pub(crate) struct Engine<P: Party> {
 }
 
 impl<P: Party> Engine<P> {
-    /// Once all its gates have begun, they are let go.
+    /// Once all its gates have begun, they are let go; else all is as before.
     fn let_go_gates(&mut self)
         requires within { self.old.begun ≤ length self.old.gates.items }
         ensures left { gates_left P.me self.new ≡ gates_left P.me self.old }
+        ensures let_go { length self.old.gates.items ≤ self.old.begun → self.new.gates.items ≡ [] }
+        ensures some { self.old.begun < length self.old.gates.items → self.new ≡ self.old }
         ensures same { self.new ≡ record self.old { gates = self.new.gates; begun = self.new.begun } }
         ensures within { self.new.begun ≤ length self.new.gates.items }
     {
@@ -70,7 +73,7 @@ impl<P: Party> Engine<P> {
         }
     }
 
-    /// Further gates, behind those before, and behind a plan.
+    /// Further gates, after those before, and after a plan.
     pub fn add(&mut self, gates: Vec<Gate>) -> Result<(), AllocError>
         requires within { self.old.begun ≤ length self.old.gates.items }
         ensures left { OnOk result ((more : List ℕ) → engine_left P.me (filled self.new more)
@@ -107,6 +110,7 @@ impl<P: Party> Engine<P> {
     fn last_store(&self, array: u64) -> Option<Store>
         requires within { self.now.begun ≤ length self.now.gates.items }
         ensures stores { IfSome result (λ s. StoresLast P.me array s.index s.word self.now) }
+        ensures exactly { IsTrue (is_some result) ↔ LeavesStore P.me array self.now }
     {
         if !self.is_idle() || !self.wanted.is_all() || self.gates.len() - self.begun != 1 {
             return None;
@@ -140,6 +144,9 @@ impl<P: Party> Engine<P> {
         ensures gates { self.new.gates ≡ self.old.gates }
         ensures within { self.new.begun ≤ length self.new.gates.items }
         ensures falls { IfOk result (λ done. done ≡ true → self.new.begun ≡ self.old.begun + 1) }
+        ensures exactly { IfOk result (λ done. IsTrue done ↔ FirstRunsAlone self.old.dealt self.old.values (gates_left P.me self.old)) }
+        ensures ran { IfOk result (λ done. done ≡ true → self.new ≡ after_first P.me self.old) }
+        ensures same { IfOk result (λ done. done ≡ false → self.new ≡ self.old) }
     {
         let gate = &self.gates[self.begun];
         match begins(
@@ -165,6 +172,7 @@ impl<P: Party> Engine<P> {
         requires sound { IsSound P.me self.old }
         ensures stored { IfOk result (λ done. done ≡ true → HasStored P.me array count self.old self.new) }
         ensures same { IfOk result (λ done. done ≡ false → self.new ≡ self.old) }
+        ensures exactly { IfOk result (λ done. IsTrue done ↔ (LeavesStore P.me array self.old × (length self.old.values + 1 ≡ count))) }
         ensures sound { IsSound P.me self.new }
     {
         if count == 0 || self.values.len() as u64 != count - 1 {
@@ -184,6 +192,7 @@ impl<P: Party> Engine<P> {
         requires sound { IsSound P.me self.old }
         ensures stored { IfOk result (λ done. done ≡ true → HasStored P.me array count self.old self.new) }
         ensures ahead { IfOk result (λ done. done ≡ false → IsAhead P.me self.old self.new) }
+        ensures exactly { IfOk result (λ done. IsTrue done ↔ CanStore P.me array count self.old) }
         ensures sound { IsSound P.me self.new }
     {
         if !self.is_idle() {
@@ -208,7 +217,7 @@ impl<P: Party> Engine<P> {
         }
     }
 
-    /// The next block of the gate at work begins; behind the last, the gate's shares become values.
+    /// The next block of the gate at work begins; after the last, the gate's shares become values.
     fn next_block(&mut self, running: Running) -> Result<(), AllocError>
         requires idle { self.old.work ≡ Work.Idle }
         requires gates { self.old.begun ≤ length self.old.gates.items }
@@ -382,8 +391,8 @@ impl<P: Party> Engine<P> {
         }
     }
 
-    /// All gates, as far as the messages and the words that were supplied lead. Behind each gate of a plan, what it has taken is let go where
-    /// no later one takes it.
+    /// All gates, as far as the messages and the words that were supplied lead. After each gate of a plan, what it has taken is let go where
+    /// it is large and not wanted, and no later one takes it.
     pub fn advance(&mut self) -> Result<Stand, AllocError>
         requires sound { IsSound P.me self.old }
         ensures same { OnOk result (DoesTheSame P.me self.old self.new) }

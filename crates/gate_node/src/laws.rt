@@ -19,7 +19,7 @@ pub fn gates_are_its_part_of_the_run()
         AreItsPartOfTheRun i dealt all_dealt gates values tape run }
 {}
 
-/// Law: gates that come later are run behind those before them, where these are through.
+/// Law: gates that come later are run after those before them, where these are through.
 pub fn later_gates_are_run_behind()
     ensures { (i : Number) (dealt : Values) (before behind : List Gate) (values : Values) (tape : List ℕ) →
         RunOneAfterAnother i dealt before behind values tape }

@@ -1,4 +1,4 @@
-ghost use Rattle.std.specs.Prelude.{◌≡◌, ◌≤◌, ℕ, IsTrue, true, false, List, [], length, IfOk, OnOk, OnErr};
+ghost use Rattle.std.specs.Prelude.{◌≡◌, ◌≤◌, ◌↔◌, ℕ, IsTrue, true, false, List, [], length, IfOk, OnOk, OnErr};
 ghost use Rattle.std.specs.Ordering.{nat_cmp};
 ghost use Rattle.std.specs.BTreeSet.{contains};
 ghost use Rattle.gates.specs.Clear.{value};
@@ -8,7 +8,7 @@ ghost use Rattle.block_steps.specs.Inboxes.{LetsGo};
 ghost use Rattle.block_steps.specs.Outcomes.{came_from_previous, came_from_next};
 ghost use Rattle.gate_node.specs.OwnGates.{then_gates};
 ghost use Rattle.gate_node.specs.Nodes.{engine_left, StandsAlways, Keeps, HasStored, IsAhead, IsSameButGates, IsSameButValues, with_links};
-ghost use Rattle.gate_node.specs.Nodes.{gates_left, filled, DoesTheSame, HasTheSameLeft, ComesTo, IsDone, IsPlanOf};
+ghost use Rattle.gate_node.specs.Nodes.{gates_left, filled, DoesTheSame, HasTheSameLeft, ComesTo, IsDone, CanStore, CanPlan, IsPlanOf};
 ghost use Rattle.gate_node.specs.Plans.{is_large_plan};
 
 use crate::engine::{Engine, Work};
@@ -87,7 +87,7 @@ impl<P: Party> GateNode<P> {
         self.engine.tape.supply(words)
     }
 
-    /// Further gates, behind those before; with no memory left nothing else is to be done than before. Gates that have begun are let go once
+    /// Further gates, after those before; with no memory left nothing else is to be done than before. Gates that have begun are let go once
     /// all have.
     pub fn add(&mut self, gates: Vec<Gate>) -> Result<(), AllocError>
         ensures left { OnOk result ((more : List ℕ) → engine_left P.me (filled self.new more)
@@ -116,6 +116,7 @@ impl<P: Party> GateNode<P> {
     pub fn store_in_place(&mut self, array: u64, count: u64) -> Result<bool, AllocError>
         ensures stored { IfOk result (λ done. done ≡ true → HasStored P.me array count self.old self.new) }
         ensures ahead { IfOk result (λ done. done ≡ false → IsAhead P.me self.old self.new) }
+        ensures exactly { IfOk result (λ done. IsTrue done ↔ CanStore P.me array count self.old) }
     {
         self.engine.store_in_place(array, count)
     }
@@ -127,12 +128,14 @@ impl<P: Party> GateNode<P> {
         self.engine.is_large_plan()
     }
 
-    /// The gates that are left are a plan, behind which its shares of the values of these numbers alone are wanted: each other value is let go
-    /// once no later gate of the plan takes it, at the latest once all are through. It has no words from then on.
+    /// The gates that are left are a plan, after which its shares of the values of these numbers alone are wanted: each other value is let go
+    /// once all are through, and one of 256 words or more once a gate has taken it and no later gate of the plan takes it. It has no words from
+    /// then on.
     ///
     /// With those of these gates there must be `count` values in all, and no gate may be at work, and no plan; else all is as before, and
     /// `false` is answered.
     pub fn want_these(&mut self, numbers: BTreeSet<u64>, count: u64) -> bool
+        ensures exactly { IsTrue result ↔ CanPlan P.me count self.old }
         ensures plan { result ≡ true → IsPlanOf P.me numbers count self.old self.new }
         ensures same { result ≡ false → self.new ≡ self.old }
     {

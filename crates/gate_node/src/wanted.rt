@@ -1,5 +1,5 @@
 // Which values are wanted once all gates are through.
-ghost use Rattle.std.specs.Prelude.{◌≡◌, ◌≢◌, ◌+◌, true, false, IfSome};
+ghost use Rattle.std.specs.Prelude.{◌≡◌, ◌≢◌, ◌+◌, ◌^◌, ◌<◌, true, false, SomeIff};
 ghost use Rattle.gates.specs.Counts.{made_by_all};
 ghost use Rattle.gate_node.specs.Plans.{any_takes};
 
@@ -11,7 +11,7 @@ use std::collections::BTreeSet;
 pub(crate) enum Wanted {
     /// All.
     All,
-    /// The gates are a plan: the values of these numbers alone. The later gates are run behind it.
+    /// The gates are a plan: the values of these numbers alone. The later gates are run after it.
     These {
         numbers: BTreeSet<u64>,
         later: Vec<Gate>,
@@ -43,9 +43,9 @@ pub(crate) fn is_taken(gates: &[Gate], number: u64) -> bool
     false
 }
 
-/// How many values there are with those of these gates, where so many were there; none where it is no number.
+/// How many values there are with those of these gates, where so many were there; none where a `u64` doesn't hold the number.
 pub(crate) fn count_with(gates: &[Gate], count: u64) -> Option<u64>
-    ensures { IfSome result (λ all. all ≡ count + made_by_all gates.now) }
+    ensures { SomeIff result (count + made_by_all gates.now < 2 ^ 64) (count + made_by_all gates.now) }
 {
     let mut all = count;
     for gate in gates {
