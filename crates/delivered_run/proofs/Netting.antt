@@ -54,7 +54,7 @@ use Rattle.delivered_run.specs.declared.net.Setting.{Setting}
 use Rattle.delivered_run.specs.declared.running.Job.{Job}
 use Rattle.delivered_run.specs.declared.running.NetRun.{NetRun}
 use Rattle.delivered_run.specs.Courses.{HasNetRun}
-use Rattle.delivered_run.specs.Drawing.{course_of, made, scheduled, DeliversAll, HasGoneOn, HasMade, IsNew, Makes, NetGoes, NetRuns, RunsDealt}
+use Rattle.delivered_run.specs.Drawing.{course_of, made, scheduled, DeliversAll, HasGoneOn, IsNew, Makes, NetGoes, NetRuns, RunsDealt}
 use Rattle.delivered_run.specs.Lean.{DeliversLean}
 use Rattle.delivered_run.specs.Nets.{Delivers, HasTold, IsToldBy, net_with, setting_world, story_for}
 use Rattle.delivered_run.specs.Sources.{IsCause}

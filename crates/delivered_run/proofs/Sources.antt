@@ -24,7 +24,7 @@ use Rattle.program_run.specs.Inputs.{AreSound, dealt_of}
 use Rattle.program_run.specs.Reports.{eval_with, lengths_of}
 use Rattle.miner_core.specs.declared.answer.Lost.{Lost}
 use Rattle.miner_core.specs.declared.answer.Lost.TheVariants as lost
-use Rattle.miner_core.specs.Drawing.{left_for, IsLostBy, IsTapeFault}
+use Rattle.miner_core.specs.Drawing.{left_for, IsTapeFault}
 use Rattle.miner_core.proofs.Sources.{drew_none, drew_same}
 use Rattle.link_schedule.specs.Streams.{AreTapesOf, NetDrew}
 use Rattle.link_schedule.proofs.Drawing.{net_drew_none}

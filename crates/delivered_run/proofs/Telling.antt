@@ -11,7 +11,7 @@ front_of : (xs : List Notice) (place : ℕ) (d : Notice) → place < length xs
     → drop place (map notice_seen xs) ≡ notice_seen (get_or xs place d) ∷ map notice_seen (drop (place + 1) xs)
 front_of xs place d h = drop-map notice_seen place xs ∙ ap (map notice_seen) (drop_more xs place d h)
 
--- the notice at a place of the list comes first behind those before it
+-- the notice at a place of a list is the first after those before it
 pub words_there : (xs : List Notice) (place : ℕ) (d : Notice) → place < length xs
     → words_of (notice_seen (get_or xs place d)) ≡ first_words (drop place (map notice_seen xs))
 words_there xs place d h = ap first_words (sym (front_of xs place d h))
@@ -34,7 +34,7 @@ behind_drop (n ∷ ns) (suc place) = behind_drop ns place
 next_behind : (ns : List strand.Notice) (place : ℕ) → behind_first (drop place ns) ≡ drop (place + 1) ns
 next_behind ns place = behind_drop ns place ∙ ap (λ k. drop k ns) (sym (add-one place))
 
--- what is told behind so many notices is one event, and what is told behind it
+-- what is told after so many notices is one event, and what is told after it
 pub told_more :
     (first second third : List Notice) (place : ℕ) (d : Notice) → place < length first
     → told_beside (drop place (map notice_seen first)) (drop place (map notice_seen second)) (drop place (map notice_seen third))

@@ -1,4 +1,4 @@
--- How a program's run by three miners apart goes: what was dealt, and the miners as they stand behind it.
+-- How a program's run by three miners apart goes: what was dealt, and the miners as they stand after it.
 use Rattle.std.specs.Prelude.{◌≡◌, ◌<◌, ℕ, List, length, false, Result}
 use Rattle.proto_core.specs.declared.party.Number.{Number}
 use Rattle.proto_core.specs.Net.{run_of}

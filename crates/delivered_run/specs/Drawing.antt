@@ -138,7 +138,7 @@ module _ (old new : TapesState) where
         (tapes : Tapes) → AreTapesOf (λ i. drawn_in net i ++ taken i) (λ i. left_for i new) tapes → GoesOn given net result tapes
     pub still : old.steady ≡ true → new.steady ≡ true
 
-  -- words of the miners' tapes were drawn; and this holds with each four tapes of which those of the miners begin with these words, and have as many behind
+  -- words of the miners' tapes were drawn; and this holds with each four tapes of which those of the miners begin with these words, and have as many after
   -- them as are left
   pub record NetRuns {A : Type 0} (result : Result A CourseErr) (Q : FourTapes → Type 0) : Type 0 where
     pub taken : Tapes

@@ -1,4 +1,4 @@
--- A run that draws its tapes from a source: what is said of it holds with all four tapes of words that begin with the words drawn, and have as many behind
+-- A run that draws its tapes from a source: what is said of it holds with all four tapes of words that begin with the words drawn, and have as many after
 -- them as are left.
 use Rattle.std.specs.Prelude.{◌≡◌, ◌<◌, ◌≤◌, ℕ, ◌+◌, List, [], ◌++◌, length, true, Result, IfErr}
 use Rattle.outside.specs.Tapes.{TapesState, SameTape, StandsStill, left_of}
@@ -29,7 +29,7 @@ pub record DrewFour (old new : TapesState) (taken : FourTapes) : Type 0 where
   pub words : old.told ≡ true → HaveGone old new taken
   pub others : (p : ℕ) → 3 < p → SameTape old new p
 
--- four tapes of words that begin with the words drawn, and have as many behind them as are left
+-- four tapes of words that begin with the words drawn, and have as many after them as are left
 pub record MayBe (taken : FourTapes) (new : TapesState) (t : FourTapes) : Type 0 where
   pub dealer : IsTapeOf taken.dealer (left_of new 0) t.dealer
   pub miners : AreTapesOf (miners_of taken) (λ i. left_for i new) (miners_of t)

@@ -90,19 +90,19 @@ fn dealer_words<T: TapeSource>(
 
 /// What a run begins with: its code, how many words the four tapes have, and the words of the dealer's tape for the inputs.
 #[derive(Drop)]
-struct Prepared {
+struct Preparation {
     code: Verified,
     lengths: [u64; 4],
     words: Vec<u64>,
 }
 
-/// The code is verified, and the dealer draws.
-fn start<T: TapeSource>(
+/// What a run begins with: the code is verified, and the dealer draws.
+fn prepared<T: TapeSource>(
     alloc: Global,
     program: &TypedProgram,
     inputs: &Inputs,
     tapes: &mut T,
-) -> Result<Prepared, Lost>
+) -> Result<Preparation, Lost>
     requires { IsAccepted (typed_program_tree program.now) }
     ensures code { IfOk result (λ s. IsCodeOf (typed_program_tree program.now) s.code) }
     ensures lengths { IfOk result (λ s. s.lengths ≡ lengths_in (T.state tapes.old)) }
@@ -111,7 +111,7 @@ fn start<T: TapeSource>(
     let code = compile_program(alloc, program)?;
     let lengths = lengths(tapes);
     let words = dealer_words(alloc, inputs, tapes)?;
-    Ok(Prepared {
+    Ok(Preparation {
         code,
         lengths,
         words,
@@ -168,7 +168,7 @@ fn run_lean_with<T: TapeSource>(
 ///
 /// A schedule is refused for its first entry without a message, else for the lowest miner that it leaves waiting. `TapeFault` comes only where
 /// the source counted a fault in this call, and never where it is steady. What is said holds with all four tapes of words that begin with the words
-/// drawn and have as many behind them as are left; where the source tells its words, with those that it had.
+/// drawn and have as many after them as are left; where the source tells its words, with those that it had.
 pub fn run_in_net<T: TapeSource>(
     alloc: Global,
     program: &TypedProgram,
@@ -183,14 +183,14 @@ pub fn run_in_net<T: TapeSource>(
         (λ t. IsCourseOf (typed_program_tree program.now) inputs.now t budget (delivery_seen delivery.now) result) }
 {
     see_entries(inputs.entries());
-    let start = start(alloc, program, inputs, tapes)?;
+    let prepared = prepared(alloc, program, inputs, tapes)?;
     let job = Job {
-        code: &start.code,
+        code: &prepared.code,
         inputs,
-        lengths: start.lengths,
+        lengths: prepared.lengths,
         budget,
     };
-    run_with(alloc, &job, &start.words, delivery, tapes)
+    run_with(alloc, &job, &prepared.words, delivery, tapes)
 }
 
 /// Runs a program as `run_in_net` does, in an order that the net makes itself, with miners that keep little.
@@ -209,14 +209,14 @@ fn run_lean<T: TapeSource>(
         (λ t. IsRunOf (typed_program_tree program.now) inputs.now t budget (delivery_seen delivery.now) result) }
 {
     see_entries(inputs.entries());
-    let start = start(alloc, program, inputs, tapes)?;
+    let prepared = prepared(alloc, program, inputs, tapes)?;
     let job = Job {
-        code: &start.code,
+        code: &prepared.code,
         inputs,
-        lengths: start.lengths,
+        lengths: prepared.lengths,
         budget,
     };
-    run_lean_with(alloc, &job, &start.words, delivery, tapes)
+    run_lean_with(alloc, &job, &prepared.words, delivery, tapes)
 }
 
 /// Runs a program as `run_in_net` does, and keeps what the miners told and on which links messages were delivered. In an order that the net makes

@@ -7,7 +7,7 @@ ghost use Rattle.view_model.specs.Dealing.{private_shares};
 ghost use Rattle.miner_core.specs.Drawing.{Draws};
 ghost use Rattle.miner_core.specs.Views.{task_world, task_code};
 ghost use Rattle.link_schedule.specs.Lean.{ForEachState, IsLeanNet, IsLeanNetOf};
-ghost use Rattle.link_schedule.specs.Streams.{HasLeft, StreamNet};
+ghost use Rattle.link_schedule.specs.Streams.{HasLeft};
 ghost use Rattle.delivered_run.specs.Deliveries.{delivery_seen};
 ghost use Rattle.delivered_run.specs.Drawing.{made, scheduled, DeliversAll, IsNew, Makes};
 ghost use Rattle.delivered_run.specs.Lean.{DeliversLean, IsNewLean};

@@ -33,7 +33,7 @@ pub struct DeliveredRun {
     pub delivered: Vec<Link>,
 }
 
-/// What came of a run of three miners, and the miners as they stand behind it.
+/// What came of a run of three miners, and the miners as they stand after it.
 pub struct NetRun {
     pub run: DeliveredRun,
     pub net: Net3,

@@ -1,5 +1,5 @@
 -- A net that goes on along its calls.
-use Rattle.std.proofs.Common.{◌≡◌, ℕ, ◌+◌, Bool, true, false, List, [], ◌∷◌, ◌++◌, length, refl, sym, ◌∙◌, ap, subst, append_assoc, arith}
+use Rattle.std.proofs.Common.{◌≡◌, ◌+◌, Bool, true, false, [], ◌∷◌, ◌++◌, length, refl, sym, ◌∙◌, ap, append_assoc}
 use Rattle.std.specs.Prelude.{Option, Some, None}
 use Rattle.outside.specs.Tapes.{TapesState}
 use Rattle.proto_core.specs.declared.party.Number.{Number}
@@ -11,7 +11,7 @@ use Rattle.miner_core.specs.declared.answer.Lost.{Lost}
 use Rattle.miner_core.specs.Drawing.{left_for}
 use Rattle.link_schedule.specs.Net.{NetState, after}
 use Rattle.link_schedule.specs.Streams.{StreamNet, drawn_in, ahead_in, with_tapes, AreTapesOf, MayHave}
-use Rattle.link_schedule.specs.Streams.{ForEachTapes, HasLeft, HasGone, IsLostNow, GoesOr, Along}
+use Rattle.link_schedule.specs.Streams.{ForEachTapes, HasLeft, GoesOr, Along}
 use Rattle.link_schedule.proofs.Drawing.{none, both, filled_tapes, some_tapes, net_drew_none, net_drew_more, lost_later, tapes_by, tapes_earlier}
 
 -- a net that may have these tapes at all

@@ -1,7 +1,7 @@
 -- What a message does that comes to one of three miners which draw their tapes.
-use Rattle.std.proofs.Common.{◌≡◌, ◌≢◌, ℕ, ◌+◌, Bool, true, false, if◌then◌else◌, List, [], ◌∷◌, ◌++◌, length, inl, inr, refl, sym, ◌∙◌, ap, subst, arith}
-use Rattle.std.specs.Prelude.{Option, Some, None, Result, Ok, Err}
-use Rattle.outside.specs.Tapes.{TapesState, Drew, SameTape}
+use Rattle.std.proofs.Common.{◌≡◌, ℕ, ◌+◌, Bool, true, false, if◌then◌else◌, List, [], ◌++◌, length, inl, inr, refl, sym, ◌∙◌, ap, subst, arith}
+use Rattle.std.specs.Prelude.{None, Result, Ok, Err}
+use Rattle.outside.specs.Tapes.{TapesState, Drew}
 use Rattle.proto_core.specs.declared.party.Number.{Number}
 use Rattle.proto_core.specs.declared.party.Number.TheVariants.{One, Two, Three}
 use Rattle.proto_core.specs.declared.link.Link.{Link}
@@ -17,16 +17,16 @@ use Rattle.miner_core.specs.declared.answer.Step.{Step}
 use Rattle.miner_core.specs.declared.answer.StreamErr.{StreamErr}
 use Rattle.miner_core.specs.declared.answer.StreamErr.TheVariants as error
 use Rattle.miner_core.specs.Drawing.{left_for}
-use Rattle.miner_core.specs.Story.{Story, stands_at}
+use Rattle.miner_core.specs.Story.{stands_at}
 use Rattle.miner_core.specs.Streams.{StreamState, with_tape, ForEachTape, HasMoved, Answers}
 use Rattle.miner_core.proofs.Draws.{tape_earlier}
 use Rattle.miner_core.proofs.Sources.{drew_none}
 use Rattle.link_schedule.specs.declared.miners.Miners.{Miners}
-use Rattle.link_schedule.specs.Parts.{Stories, story_in, Takes, TakesIf, Comes}
-use Rattle.link_schedule.specs.Streams.{miner_in, stories_with, AreTapesOf, NetDrew}
+use Rattle.link_schedule.specs.Parts.{story_in, Takes, TakesIf, Comes}
+use Rattle.link_schedule.specs.Streams.{miner_in, stories_with, AreTapesOf}
 use Rattle.link_schedule.specs.Coming.{taken_by, Taken, Gives, drawn_by, left_to, AreOfUse, Come, ComesTo}
 use Rattle.link_schedule.proofs.Deliveries.{is_number}
-use Rattle.link_schedule.proofs.Drawing.{only, of_one, lost_later}
+use Rattle.link_schedule.proofs.Drawing.{only, of_one}
 
 -- ---- to one
 

@@ -1,11 +1,10 @@
 -- Words that three miners draw of one source, one call after another.
-use Rattle.std.proofs.Common.{◌≡◌, ◌≢◌, ◌≤◌, ℕ, ◌+◌, Bool, true, false, if◌then◌else◌, List, [], ◌∷◌, ◌++◌, length, drop, replicate}
+use Rattle.std.proofs.Common.{◌≡◌, ◌≢◌, ℕ, ◌+◌, Bool, true, false, if◌then◌else◌, List, [], ◌++◌, length, drop, replicate}
 use Rattle.std.proofs.Common.{refl, sym, ◌∙◌, ap, subst, append_assoc, length-append, arith}
 use Rattle.std.proofs.Math.Seq.{drop-append_seam}
 use Rattle.std.proofs.lemmas.List.{length-replicate}
-use Rattle.outside.specs.Causes.{Rose}
 use Rattle.outside.specs.Files.{FilesState, OnlyRead}
-use Rattle.outside.specs.Tapes.{TapesState, Drew, SameTape, StandsStill, faults_of, left_of}
+use Rattle.outside.specs.Tapes.{TapesState, Drew, StandsStill}
 use Rattle.proto_core.specs.declared.party.Number.{Number}
 use Rattle.proto_core.specs.declared.party.Number.TheVariants.{One, Two, Three}
 use Rattle.proto_core.specs.Parties.{count_of, is_same}
@@ -20,7 +19,7 @@ use Rattle.link_schedule.proofs.Deliveries.{is_number}
 
 -- ---- tapes that may be
 
--- the words drawn, and zeros behind them
+-- the words drawn, and zeros after them
 pub filled : (drawn : List ℕ) (left : ℕ) → IsTapeOf drawn left (drawn ++ replicate left 0)
 filled drawn left =
     let long = length-append drawn (replicate left 0) in
@@ -132,7 +131,7 @@ lost_later a b c x h still lost.TapeFault k =
     let rose = k.rose in
     record { rose = omega (arith, later, rose); unsteady = λ s. k.unsteady (still s) }
 
--- tapes that begin with all words drawn, and have as many behind them as are left, begin with those drawn before, and have those that were
+-- tapes that begin with all words drawn, and have as many after them as are left, begin with those drawn before, and have those that were
 pub tapes_earlier : (a b : TapesState) (drawn taken : Tapes) → NetDrew a b taken → (tapes : Tapes) → AreTapesOf (both drawn taken) (λ i. left_for i b) tapes →
     AreTapesOf drawn (λ i. left_for i a) tapes
 tapes_earlier a b drawn taken d tapes of i = tape-before (drawn i) (taken i) (tapes i) (left_for i a) (left_for i b) (sym (d.fewer i)) (of i)

@@ -1,5 +1,5 @@
 -- A net whose miners draw, by what it holds; and a message that comes.
-use Rattle.std.proofs.Common.{◌≡◌, ◌≤◌, ℕ, ◌+◌, true, false, List, [], ◌∷◌, ◌++◌, length, arith, refl, sym, ◌∙◌, ap, subst}
+use Rattle.std.proofs.Common.{◌≡◌, ◌≤◌, ℕ, true, false, List, [], ◌∷◌, ◌++◌, length, arith, refl, sym, ◌∙◌, ap, subst}
 use Rattle.std.specs.Prelude.{Option, Some, None, Result, Ok, Err, OnOk}
 use Rattle.outside.specs.Tapes.{TapesState}
 use Rattle.proto_core.specs.declared.party.Number.{Number}
@@ -16,10 +16,10 @@ use Rattle.miner_core.specs.Streams.{StreamState, has_lost, with_tape}
 use Rattle.link_schedule.specs.declared.miners.Miners.{Miners}
 use Rattle.link_schedule.specs.declared.net.Net3.TheInside.{Inside}
 use Rattle.link_schedule.specs.Net.{NetState, nodes_in, net_mail, is_under_way, after}
-use Rattle.link_schedule.specs.Parts.{Stories, AreAlike, IsFresh, IsAt, IsNet, story_in, state_of}
+use Rattle.link_schedule.specs.Parts.{AreAlike, IsFresh, IsAt, IsNet, story_in, state_of}
 use Rattle.link_schedule.specs.Streams.{StreamNet, miner_in, stories_with, drawn_in, ahead_in, with_tapes, net_of, AreTapesOf}
 use Rattle.link_schedule.specs.Streams.{MayHave, ForEachTapes, HasLeft, IsFreshStream, IsMinerOf}
-use Rattle.link_schedule.specs.Streams.{HasGone, IsLostNow, Along, lost_by}
+use Rattle.link_schedule.specs.Streams.{Along}
 use Rattle.link_schedule.specs.Coming.{drawn_by, left_to, AreOfUse, Come, ComesTo, AreNet}
 use Rattle.link_schedule.proofs.Along.{some_net}
 use Rattle.link_schedule.proofs.Coming.{story_at}

@@ -190,7 +190,7 @@ module _ (m m2 : Stories) (g g2 : Counts) (links : List Link) (was : Bool) (l : 
         state = state;
       }
 
--- a message that was under way has come to three miners of this net, with this schedule behind it
+-- a message that was under way has come to three miners of this net, with this schedule after it
 pub record GivenTo (net : NetState) (m : Stories) (g : Counts) (links : List Link) (l : Link) : Type 0 where
   pub net_is : IsNet (state_of m links false) m g
   pub state : state_of m links false ≡ after net (l ∷ [])

@@ -1,6 +1,6 @@
 -- A lean net, by a net that keeps all; and a message that comes.
-use Rattle.std.proofs.Common.{◌≡◌, ◌<◌, ℕ, true, List, [], ◌∷◌, ◌++◌, length, refl, sym, ◌∙◌, ap, ap₂, subst}
-use Rattle.std.specs.Prelude.{nat_lt, slice_get, is_some, option_map, Option, Some, None, Result, Ok, Err, OnOk}
+use Rattle.std.proofs.Common.{◌≡◌, ◌<◌, ℕ, List, [], ◌∷◌, ◌++◌, length, refl, sym, ◌∙◌, ap, ap₂, subst}
+use Rattle.std.specs.Prelude.{nat_lt, slice_get, is_some, option_map, Option, Some, None, Result, Ok, Err}
 use Rattle.outside.specs.Tapes.{TapesState}
 use Rattle.proto_core.specs.declared.party.Number.{Number}
 use Rattle.proto_core.specs.declared.party.Number.TheVariants.{One, Two, Three}
@@ -13,14 +13,13 @@ use Rattle.protocol_model.proofs.NetCounts.{lt_from}
 use Rattle.miner_core.specs.declared.answer.Lost.{Lost}
 use Rattle.miner_core.specs.declared.answer.Lost.TheVariants as lost
 use Rattle.miner_core.specs.declared.lean.LeanMiner.{LeanMiner}
-use Rattle.miner_core.specs.Drawing.{left_for}
 use Rattle.miner_core.specs.Lean.{IsLeanOf}
 use Rattle.link_schedule.specs.declared.lean_net.LeanNet.{LeanNet}
 use Rattle.link_schedule.specs.Coming.{drawn_by, left_to}
 use Rattle.link_schedule.specs.Lean.{LeanStates, lean_in, streams, sent_on, fetched, way_of}
 use Rattle.link_schedule.specs.Lean.{passed, CanPass, HasPassed, IsLeanNetOf, IsLeanMinerOf, IsOnItsWay, LeanAlong}
-use Rattle.link_schedule.specs.Net.{NetState, net_mail, nodes_in, is_under_way, after}
-use Rattle.link_schedule.specs.Parts.{sent_in, story_in}
+use Rattle.link_schedule.specs.Net.{net_mail, nodes_in, is_under_way}
+use Rattle.link_schedule.specs.Parts.{sent_in}
 use Rattle.link_schedule.specs.Streams.{StreamNet, miner_in, stories_with, with_tapes, net_of, AreTapesOf, MayHave, ForEachTapes, HasLeft, IsMinerOf}
 use Rattle.link_schedule.proofs.Giving.{Held, InNet, net_at, left_at, miner_at, may_with, given_not, given_late, given_net, given_along}
 use Rattle.link_schedule.proofs.Joining.{sent_is, some_under_way, none_under_way}

@@ -1,5 +1,5 @@
 -- A net whose miners draw, under orders that it makes itself and under schedules.
-use Rattle.std.proofs.Common.{◌≡◌, ℕ, ◌+◌, ◌-◌, ◌<◌, ◌≤◌, ◌^◌, true, false, List, [], ◌∷◌, length, drop, get_or, refl, sym, ◌∙◌, ap, subst, arith}
+use Rattle.std.proofs.Common.{◌≡◌, ℕ, ◌+◌, ◌<◌, ◌≤◌, ◌^◌, true, false, List, [], ◌∷◌, length, get_or, refl, sym, ◌∙◌, ap, subst}
 use Rattle.std.specs.Prelude.{Option, Some, None, Result, Ok, Err, OnOk}
 use Rattle.outside.specs.Tapes.{TapesState}
 use Rattle.proto_core.specs.declared.link.Link.{Link}
@@ -13,9 +13,9 @@ use Rattle.link_schedule.specs.declared.errors.DeliverErr.TheVariants as deliver
 use Rattle.link_schedule.specs.declared.errors.RunErr.{RunErr}
 use Rattle.link_schedule.specs.declared.errors.RunErr.TheVariants as running
 use Rattle.link_schedule.specs.Answers.{DeliverAnswers, RunAnswers, EndAnswers}
-use Rattle.link_schedule.specs.Net.{NetState, nodes_in, net_mail, net_posted, is_under_way, after}
+use Rattle.link_schedule.specs.Net.{NetState, net_posted, is_under_way, after}
 use Rattle.link_schedule.specs.Orders.{Makes}
-use Rattle.link_schedule.specs.Streams.{StreamNet, with_tapes, ForEachTapes, HasLeft, Along, lost_by, delivery_lost, run_lost}
+use Rattle.link_schedule.specs.Streams.{StreamNet, with_tapes, ForEachTapes, HasLeft, Along, delivery_lost, run_lost}
 use Rattle.link_schedule.proofs.Along.{along_here, along_start, along_at, along_less, along_more, never}
 use Rattle.link_schedule.proofs.Entries.{AtEntry, at_first, at_next, at_empty, at_end}
 use Rattle.link_schedule.proofs.Making.{Making, Shuffling, net_full, making_none, making_more, making_all, shuffling_none, shuffling_more, shuffling_all}

@@ -21,7 +21,7 @@ use Rattle.link_schedule.specs.declared.miners.Miners.{Miners}
 use Rattle.link_schedule.specs.Coming.{Gives, ForEachOf, AreOfUse, drawn_by, left_to}
 use Rattle.link_schedule.specs.Lean.{Can, LeanStates, Way, streams, sent_on, fetched, fetched_on, way_of, passed, unfetched, AreLean, CanPass, HasPassed}
 use Rattle.link_schedule.specs.Parts.{Stories, sent_in, story_in}
-use Rattle.link_schedule.specs.Streams.{miner_in, stories_with, AreTapesOf}
+use Rattle.link_schedule.specs.Streams.{miner_in, AreTapesOf}
 use Rattle.link_schedule.proofs.Coming.{comes_to, other_one, other_two, other_three, story_at}
 use Rattle.link_schedule.proofs.Deliveries.{is_number, none_is_some, same_number}
 use Rattle.link_schedule.proofs.Drawing.{filled, filled_tapes, some_tapes}

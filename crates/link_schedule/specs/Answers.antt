@@ -15,11 +15,11 @@ DeliverAnswers before then l (Err (delivering.EmptyLink entry link sent)) =
     (is_under_way before l ≡ false) × (entry ≡ length before.delivered) × (link ≡ l) × (sent ≡ length (net_posted before l)) × (then ≡ before)
 DeliverAnswers before then l (Err (delivering.Lost why)) = Unit {0}
 
--- what the net makes of a schedule, behind what was delivered before
+-- what the net makes of a schedule, after what was delivered before
 abbrev pub net_walked : NetState → List Link → Answer
 net_walked net schedule = walked (nodes_in net) (length net.delivered) (net_mail net) schedule
 
--- behind all entries; or behind those before the first whose link has none
+-- after all entries; or after those before the first whose link has none
 abbrev pub RunAnswers : (before then : NetState) → List Link → Result (Unit {0}) RunErr → Type 0
 RunAnswers before then schedule (Ok done) = (net_walked before schedule ≡ Accepted) × (then ≡ after before schedule)
 RunAnswers before then schedule (Err (running.Stalled miner link)) = (net_walked before schedule ≡ Stalled miner link) × (then ≡ after before schedule)
@@ -27,7 +27,7 @@ RunAnswers before then schedule (Err (running.EmptyLink entry link sent)) =
     (net_walked before schedule ≡ EmptyLink entry link sent) × (then ≡ after before (take (entry - length before.delivered) schedule))
 RunAnswers before then schedule (Err (running.Lost why)) = Unit {0}
 
--- behind the last entry
+-- after the last entry
 abbrev pub EndAnswers : NetState → Result (Unit {0}) RunErr → Type 0
 EndAnswers net (Ok done) = net_walked net [] ≡ Accepted
 EndAnswers net (Err (running.Stalled miner link)) = net_walked net [] ≡ Stalled miner link

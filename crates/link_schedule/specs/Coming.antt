@@ -1,9 +1,9 @@
 -- For the crate's own functions: what a message does that comes to one of three miners which draw their tapes.
-use Rattle.std.specs.Prelude.{◌≡◌, true, false, Bool, ℕ, List, ◌++◌, None, Result, Ok, Err, OnOk, IfErr}
+use Rattle.std.specs.Prelude.{◌≡◌, true, false, ℕ, List, ◌++◌, None, Result, Ok, Err, OnOk, IfErr}
 use Rattle.outside.specs.Tapes.{TapesState, Drew}
 use Rattle.proto_core.specs.declared.party.Number.{Number}
 use Rattle.proto_core.specs.declared.link.Link.{Link}
-use Rattle.proto_core.specs.Parties.{count_of, receiver_of, is_same}
+use Rattle.proto_core.specs.Parties.{count_of}
 use Rattle.protocol_model.specs.Network.{Counts}
 use Rattle.protocol_model.specs.Runs.{Tapes}
 use Rattle.gate_node.specs.Nodes.{IsTapeOf}

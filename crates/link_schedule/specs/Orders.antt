@@ -12,7 +12,7 @@ module _ {A : Type 0} (nodes : Number → Strand A) where
   abbrev pub full_links : Mail → List Link
   full_links mail = those (λ l. nat_lt (length (mail l)) (length (posted nodes mail l))) all_links
 
-  -- each entry is the link that its word chooses, and behind the last one no message is under way
+  -- each entry is the link that its word chooses, and after the last one no message is under way
   abbrev pub IsMade : (words : ℕ → ℕ) → (entry : ℕ) → Mail → List Link → Type 0
   IsMade words entry mail [] = full_links mail ≡ []
   IsMade words entry mail (l ∷ ls) = (chosen (words entry) (full_links mail) ≡ Some l) × IsMade words (entry + 1) (delivered nodes mail l) ls

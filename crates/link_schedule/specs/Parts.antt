@@ -21,7 +21,7 @@ story_in m i = by_number m.one m.two m.three i
 abbrev pub own_of : Story → Own
 own_of s = record { dealt = s.dealt; tape = s.tape }
 
--- what three of them are together, behind these deliveries
+-- what three of them are together, after these deliveries
 abbrev pub state_of : Stories → List Link → Bool → NetState
 state_of m links lost =
     record {

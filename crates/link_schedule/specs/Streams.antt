@@ -1,6 +1,6 @@
 -- A net whose three miners draw their tapes from one source. What it does holds with all three tapes that begin with the words drawn, and have as
--- many behind them as are left.
-use Rattle.std.specs.Prelude.{◌≡◌, ◌≢◌, ℕ, ◌+◌, Bool, true, List, [], ◌++◌, length, Option, Some, None, Result, Ok, Err, OnOk, IfErr}
+-- many after them as are left.
+use Rattle.std.specs.Prelude.{◌≡◌, ◌≢◌, ℕ, ◌+◌, true, List, [], ◌++◌, length, Option, Some, None, Result, Ok, Err}
 use Rattle.outside.specs.Tapes.{TapesState, SameTape, StandsStill}
 use Rattle.proto_core.specs.declared.party.Number.{Number}
 use Rattle.proto_core.specs.declared.party.Number.TheVariants.{One, Two, Three}
@@ -24,7 +24,7 @@ use Rattle.link_schedule.specs.Parts.{Stories, IsAt}
 
 -- ---- the net
 
--- what a miner was dealt, the words of its tape that it has drawn, and how many are left behind these
+-- what a miner was dealt, the words of its tape that it has drawn, and how many are left after these
 pub record StreamOwn : Type 0 where
   pub dealt : Values
   pub drawn : List ℕ
@@ -64,7 +64,7 @@ with_tapes s tapes =
       lost = has_lost s.lost;
     }
 
--- these begin with the words drawn, and have so many behind them
+-- these begin with the words drawn, and have so many after them
 abbrev pub AreTapesOf : (drawn : Tapes) → (left : Number → ℕ) → (tapes : Tapes) → Type 0
 AreTapesOf drawn left tapes = (i : Number) → IsTapeOf (drawn i) (left i) (tapes i)
 
@@ -93,7 +93,7 @@ stories_with m tapes =
 abbrev pub own_stream : StreamState → StreamOwn
 own_stream m = record { dealt = m.story.dealt; drawn = m.story.tape; ahead = m.ahead }
 
--- what they are together, behind these deliveries
+-- what they are together, after these deliveries
 abbrev pub net_of : Miners → List Link → Option Lost → StreamNet
 net_of m links lost =
     record {
@@ -167,7 +167,7 @@ module _ (before after : StreamNet) (old new : TapesState) where
   GoesOr (Some why) taken = IsLostNow why
 
   -- words were drawn, and the net has gone on or is lost; and this holds of the nets before and after with all three tapes that begin with all
-  -- words drawn, and have as many behind them as are left
+  -- words drawn, and have as many after them as are left
   pub record Along (lost : Option Lost) (Q : (before after : NetState) → Type 0) : Type 0 where
     pub taken : Tapes
     pub drew : NetDrew old new taken

@@ -27,7 +27,7 @@ impl From<Lost> for DeliverErr {
 pub enum RunErr {
     /// At this entry all messages of the link that were sent, this many, were delivered. Entries are counted from the net's first delivery.
     EmptyLink { entry: u64, link: Link, sent: u64 },
-    /// Behind the last entry this miner, the lowest of those that wait, waits for the next message of this link.
+    /// After the last entry this miner, the lowest of those that wait, waits for the next message of this link.
     Stalled { miner: Number, link: Link },
     /// The net is of no further use, for this cause.
     Lost(Lost),

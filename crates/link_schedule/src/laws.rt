@@ -10,7 +10,7 @@ ghost use Rattle.miner_core.specs.OwnCode.{Ended};
 ghost use Rattle.link_schedule.specs.Net.{NetState, nodes_in, net_mail, net_posted, after};
 ghost use Rattle.link_schedule.specs.Orders.{IsMade};
 
-/// Law: the messages behind more deliveries are those before, and then what is under way on each of these links, one after another.
+/// Law: the messages after more deliveries are those before, and then what is under way on each of these links, one after another.
 pub fn deliveries_add_up()
     ensures { (net : NetState) (links : List Link) → net_mail (after net links) ≡ all_delivered (nodes_in net) (net_mail net) links }
 {}

@@ -1,4 +1,4 @@
-ghost use Rattle.std.specs.Prelude.{◌≡◌, true, false, [], ◌∷◌, length, Err, None, IfOk, OnOk, IfSome, IfNone};
+ghost use Rattle.std.specs.Prelude.{◌≡◌, true, false, [], ◌∷◌, length, Err, None, OnOk, IfSome, IfNone};
 ghost use Rattle.outside.specs.Tapes.{TapesState};
 ghost use Rattle.proto_core.specs.declared.party.Number.TheVariants.{One, Two, Three};
 ghost use Rattle.proto_core.specs.Net.{under_way};
@@ -20,7 +20,7 @@ use std::marker::Model;
 /// Three miners and their links, whose tapes are drawn from one source, word by word as their gates begin. Contracts see what the three were
 /// made with, the words that each has drawn and how many it has left, and the link of each delivery in order. With these it is said
 /// which messages were delivered, what each miner has done, and where it stands: what is said holds with all three tapes that begin with the words
-/// drawn, and have as many behind them as are left.
+/// drawn, and have as many after them as are left.
 ///
 /// Once memory was wanting or a tape couldn't be read, it is of no further use: each call that delivers answers so.
 pub struct Net3 {
@@ -142,7 +142,7 @@ impl Net3 {
     }
 
     /// The oldest message of a link that wasn't delivered comes to its receiver, which does all that it leads to. The source has the words
-    /// left that the miners haven't drawn, as behind the last delivery.
+    /// left that the miners haven't drawn, as after the last delivery.
     ///
     /// `EmptyLink` comes exactly where all messages that were sent on the link are delivered, and the net is then as before. `Lost` with
     /// `TapeFault` comes only where the source counted a fault in this call, or where an earlier call on this net has answered it: then each

@@ -1,5 +1,5 @@
 // Orders of deliveries that a net makes itself.
-ghost use Rattle.std.specs.Prelude.{◌≡◌, ◌<◌, ◌^◌, true, length, Err, None, IfSome, OnOk};
+ghost use Rattle.std.specs.Prelude.{◌≡◌, ◌<◌, ◌^◌, length, Err, None, IfSome, OnOk};
 ghost use Rattle.outside.specs.Tapes.{TapesState};
 ghost use Rattle.protocol_model.specs.Network.{chosen};
 ghost use Rattle.tape_file.specs.Seeds.{stream_word};

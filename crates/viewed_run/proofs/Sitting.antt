@@ -1,13 +1,12 @@
 -- What a miner saw by what its view is made of, it saw in its net.
-use Rattle.std.proofs.Common.{◌≡◌, ◌≤◌, ℕ, List, ◌++◌, length, map, take, drop, sym, ◌∙◌, ap, subst}
+use Rattle.std.proofs.Common.{◌≡◌, ◌≤◌, ℕ, List, length, map, take, drop, sym, ◌∙◌, ap, subst}
 use Rattle.std.specs.Prelude.{None}
 use Rattle.std.proofs.lemmas.List.{take-append-le}
 use Rattle.sc_text.specs.declared.elements.Element.{Element}
 use Rattle.sc_text.specs.declared.end.End.{End}
 use Rattle.proto_core.specs.declared.party.Number.{Number}
-use Rattle.proto_core.specs.declared.link.Link.{Link}
 use Rattle.proto_core.specs.Parties.{from_previous, from_next}
-use Rattle.proto_core.specs.Strand.{Act, Mail, Notice, Strand, told_in}
+use Rattle.proto_core.specs.Strand.{Act, Mail, Strand, told_in}
 use Rattle.protocol_model.specs.Arrivals.{arrivals}
 use Rattle.protocol_model.specs.Runs.{Tapes}
 use Rattle.shared_gates.specs.Model.{miner_of}

@@ -1,4 +1,4 @@
--- What comes to a miner that runs a program's code, and what it has done behind a delivery, beside what its view says.
+-- What comes to a miner that runs a program's code, and what it has done after a delivery, beside what its view says.
 use Rattle.std.specs.Prelude.{◌≡◌, ℕ, ◌-◌, List, [], ◌∷◌, map, take, Some}
 use Rattle.sc_text.specs.declared.elements.Element.{Element}
 use Rattle.proto_core.specs.declared.party.Number.{Number}
@@ -49,7 +49,7 @@ module _ (i : Number) (p : TypedProgramTree) (entries : List Entry) (t : FourTap
   abbrev pub order : List Link
   order = order_of (scripts_of entries t (run_on p entries (lengths_of t) budget)) delivery
 
-  -- what this one has done behind the delivery
+  -- what this one has done after the delivery
   abbrev pub ran : List Instance → Ran Ended
   ran is = run_of (code_nodes is) (all_delivered (code_nodes is) nothing order) i
 

@@ -15,7 +15,7 @@ use Rattle.driven_nodes.specs.Steps.{Stopped}
 use Rattle.miner_core.specs.Places.{Place}
 use Rattle.miner_core.specs.OwnCode.{Ended, Reached}
 use Rattle.miner_core.specs.Story.{Story, has_told, node}
-use Rattle.miner_core.specs.Streams.{StreamState, ForEachTape}
+use Rattle.miner_core.specs.Streams.{ForEachTape}
 use Rattle.view_text.specs.View.{View}
 use Rattle.program_views.specs.Views.{input_shares, received}
 use Rattle.viewed_run.specs.CodeViews.{shown_in}

@@ -9,7 +9,7 @@ ghost use Rattle.viewed_run.specs.CodeViews.{CodeViewsAreViews};
 
 /// Law: of an accepted program, inputs that its dealer's tape suffices for, and a delivery that is accepted, each miner has a view. Three
 /// miners, each by its own shares and tape alone, run the program's code: what comes to one, in order of arrival, is what its view has
-/// received; behind the delivery it has told the view's openings, and has stopped as the view's end says, at its cost, and with as many
+/// received; after the delivery it has told the view's openings, and has stopped as the view's end says, at its cost, and with as many
 /// words drawn.
 pub fn code_views_are_views()
     ensures { (i : Number) (p : TypedProgramTree) (entries : List Entry) (t : FourTapes) (budget : ℕ) (delivery : Delivery) →

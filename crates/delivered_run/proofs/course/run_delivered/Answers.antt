@@ -1,8 +1,7 @@
-use Rattle.std.proofs.Common.{Ok, Err, ap, subst, sym}
+use Rattle.std.proofs.Common.{Ok, Err}
 use Rattle.std.proofs.lemmas.Result.{err_from_is_err_and}
 use Rattle.typed_tree.specs.Programs.{typed_program_tree}
-use Rattle.delivered_run.specs.Deliveries.{IsRunOf, delivery_seen}
-use Rattle.delivered_run.specs.Sources.{RunsFrom}
+use Rattle.delivered_run.specs.Deliveries.{delivery_seen}
 use Rattle.delivered_run.proofs.Sources.{told_from}
 use Rattle.delivered_run.proofs.course.run_delivered.Goals as goal
 

@@ -12,17 +12,17 @@ use Rattle.delivered_run.proofs.Going.{lost_so}
 use Rattle.delivered_run.proofs.Sources.{runs_undrawn, runs_with}
 use Rattle.delivered_run.proofs.course.run_in_net.Goals as goal
 
-pub returns-in_err-start : goal.returns-in_err-start
-returns-in_err-start g c =
+pub returns-in_err-prepared : goal.returns-in_err-prepared
+returns-in_err-prepared g c =
     let state = g.T.TapeSource.state in
     let p = typed_program_tree c.args.program.now in
     let entries = c.args.inputs.now in
     let given = delivery_seen c.args.delivery.now in
-    let why = c.in_err-start.field-0.0 in
+    let why = c.in_err-prepared.field-0.0 in
     let is = err_from_is_err_and c.from_residual.result c.from_residual.ensures.1 in
     rw (is.1, is.2)
-    (runs_undrawn (state c.args.tapes.now) (state c.start.new.tapes) entries (λ s. s.words.items) why
-    (λ t. IsCourseOf p entries t c.args.budget given (Err (course_of why))) c.in_err-start.ensures.draws
+    (runs_undrawn (state c.args.tapes.now) (state c.prepared.new.tapes) entries (λ s. s.words.items) why
+    (λ t. IsCourseOf p entries t c.args.budget given (Err (course_of why))) c.in_err-prepared.ensures.draws
     (λ t. lost_so Course (dealt_of entries t.dealer) (eval_with p entries t c.args.budget) given (HasCourse p entries t c.args.budget given) why))
 
 pub returns : goal.returns
@@ -32,7 +32,7 @@ returns g c =
     let entries = c.args.inputs.now in
     let given = delivery_seen c.args.delivery.now in
     let a = state c.args.tapes.now in
-    let start = c.in_ok-start.ensures in
+    let made = c.in_ok-prepared.ensures in
     let sound : AreSound entries = record { form = c.requires.inputs; words = subst (All HasWords) c.entries.ensures c.see_entries.ensures } in
-    runs_with a (state c.start.new.tapes) (state c.run_with.new.tapes) _ (λ s. s.words.items) c.in_ok-start.start c.deref.result.now given
-    c.run_with.result start.draws c.run_with.ensures c.deref.ensures.value start.lengths p c.requires.accepted start.code sound
+    runs_with a (state c.prepared.new.tapes) (state c.run_with.new.tapes) _ (λ s. s.words.items) c.in_ok-prepared.prepared c.deref.result.now given
+    c.run_with.result made.draws c.run_with.ensures c.deref.ensures.value made.lengths p c.requires.accepted made.code sound

@@ -1,6 +1,6 @@
 use Rattle.std.proofs.lemmas.Result.{IfOk-weaker}
 use Rattle.link_schedule.specs.Streams.{ForEachTapes}
-use Rattle.delivered_run.specs.Nets.{HasTold, IsToldBy}
+use Rattle.delivered_run.specs.Nets.{HasTold}
 use Rattle.delivered_run.proofs.Netting.{client_told}
 use Rattle.delivered_run.proofs.running.reported.Goals as goal
 

@@ -1,6 +1,6 @@
 use Rattle.std.proofs.lemmas.Result.{err_from_is_err_and}
 use Rattle.delivered_run.proofs.Sources.{dealer_without}
-use Rattle.delivered_run.proofs.course.start.Goals as goal
+use Rattle.delivered_run.proofs.course.prepared.Goals as goal
 
 pub returns-in_err-code-clause-draws : goal.returns-in_err-code-clause-draws
 returns-in_err-code-clause-draws g c =
