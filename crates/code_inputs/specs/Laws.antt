@@ -1,7 +1,7 @@
 -- What is promised of the code of accepted programs, and of the inputs that it runs on.
 use Rattle.std.specs.Prelude.{◌≡◌, ℕ, List, Some}
 use Rattle.secrec_ast.specs.Programs.{ProgramTree}
-use Rattle.domain_types.specs.Typing.{IsTypedProgram}
+use Rattle.domain_types.specs.ProgramTypes as types
 use Rattle.typed_tree.specs.Programs.{TypedProgramTree}
 use Rattle.name_resolution.specs.Functions.{typed_of}
 use Rattle.reached_instances.specs.Instances.{Instance}
@@ -25,7 +25,7 @@ use Rattle.code_inputs.specs.Inputs.{AreGivenAs, AreSound, Suffice, dealt_of}
 
 -- a program that the checker accepts and the grammar allows, its typed tree and its instances, within the limits of size
 pub record IsAccepted (source : ProgramTree) (p : TypedProgramTree) (is : List Instance) : Type 0 where
-  pub typed : IsTypedProgram source
+  pub typed : types.IsAccepted source
   pub written : IsWellWritten source
   pub resolved : typed_of source ≡ Some p
   pub reached : IsReachedList p is

@@ -1,5 +1,5 @@
 -- At each way out of the front end: what is answered is the judgement of the text, and it has no other.
-use Rattle.std.proofs.Common.{◌≡◌, ℕ, ◌≤◌, List, refl, sym, ap, ap₂, subst, Result, Ok, Err}
+use Rattle.std.proofs.Common.{◌≡◌, ◌↔◌, ℕ, ◌≤◌, List, refl, sym, ap, ap₂, subst, Result, Ok, Err}
 use Rattle.std.specs.Result.{IsErrAnd}
 use Rattle.sc_text.specs.declared.span.Span.{Span}
 use Rattle.secrec_lexer.specs.declared.token.Token.{Token}
@@ -21,16 +21,17 @@ use Rattle.secrec_parser.specs.Answer.{IsTree, RefusesAtFault}
 use Rattle.domain_types.specs.declared.fault.TypeFault.{TypeFault}
 use Rattle.domain_types.specs.declared.type_err.TypeErr.{TypeErr}
 use Rattle.domain_types.specs.declared.type_err.TypeErr.TheVariants as typing
-use Rattle.domain_types.specs.ProgramTypes.{IsRefused}
+use Rattle.domain_types.specs.ProgramTypes.{IsAccepted, IsRefused}
 use Rattle.domain_types.specs.Typing.{IsTypedProgram}
 use Rattle.domain_types.specs.Answer.{IsVerdict}
+use Rattle.domain_types.proofs.TypingPrograms.{accepted_is_typed, typed_is_accepted}
 use Rattle.front_end.specs.declared.program_fault.ProgramFault.{ProgramFault}
 use Rattle.front_end.specs.declared.program_err.ProgramErr.{ProgramErr}
-use Rattle.front_end.specs.Judgement.{syntax_fault, Spells, IsRefusedText, of_tokens, of_grammar, of_types, Judged, IsJudged}
+use Rattle.front_end.specs.Judgement.{syntax_fault, Spells, IsProgramText, IsRefusedText, of_tokens, of_grammar, of_types, Judged, IsJudged}
 use Rattle.front_end.specs.Answer.{IsAnswer, IsJust}
 use Rattle.front_end.specs.Refusals.{lexer_error, parser_error, type_fault, type_err}
 use Rattle.front_end.proofs.FirstFaults.{one_first_fault, faultless_where_spelled}
-use Rattle.front_end.proofs.TypeFaults.{one_type_fault, faultless_where_typed}
+use Rattle.front_end.proofs.TypeFaults.{one_type_fault, faultless_where_accepted}
 
 -- an error that is handed on
 pub handed_on : (r : Result Program ProgramErr) (e : ProgramErr) → IsErrAnd r (λ given. given ≡ e) → Err e ≡ r
@@ -141,7 +142,7 @@ pub untyped_only :
     (judged : Judged) → IsJudged bytes judged → IsJust (Err (type_err e)) judged
 untyped_only bytes tree typing.Memory h r judged j = tt
 untyped_only bytes tree (typing.Refused fault) h r (Ok other) j =
-    absurd (faultless_where_typed tree fault r (subst IsTypedProgram (sym (same_tree bytes tree other h j.spells)) j.typed))
+    absurd (faultless_where_accepted tree fault r (subst IsAccepted (sym (same_tree bytes tree other h j.spells)) j.typed))
 untyped_only bytes tree (typing.Refused fault) h r (Err told) j =
     let o = refused_by_rules bytes tree h told j in
     rw o.1 (ap (λ (g : TypeFault). Err (type_fault g)) (one_type_fault tree o.0 fault o.2 r))
@@ -152,4 +153,16 @@ pub typed_only :
 typed_only bytes program h t (Ok other) j = ap Ok (sym (same_tree bytes (program_tree program) other h j.spells))
 typed_only bytes program h t (Err told) j =
     let o = refused_by_rules bytes (program_tree program) h told j in
-    absurd (faultless_where_typed (program_tree program) o.0 o.2 t)
+    absurd (faultless_where_accepted (program_tree program) o.0 o.2 (typed_is_accepted (program_tree program) t))
+
+-- THE TYPING RELATION
+
+-- what is answered of a typed program
+pub typed_so : (bytes : List ℕ) (program : Program) → SpellsJust bytes (program_tree program) → IsTypedProgram (program_tree program)
+    → IsAnswer bytes (Ok program)
+typed_so bytes program h t = record { spells = spells bytes (program_tree program) h; typed = typed_is_accepted (program_tree program) t }
+
+-- a text is the program of a tree exactly where it spells the tree and the relation holds of this
+pub typed_exactly : (bytes : List ℕ) (tree : ProgramTree) → IsProgramText bytes tree ↔ (Spells bytes tree × IsTypedProgram tree)
+typed_exactly bytes tree =
+    (λ text. (text.spells, accepted_is_typed tree text.typed), λ both. record { spells = both.0; typed = typed_is_accepted tree both.1 })

@@ -18,7 +18,6 @@ use Rattle.domain_types.specs.declared.fault.TypeProblem as rule
 use Rattle.domain_types.specs.declared.fault.TypeProblem.TheVariants as rules
 use Rattle.domain_types.specs.declared.fault.TypeFault.{TypeFault}
 use Rattle.domain_types.specs.ProgramTypes as types
-use Rattle.domain_types.specs.Typing.{IsTypedProgram}
 use Rattle.front_end.specs.declared.program_fault.ProgramFault.{ProgramFault}
 
 -- the faults of the grammar and of the type rules, by the names that they are printed for
@@ -50,10 +49,10 @@ pub record Spells (bytes : List ℕ) (tree : ProgramTree) : Type 0 where
   pub spelled : IsProgram tree tokens
   pub low : program_height tree ≤ height_limit
 
--- a text is the program of this tree: spelled so, and typed
+-- a text is the program of this tree: spelled so, and accepted by the type rules
 pub record IsProgramText (bytes : List ℕ) (tree : ProgramTree) : Type 0 where
   pub spells : Spells bytes tree
-  pub typed : IsTypedProgram tree
+  pub typed : types.IsAccepted tree
 
 -- a text is refused for its first fault: of its tokens, else of the grammar, else of the type rules
 pub data IsRefusedText (bytes : List ℕ) : ProgramFault → Type 0 where

@@ -4,10 +4,12 @@
 //! of the grammar and of the type rules. `specs/Refusals.antt` says what each layer's error becomes.
 #![tactic(auto)]
 
+mod laws;
 mod program_err;
 mod program_fault;
 mod reading;
 
+pub use laws::accepted_exactly_where_typed;
 pub use program_err::ProgramErr;
 pub use program_fault::ProgramFault;
 pub use reading::read_program;

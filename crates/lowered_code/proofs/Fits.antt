@@ -15,7 +15,7 @@ use Rattle.typed_tree.specs.Statements.{fill_statement, input_statement, element
 use Rattle.typed_tree.specs.Statements as Statements'
 use Rattle.typed_tree.specs.Programs.{TypedProgramTree}
 use Rattle.secrec_ast.specs.Programs.{ProgramTree}
-use Rattle.domain_types.specs.Typing.{IsTypedProgram}
+use Rattle.domain_types.specs.ProgramTypes.{IsAccepted}
 use Rattle.name_resolution.specs.Functions.{typed_of}
 use Rattle.reached_instances.specs.declared.instance.BoundDomain.{BoundDomain}
 use Rattle.reached_instances.specs.declared.instance.BoundDomain.TheVariants.{Public, Private}
@@ -173,7 +173,7 @@ main_is p h =
 pub well_typed_fits : (p : TypedProgramTree) (is : List Instance) → IsWellTyped p → IsReachedList p is → IsFitProgram p is
 well_typed_fits p is h reached = reached_fit p is reached (main_is p h.main) (λ i m. alone p i (h.instances i (reached.reached i m)))
 
-pub accepted_means : (source : ProgramTree) → IsTypedProgram source → IsWellWritten source → (p : TypedProgramTree) → typed_of source ≡ Some p
+pub accepted_means : (source : ProgramTree) → IsAccepted source → IsWellWritten source → (p : TypedProgramTree) → typed_of source ≡ Some p
     → (is : List Instance) → IsReachedList p is → MeansAlways p is
 accepted_means source accepted written p resolved is reached w budget answers =
     means p is (well_typed_fits p is (accepted_well_typed source accepted written p resolved) reached) w budget answers

@@ -1,7 +1,7 @@
 -- What is promised of the code of accepted programs.
 use Rattle.std.specs.Prelude.{◌≡◌, ◌≤◌, ℕ, List, length, Some}
 use Rattle.secrec_ast.specs.Programs.{ProgramTree}
-use Rattle.domain_types.specs.Typing.{IsTypedProgram}
+use Rattle.domain_types.specs.ProgramTypes.{IsAccepted}
 use Rattle.std.specs.List.{slice_get}
 use Rattle.sc_text.specs.Lists.{Among}
 use Rattle.typed_tree.specs.Programs.{TypedFunctionTree, TypedProgramTree}
@@ -33,7 +33,7 @@ MeansAlways p is = (w : World) (budget : ℕ) (answers : List ℕ) → mean_in w
 
 abbrev pub MeansWhereAccepted : ProgramTree → Type 0
 MeansWhereAccepted source =
-    IsTypedProgram source → IsWellWritten source → (p : TypedProgramTree) → typed_of source ≡ Some p → (is : List Instance) → IsReachedList p is
+    IsAccepted source → IsWellWritten source → (p : TypedProgramTree) → typed_of source ≡ Some p → (is : List Instance) → IsReachedList p is
     → MeansAlways p is
 
 -- ---- RAW CODE
@@ -64,7 +64,7 @@ IsSmallWithinLimits p is = IsWithinLimits p → IsReachedList p is → AreSmall 
 -- what is settled of the raw code of an accepted program that is not refused for its size does what the program does
 abbrev pub RunsWhereAccepted : ProgramTree → Type 0
 RunsWhereAccepted source =
-    IsTypedProgram source → IsWellWritten source → (p : TypedProgramTree) → typed_of source ≡ Some p → (is : List Instance) → IsReachedList p is
+    IsAccepted source → IsWellWritten source → (p : TypedProgramTree) → typed_of source ≡ Some p → (is : List Instance) → IsReachedList p is
     → IsWithinLimits p
     → IsVerified (raw_code_of_program p is)
     × ((w : World) (budget : ℕ) (answers : List ℕ) → mean_in w (settled (raw_code_of_program p is)) budget answers ≡ evaluated w p budget answers)

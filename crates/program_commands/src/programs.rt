@@ -1,7 +1,7 @@
 // Programs, by their texts and by paths.
 ghost use Rattle.std.specs.Prelude.{◌≡◌, ◌∷◌, [], true, IfOk, IfErr};
 ghost use Rattle.secrec_ast.specs.Programs.{program_tree};
-ghost use Rattle.domain_types.specs.Typing.{IsTypedProgram};
+ghost use Rattle.domain_types.specs.ProgramTypes as types;
 ghost use Rattle.typed_tree.specs.Programs.{typed_program_tree};
 ghost use Rattle.typed_tree.specs.Sound.{IsSound};
 ghost use Rattle.well_typed.specs.Sources.{IsWellWritten};
@@ -49,7 +49,7 @@ fn tree_of_text(alloc: Global, text: &[u8]) -> Result<Program, Stop>
     ensures answer { (judged : Judged) → IsJudged text.now judged → Decides program_tree result (accepted judged) }
     ensures judged { HasDecided result → IsJudgedSo text.now }
     ensures own { IfErr result IsOwnStop }
-    ensures typed { IfOk result (λ program. IsTypedProgram (program_tree program)) }
+    ensures typed { IfOk result (λ program. types.IsAccepted (program_tree program)) }
     ensures written { IfOk result (λ program. IsWellWritten (program_tree program)) }
     ensures placed { IfOk result (λ program. IsPlacedProgram (program_tree program)) }
 {

@@ -1,7 +1,7 @@
 -- The typed tree of an accepted program that is small enough to be run.
 use Rattle.std.specs.Prelude.{◌≡◌, Some}
 use Rattle.secrec_ast.specs.Programs.{ProgramTree}
-use Rattle.domain_types.specs.Typing.{IsTypedProgram}
+use Rattle.domain_types.specs.ProgramTypes as types
 use Rattle.code_inputs.specs.Sources.{IsWellWritten}
 use Rattle.writable_code.specs.Sources.{IsPlacedProgram}
 use Rattle.typed_tree.specs.Programs.{TypedProgramTree}
@@ -10,7 +10,7 @@ use Rattle.reached_instances.specs.Limits.{IsWithinLimits}
 
 pub record IsAccepted (p : TypedProgramTree) : Type 0 where
   pub source : ProgramTree
-  pub typed : IsTypedProgram source
+  pub typed : types.IsAccepted source
   pub written : IsWellWritten source
   pub placed : IsPlacedProgram source
   pub of : typed_of source ≡ Some p

@@ -1,7 +1,7 @@
 // The checker, and then the tree.
 ghost use Rattle.std.specs.Prelude.{◌≡◌, Some, IfOk};
 ghost use Rattle.secrec_ast.specs.Programs.{program_tree};
-ghost use Rattle.domain_types.specs.Typing.{IsTypedProgram};
+ghost use Rattle.domain_types.specs.ProgramTypes.{IsAccepted};
 ghost use Rattle.typed_tree.specs.Programs.{typed_program_tree};
 ghost use Rattle.typed_tree.specs.Sound.{IsSound};
 ghost use Rattle.name_resolution.specs.Functions.{typed_of};
@@ -16,7 +16,7 @@ use typed_tree::TypedProgram;
 /// The typed tree of a program that was checked: the functions that `main` reaches, in the order in which they are first called,
 /// with each slot and each call one that is there. There always is one, so it is missing only where memory runs short.
 pub fn checked_tree(alloc: Global, program: &Program) -> Result<TypedProgram, AllocError>
-    requires { IsTypedProgram (program_tree program.now) }
+    requires { IsAccepted (program_tree program.now) }
     ensures tree { IfOk result (λ t. typed_of (program_tree program.now) ≡ Some (typed_program_tree t)) }
     ensures sound { IfOk result (λ t. IsSound (typed_program_tree t)) }
 {

@@ -1,7 +1,7 @@
 -- Ends that can be written: a trap's line has 32 bits, the words that lack are fewer than 2^128, and those that are there fewer than 2^64.
 use Rattle.std.specs.Prelude.{◌≡◌, ℕ, ◌<◌, ◌^◌, List, Some}
 use Rattle.secrec_ast.specs.Programs.{ProgramTree}
-use Rattle.domain_types.specs.Typing.{IsTypedProgram}
+use Rattle.domain_types.specs.ProgramTypes.{IsAccepted}
 use Rattle.typed_tree.specs.Programs.{TypedProgramTree}
 use Rattle.name_resolution.specs.Functions.{typed_of}
 use Rattle.reached_instances.specs.Limits.{IsWithinLimits}
@@ -27,5 +27,5 @@ CanBeWritten Short = Unit {0}
 -- the evaluation of an accepted program within the limits of size, in the clear and by one who is told what is opened
 abbrev pub EndsCanBeWritten : ProgramTree → World → (budget : ℕ) → (answers : List ℕ) → Type 0
 EndsCanBeWritten source w budget answers =
-    IsTypedProgram source → IsWellWritten source → IsPlacedProgram source → (p : TypedProgramTree) → typed_of source ≡ Some p → IsWithinLimits p
+    IsAccepted source → IsWellWritten source → IsPlacedProgram source → (p : TypedProgramTree) → typed_of source ≡ Some p → IsWithinLimits p
     → HasRoom w budget → CanBeWritten (evaluated w p budget answers).stop

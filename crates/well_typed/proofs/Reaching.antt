@@ -13,6 +13,7 @@ use Rattle.sc_text.specs.Lists.{Among}
 use Rattle.domain_types.specs.Reached.{plain}
 use Rattle.domain_types.specs.ProgramTypes.{is_without, is_void, is_main, has_main}
 use Rattle.domain_types.specs.Typing.{IsTypedProgram}
+use Rattle.domain_types.proofs.TypingPrograms.{accepted_is_typed}
 use Rattle.typed_tree.specs.declared.function.Returned.TheVariants as given
 use Rattle.typed_tree.specs.Programs.{TypedFunctionTree, TypedProgramTree}
 use Rattle.name_resolution.specs.Functions.{given_back, typed_function, typed_functions, program_of}
@@ -177,9 +178,9 @@ module _ (p : ProgramTree) (accepted : IsTypedProgram p) (functions : List Typed
 pub accepted_well_typed : (p : ProgramTree) → IsWellTypedWhereAccepted p
 accepted_well_typed p accepted w t e =
     let m = mapped program_of (typed_functions (known_in p) (order.reached (declared_by p))) t e in
-    subst IsWellTyped m.is (well_typed_where_reached p accepted m.part m.there w)
+    subst IsWellTyped m.is (well_typed_where_reached p (accepted_is_typed p accepted) m.part m.there w)
 
 pub reached_checked : (p : ProgramTree) → AreInstancesChecked p
 reached_checked p accepted w t e =
     let m = mapped program_of (typed_functions (known_in p) (order.reached (declared_by p))) t e in
-    subst (λ z. (i : Instance) → IsReached z i → IsCheckedInstance p i) m.is (checked_where_reached p accepted m.part m.there w)
+    subst (λ z. (i : Instance) → IsReached z i → IsCheckedInstance p i) m.is (checked_where_reached p (accepted_is_typed p accepted) m.part m.there w)

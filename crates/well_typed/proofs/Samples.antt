@@ -22,7 +22,9 @@ use Rattle.domain_types.specs.Declarations.{Declared, declared_by, functions_of,
 use Rattle.domain_types.specs.ExpressionTypes.{within, defined_faults}
 use Rattle.sc_text.specs.Lists.{Among}
 use Rattle.domain_types.specs.Reached.{Call, Instance, Calls, IsChecked, plain, reached, function_calls}
+use Rattle.domain_types.specs.ProgramTypes.{IsAccepted}
 use Rattle.domain_types.specs.Typing.{IsTypedFunction, AreDomainVariables, IsTypedProgram}
+use Rattle.domain_types.proofs.TypingPrograms.{typed_is_accepted}
 use Rattle.typed_tree.specs.declared.kinds.SlotDomain.TheVariants as slot
 use Rattle.typed_tree.specs.declared.function.Returned.TheVariants.{Nothing, Value}
 use Rattle.typed_tree.specs.declared.operators.WordOperator.TheVariants as word
@@ -240,6 +242,9 @@ sample_typed =
           subst (λ (g : FunctionTree). AreDomainVariables d sample.items g.parameters [] g.variables) (same_Some template f there) template_head;
     }
 
+sample_accepted : IsAccepted sample
+sample_accepted = typed_is_accepted sample sample_typed
+
 sample_written : IsWellWritten sample
 sample_written = (((tt, omega arith), tt), (((tt, tt), ((tt, tt), tt)), tt))
 
@@ -272,7 +277,7 @@ sample_resolved : typed_of sample ≡ Some sample_tree
 sample_resolved = refl
 
 sample_well_typed : IsWellTyped sample_tree
-sample_well_typed = accepted_well_typed sample sample_typed sample_written sample_tree sample_resolved
+sample_well_typed = accepted_well_typed sample sample_accepted sample_written sample_tree sample_resolved
 
 -- `f` is reached with its domain variable bound to p
 abbrev private_template : typed.Instance
@@ -285,4 +290,4 @@ template_well_typed : IsWellTypedInstance sample_tree private_template
 template_well_typed = sample_well_typed.instances private_template template_reached
 
 template_checked : IsCheckedInstance sample private_template
-template_checked = reached_checked sample sample_typed sample_written sample_tree sample_resolved private_template template_reached
+template_checked = reached_checked sample sample_accepted sample_written sample_tree sample_resolved private_template template_reached

@@ -6,7 +6,7 @@ use Rattle.domain_types.specs.declared.value_type.Protection.{Protection}
 use Rattle.domain_types.specs.declared.value_type.Protection.TheVariants as checked
 use Rattle.domain_types.specs.Declarations.{declared_by, functions_of}
 use Rattle.domain_types.specs.Reached.{IsChecked}
-use Rattle.domain_types.specs.Typing.{IsTypedProgram}
+use Rattle.domain_types.specs.ProgramTypes.{IsAccepted}
 use Rattle.typed_tree.specs.Programs.{TypedProgramTree}
 use Rattle.name_resolution.specs.Order.{reached}
 use Rattle.name_resolution.specs.Functions.{typed_of}
@@ -18,7 +18,7 @@ use Rattle.well_typed.specs.Programs.{IsWellTyped}
 use Rattle.well_typed.specs.Sources.{IsWellWritten}
 
 abbrev pub IsWellTypedWhereAccepted : ProgramTree → Type 0
-IsWellTypedWhereAccepted p = IsTypedProgram p → IsWellWritten p → (t : TypedProgramTree) → typed_of p ≡ Some t → IsWellTyped t
+IsWellTypedWhereAccepted p = IsAccepted p → IsWellWritten p → (t : TypedProgramTree) → typed_of p ≡ Some t → IsWellTyped t
 
 -- the domain that the checker calls so
 abbrev pub bound_domain : Protection → BoundDomain
@@ -39,4 +39,4 @@ pub record IsCheckedInstance (p : ProgramTree) (i : Instance) : Type 0 where
 
 abbrev pub AreInstancesChecked : ProgramTree → Type 0
 AreInstancesChecked p =
-    IsTypedProgram p → IsWellWritten p → (t : TypedProgramTree) → typed_of p ≡ Some t → (i : Instance) → IsReached t i → IsCheckedInstance p i
+    IsAccepted p → IsWellWritten p → (t : TypedProgramTree) → typed_of p ≡ Some t → (i : Instance) → IsReached t i → IsCheckedInstance p i

@@ -11,7 +11,6 @@ use Rattle.domain_types.specs.ExpressionTypes.{within, built_in_result, call_fau
 use Rattle.domain_types.specs.FunctionTypes.{function_faults}
 use Rattle.domain_types.specs.ProgramTypes.{IsFault, declaring, inside, of_head}
 use Rattle.domain_types.specs.Reached.{Call, Instance, Calls, IsChecked, plain, reached, function_calls}
-use Rattle.domain_types.proofs.TypingPrograms.{accepted_is_typed}
 use Rattle.reached_instances.specs.Reached.{begins}
 use Rattle.reached_instances.specs.Limits.{IsWithinLimits}
 use Rattle.workload.specs.Load.{load_program}
@@ -57,7 +56,7 @@ no_fault g (of_head i c f h checked calls there among) = no_call c (subst (λ x.
 load_accepted : IsProgramText load_program load_tree
 load_accepted = record {
   spells = record { tokens = load_tokens; lexed = load_lexed; spelled = load_spelled; low = lit≤ tt };
-  typed = accepted_is_typed load_tree (record { faultless = no_fault });
+  typed = record { faultless = no_fault };
 }
 
 -- ---- it is small

@@ -10,7 +10,7 @@ use Rattle.sc_text.specs.Lists.{Among}
 use Rattle.sc_text.specs.Name.{is_name}
 use Rattle.secrec_ast.specs.Programs.{FunctionTree, ProgramTree}
 use Rattle.domain_types.specs.Declarations.{Declared, declared_by, functions_of}
-use Rattle.domain_types.specs.Typing.{IsTypedProgram}
+use Rattle.domain_types.specs.ProgramTypes.{IsAccepted}
 use Rattle.typed_tree.specs.Programs.{TypedFunctionTree, TypedProgramTree}
 use Rattle.name_resolution.specs.Functions.{typed_function, typed_functions, program_of, typed_of}
 use Rattle.name_resolution.specs.Order.{reached}
@@ -135,7 +135,7 @@ both_say ReturnNone w s = tt
 
 -- ---- PROGRAMS
 
-module _ (source : ProgramTree) (accepted : IsTypedProgram source) (written : IsWellWritten source) (placed : IsPlacedProgram source)
+module _ (source : ProgramTree) (accepted : IsAccepted source) (written : IsWellWritten source) (placed : IsPlacedProgram source)
     (p : TypedProgramTree) (resolved : typed_of source ≡ Some p) (is : List Instance) (reached_list : IsReachedList p is) (within : IsWithinLimits p) where
   abbrev own_code : Instance → Function
   own_code = instance_code p.functions (numbers_in is)

@@ -3,7 +3,7 @@ use Rattle.std.specs.Prelude.{◌≡◌, ℕ, ◌+◌, ◌*◌, ◌^◌, ◌<◌
 use Rattle.std.specs.List.{slice_get, flat_map}
 use Rattle.sc_text.specs.Name.{is_name}
 use Rattle.secrec_ast.specs.Programs.{ProgramTree}
-use Rattle.domain_types.specs.Typing.{IsTypedProgram}
+use Rattle.domain_types.specs.ProgramTypes.{IsAccepted}
 use Rattle.typed_tree.specs.Programs.{TypedProgramTree}
 use Rattle.name_resolution.specs.Functions.{typed_of}
 use Rattle.reached_instances.specs.Instances.{Instance}
@@ -42,7 +42,7 @@ IsWritableWhereRight c = AreRight c → HasRoom c → IsWritable (raw_code_of c)
 -- the code of an accepted program within the limits of size, whose lines and names are those of a text
 abbrev pub IsWritableWhereAccepted : ProgramTree → Type 0
 IsWritableWhereAccepted source =
-    IsTypedProgram source → IsWellWritten source → IsPlacedProgram source → (p : TypedProgramTree) → typed_of source ≡ Some p → (is : List Instance)
+    IsAccepted source → IsWellWritten source → IsPlacedProgram source → (p : TypedProgramTree) → typed_of source ≡ Some p → (is : List Instance)
     → IsReachedList p is → IsWithinLimits p → IsWritable (raw_code_of_program p is)
 
 -- ---- WEIGHTS

@@ -2,6 +2,7 @@ use Rattle.std.proofs.Common.{subst}
 use Rattle.front_end.specs.Answer.{IsAnswer, IsJust}
 use Rattle.front_end.specs.Refusals.{lexer_error, parser_error, type_err}
 use Rattle.front_end.proofs.Judgements.{handed_on, unlexed, unlexed_only, has_just, unparsed, unparsed_only, spells_just, untyped, untyped_only, typed_only}
+use Rattle.front_end.proofs.Judgements.{typed_so}
 use Rattle.front_end.proofs.reading.read_program.Goals as goal
 
 pub returns-in_err-tokens-clause-answer : goal.returns-in_err-tokens-clause-answer
@@ -46,6 +47,14 @@ returns-in_err-check-clause-only c judged j =
     let h = has_just c.args.text.now c.in_ok-tokens.tokens lexed.answer lexed.only_tokens lexed.only_refusal in
     let s = spells_just c.args.text.now c.in_ok-tokens.tokens c.in_ok-program.program h parsed.found parsed.only in
     subst (λ r. IsJust r judged) e (untyped_only c.args.text.now _ c.in_err-check.field-0.0 s c.in_err-check.ensures judged j)
+
+pub returns-clause-answer : goal.returns-clause-answer
+returns-clause-answer c =
+    let lexed = c.in_ok-tokens.ensures in
+    let parsed = c.in_ok-program.ensures in
+    let h = has_just c.args.text.now c.in_ok-tokens.tokens lexed.answer lexed.only_tokens lexed.only_refusal in
+    let s = spells_just c.args.text.now c.in_ok-tokens.tokens c.in_ok-program.program h parsed.found parsed.only in
+    typed_so c.args.text.now c.in_ok-program.program s c.in_ok-check.ensures.0
 
 pub returns-clause-only : goal.returns-clause-only
 returns-clause-only c judged j =
