@@ -197,11 +197,7 @@ run_of rows = do
   })
 
 unfoldable pub deal_of : List Row → Option DealAsk
-deal_of rows = Some (record {
-  input = required_of (codes "input") rows;
-  tape = required_of (codes "tape") rows;
-  to = required_of (codes "to") rows;
-})
+deal_of rows = Some (record { input = required_of (codes "input") rows; tape = required_of (codes "tape") rows; to = required_of (codes "to") rows })
 
 unfoldable pub check_of : List Row → Option CheckAsk
 check_of rows = Some (record { program = required_of (codes "program") rows })
@@ -212,11 +208,7 @@ compile_of rows = Some (record { program = required_of (codes "program") rows; c
 unfoldable pub eval_of : List Row → Option EvalAsk
 eval_of rows = do
   budget ← number_or default_budget (first_of (codes "budget") rows)
-  Some (record {
-    program = required_of (codes "program") rows;
-    input = required_of (codes "input") rows;
-    budget = budget;
-  })
+  Some (record { program = required_of (codes "program") rows; input = required_of (codes "input") rows; budget = budget })
 
 unfoldable pub map_of : List Row → Option MapAsk
 map_of rows = do
@@ -271,19 +263,10 @@ load_of rows = do
 unfoldable pub gather_of : List Row → Option GatherAsk
 gather_of rows = do
   number ← miner_of (required_of (codes "me") rows)
-  Some (record {
-    miner = number;
-    first = required_of (codes "share") rows;
-    more = others_of (codes "share") rows;
-    to = required_of (codes "to") rows;
-  })
+  Some (record { miner = number; first = required_of (codes "share") rows; more = others_of (codes "share") rows; to = required_of (codes "to") rows })
 
 unfoldable pub join_of : List Row → Option JoinAsk
-join_of rows = Some (record {
-  first = required_of (codes "first") rows;
-  second = required_of (codes "second") rows;
-  third = required_of (codes "third") rows;
-})
+join_of rows = Some (record { first = required_of (codes "first") rows; second = required_of (codes "second") rows; third = required_of (codes "third") rows })
 
 unfoldable pub miner_ask_of : List Row → Option MinerAsk
 miner_ask_of rows = do

@@ -4,3 +4,4 @@ pub mod Numbers
 pub mod Shapes
 pub mod Vectors
 pub mod Views
+pub mod inner

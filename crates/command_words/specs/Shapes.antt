@@ -27,13 +27,10 @@ unfoldable pub command_app : Text → List Text → List Text → List Text → 
 command_app name words required optional =
     with_options false (with_options true (fold (λ a id. with_rule a (word_rule id)) (new_app name) words) required) optional
 
-unfoldable pub run_options : List Text
-run_options =
-    codes "tape" ∷ codes "seed" ∷ codes "words" ∷ codes "schedule" ∷ codes "shuffle" ∷ codes "record" ∷ codes "budget" ∷ codes "views" ∷ []
-
 -- run PROGRAM --input F, and the options
 unfoldable pub run_app : App
-run_app = command_app (codes "run") (codes "program" ∷ []) (codes "input" ∷ []) run_options
+run_app = command_app (codes "run") (codes "program" ∷ []) (codes "input" ∷ [])
+    (codes "tape" ∷ codes "seed" ∷ codes "words" ∷ codes "schedule" ∷ codes "shuffle" ∷ codes "record" ∷ codes "budget" ∷ codes "views" ∷ [])
 
 -- deal --input F --tape F --to PREFIX
 unfoldable pub deal_app : App
@@ -58,19 +55,14 @@ evaluation_app name = command_app name (codes "program" ∷ []) (codes "input" �
 unfoldable pub view_app : Text → List Text → List Text → App
 view_app name required optional = command_app name (codes "miner" ∷ codes "program" ∷ []) required optional
 
-unfoldable pub map_required : List Text
-map_required = codes "input" ∷ codes "tape" ∷ codes "sim" ∷ codes "public" ∷ codes "opened" ∷ []
-
 -- map I PROGRAM --input F --tape F --sim F --public F --opened F, and the budget
 unfoldable pub map_app : App
-map_app = view_app (codes "map") map_required eval_options
-
-unfoldable pub simulate_options : List Text
-simulate_options = codes "schedule" ∷ codes "shuffle" ∷ codes "budget" ∷ []
+map_app = view_app (codes "map") (codes "input" ∷ codes "tape" ∷ codes "sim" ∷ codes "public" ∷ codes "opened" ∷ []) eval_options
 
 -- simulate I PROGRAM --public F --opened F --sim F --view F, and the options
 unfoldable pub simulate_app : App
-simulate_app = view_app (codes "simulate") (codes "public" ∷ codes "opened" ∷ codes "sim" ∷ codes "view" ∷ []) simulate_options
+simulate_app = view_app (codes "simulate") (codes "public" ∷ codes "opened" ∷ codes "sim" ∷ codes "view" ∷ [])
+    (codes "schedule" ∷ codes "shuffle" ∷ codes "budget" ∷ [])
 
 -- twin I PROGRAM --input F --second F --tape F --to F, and the budget
 unfoldable pub twin_app : App
@@ -80,63 +72,34 @@ twin_app = view_app (codes "twin") (codes "input" ∷ codes "second" ∷ codes "
 unfoldable pub load_app : App
 load_app = command_app (codes "load") [] (codes "number" ∷ []) []
 
-unfoldable pub gather_required : List Text
-gather_required = codes "me" ∷ codes "to" ∷ []
-
 -- gather --me I --to F SHARE..
 unfoldable pub gather_app : App
-gather_app = with_rule (command_app (codes "gather") [] gather_required []) (words_rule (codes "share"))
+gather_app = with_rule (command_app (codes "gather") [] (codes "me" ∷ codes "to" ∷ []) []) (words_rule (codes "share"))
 
 -- join T1 T2 T3
 unfoldable pub join_app : App
 join_app = command_app (codes "join") (codes "first" ∷ codes "second" ∷ codes "third" ∷ []) [] []
 
-unfoldable pub miner_required : List Text
-miner_required = codes "me" ∷ codes "share" ∷ codes "tape" ∷ codes "port" ∷ codes "out" ∷ []
-
 -- miner CODE --me I --share F --tape F --port P --out F, and the budget
 unfoldable pub miner_app : App
-miner_app = command_app (codes "miner") (codes "code" ∷ []) miner_required eval_options
-
-unfoldable pub trio_required : List Text
-trio_required = codes "input" ∷ codes "tape" ∷ codes "to" ∷ codes "port" ∷ []
+miner_app = command_app (codes "miner") (codes "code" ∷ [])
+    (codes "me" ∷ codes "share" ∷ codes "tape" ∷ codes "port" ∷ codes "out" ∷ []) eval_options
 
 -- trio PROGRAM --input F --tape F --to PREFIX --port P, and the budget
 unfoldable pub trio_app : App
-trio_app = command_app (codes "trio") (codes "program" ∷ []) trio_required eval_options
+trio_app = command_app (codes "trio") (codes "program" ∷ []) (codes "input" ∷ codes "tape" ∷ codes "to" ∷ codes "port" ∷ []) eval_options
 
 -- no command yet: the words begin after the program's name, and `help` is no command
 unfoldable pub bare_app : App
 bare_app = record (new_app (codes "secrec")) { top = record (new_app (codes "secrec")).top { no_binary_name = true; disable_help_subcommand = true } }
 
--- the commands that take inputs
-unfoldable pub input_app : App
-input_app = with_subcommand (with_subcommand bare_app run_app.top) deal_app.top
+-- with one more command
+abbrev pub with_command : App → App → App
+with_command a command = with_subcommand a command.top
 
--- and those that evaluate in the clear
-unfoldable pub clear_app : App
-clear_app = with_subcommand (with_subcommand input_app (evaluation_app (codes "eval")).top) (evaluation_app (codes "need")).top
-
--- and the one that checks a program
-unfoldable pub checking_app : App
-checking_app = with_subcommand clear_app check_app.top
-
--- and the one that compiles it
-unfoldable pub program_app : App
-program_app = with_subcommand checking_app compile_app.top
-
--- and those about one miner's view
-unfoldable pub viewing_app : App
-viewing_app = with_subcommand (with_subcommand (with_subcommand program_app map_app.top) simulate_app.top) twin_app.top
-
--- and the one that runs a workload
-unfoldable pub loading_app : App
-loading_app = with_subcommand viewing_app load_app.top
-
--- and the one that puts share files end to end
-unfoldable pub gathering_app : App
-gathering_app = with_subcommand loading_app gather_app.top
-
--- and those of three miners that run as programs of their own: all commands
+-- all commands
 unfoldable pub secrec_app : App
-secrec_app = with_subcommand (with_subcommand (with_subcommand gathering_app miner_app.top) trio_app.top) join_app.top
+secrec_app = fold with_command bare_app
+    (run_app ∷ deal_app ∷ evaluation_app (codes "eval") ∷ evaluation_app (codes "need") ∷ check_app ∷ compile_app ∷ map_app ∷ simulate_app ∷ twin_app
+    ∷ load_app
+    ∷ gather_app ∷ miner_app ∷ trio_app ∷ join_app ∷ [])

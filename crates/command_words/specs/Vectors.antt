@@ -12,20 +12,18 @@ use Rattle.command_words.specs.Ask.{order_of, number_or, required_of}
 use Rattle.command_words.specs.Ask.{join, join_of, miner, miner_ask_of, trio, trio_of}
 use Rattle.command_words.specs.Numbers.{number_of, miner_of, port_of, seed_of}
 use Rattle.proto_core.specs.declared.party.Number.TheVariants.{One, Two, Three}
-use Rattle.command_words.specs.Shapes.{gather_app, gather_required, gathering_app, loading_app, words_rule}
-use Rattle.command_words.specs.Shapes.{join_app, miner_app, miner_required, trio_app, trio_required}
-use Rattle.command_words.specs.Shapes.{secrec_app, viewing_app, program_app, checking_app, clear_app, input_app, run_app, deal_app, check_app}
+use Rattle.command_words.specs.Shapes.{gather_app, words_rule, join_app, miner_app, trio_app, secrec_app, run_app, deal_app, check_app}
 use Rattle.command_words.specs.Shapes.{compile_app, evaluation_app, view_app, map_app, simulate_app, twin_app}
-use Rattle.command_words.specs.Shapes.{load_app, command_app, bare_app, run_options, eval_options, map_required, simulate_options, with_options}
+use Rattle.command_words.specs.Shapes.{load_app, command_app, bare_app, eval_options, with_options}
 use Rattle.command_words.specs.Shapes.{word_rule, option_rule}
 
 -- opens the definitions, so that they compute at words that are written out
 unfoldable pub words_on_literals : ⊤
-unfolding clap_on_literals hex_on_literals secrec_app viewing_app program_app checking_app clear_app input_app run_app deal_app check_app compile_app
-    evaluation_app view_app map_app simulate_app twin_app load_app command_app bare_app run_options eval_options map_required simulate_options
+unfolding clap_on_literals hex_on_literals secrec_app run_app deal_app check_app compile_app
+    evaluation_app view_app map_app simulate_app twin_app load_app command_app bare_app eval_options
     with_options word_rule option_rule words_of named_in named matched run_of deal_of check_of compile_of eval_of map_of simulate_of twin_of load_of
-    source_of seeded_source order_of number_or required_of number_of miner_of seed_of gather_app gather_required loading_app words_rule gather_of others_of
-    gathering_app join_app miner_app miner_required trio_app trio_required join_of miner_ask_of trio_of port_of
+    source_of seeded_source order_of number_or required_of number_of miner_of seed_of gather_app words_rule gather_of others_of
+    join_app miner_app trio_app join_of miner_ask_of trio_of port_of
 words_on_literals = tt
 
 -- run p.sc --input i, and then these words

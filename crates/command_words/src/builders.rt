@@ -1,10 +1,10 @@
 //! The `clap` command that reads the words.
 ghost use Rattle.std.specs.Prelude.{◌≡◌, IfOk, map};
-ghost use Rattle.command_words.specs.Shapes.{gather_app, gather_required, gathering_app, loading_app, words_rule};
-ghost use Rattle.command_words.specs.Shapes.{join_app, miner_app, miner_required, trio_app, trio_required};
-ghost use Rattle.command_words.specs.Shapes.{word_rule, option_rule, run_options, run_app, deal_app, check_app, compile_app, eval_options};
-ghost use Rattle.command_words.specs.Shapes.{evaluation_app, view_app, map_required, map_app, simulate_options, simulate_app, twin_app, load_app};
-ghost use Rattle.command_words.specs.Shapes.{with_options, bare_app, input_app, clear_app, checking_app, program_app, viewing_app, secrec_app};
+ghost use Rattle.command_words.specs.Shapes.{gather_app, words_rule, join_app, miner_app, trio_app, word_rule, option_rule, run_app, deal_app};
+ghost use Rattle.command_words.specs.Shapes.{check_app, compile_app, eval_options, evaluation_app, view_app, map_app, simulate_app, twin_app};
+ghost use Rattle.command_words.specs.Shapes.{load_app, with_options, bare_app, secrec_app};
+ghost use Rattle.command_words.specs.inner.Parts.{gather_required, map_required, miner_required, run_options, simulate_options, trio_required};
+ghost use Rattle.command_words.specs.inner.Parts.{input_app, clear_app, checking_app, program_app, viewing_app, loading_app, gathering_app};
 ghost use Rattle.clap.specs.Words.{App, with_rule, with_subcommand};
 ghost use Rattle.command_words.specs.Builds.{Builds, IsLocal};
 
@@ -99,7 +99,7 @@ static TWIN_REQUIRED: [&str; 4] = ["input", "second", "tape", "to"];
 static LOAD_REQUIRED: [&str; 1] = ["number"];
 
 // The options of `run` that may be left out.
-#[tactic(auto, unfolding(crate::specs::Shapes::run_options))]
+#[tactic(auto, unfolding(crate::specs::inner::Parts::run_options))]
 fn run_options() -> &'static [&'static str]
     ensures { map (λ s. s.now) result.now ≡ run_options }
 {
@@ -171,14 +171,14 @@ fn view_command<'a>(
 }
 
 // The options of `map` that must be there.
-#[tactic(auto, unfolding(crate::specs::Shapes::map_required))]
+#[tactic(auto, unfolding(crate::specs::inner::Parts::map_required))]
 fn map_required() -> &'static [&'static str]
     ensures { map (λ s. s.now) result.now ≡ map_required }
 {
     MAP_REQUIRED.as_slice()
 }
 
-#[tactic(auto, unfolding(crate::specs::Shapes::map_app))]
+#[tactic(auto, unfolding(crate::specs::Shapes::map_app, crate::specs::inner::Parts::map_required))]
 fn map_command<'a>(alloc: Global) -> Result<Command<'a>, AllocError>
     ensures { IfOk result (λ c. Builds map_app c) }
 {
@@ -186,14 +186,14 @@ fn map_command<'a>(alloc: Global) -> Result<Command<'a>, AllocError>
 }
 
 // The options of `simulate` that may be left out.
-#[tactic(auto, unfolding(crate::specs::Shapes::simulate_options))]
+#[tactic(auto, unfolding(crate::specs::inner::Parts::simulate_options))]
 fn simulate_options() -> &'static [&'static str]
     ensures { map (λ s. s.now) result.now ≡ simulate_options }
 {
     SIMULATE_OPTIONS.as_slice()
 }
 
-#[tactic(auto, unfolding(crate::specs::Shapes::simulate_app))]
+#[tactic(auto, unfolding(crate::specs::Shapes::simulate_app, crate::specs::inner::Parts::simulate_options))]
 fn simulate_command<'a>(alloc: Global) -> Result<Command<'a>, AllocError>
     ensures { IfOk result (λ c. Builds simulate_app c) }
 {
@@ -226,7 +226,7 @@ fn load_command<'a>(alloc: Global) -> Result<Command<'a>, AllocError>
 static GATHER_REQUIRED: [&str; 2] = ["me", "to"];
 
 // The options of `gather`.
-#[tactic(auto, unfolding(crate::specs::Shapes::gather_required))]
+#[tactic(auto, unfolding(crate::specs::inner::Parts::gather_required))]
 fn gather_required() -> &'static [&'static str]
     ensures { map (λ s. s.now) result.now ≡ gather_required }
 {
@@ -256,7 +256,7 @@ fn join_command<'a>(alloc: Global) -> Result<Command<'a>, AllocError>
 static MINER_REQUIRED: [&str; 5] = ["me", "share", "tape", "port", "out"];
 
 // The options of `miner` that must be there.
-#[tactic(auto, unfolding(crate::specs::Shapes::miner_required))]
+#[tactic(auto, unfolding(crate::specs::inner::Parts::miner_required))]
 fn miner_required() -> &'static [&'static str]
     ensures { map (λ s. s.now) result.now ≡ miner_required }
 {
@@ -274,7 +274,7 @@ fn miner_command<'a>(alloc: Global) -> Result<Command<'a>, AllocError>
 static TRIO_REQUIRED: [&str; 4] = ["input", "tape", "to", "port"];
 
 // The options of `trio` that must be there.
-#[tactic(auto, unfolding(crate::specs::Shapes::trio_required))]
+#[tactic(auto, unfolding(crate::specs::inner::Parts::trio_required))]
 fn trio_required() -> &'static [&'static str]
     ensures { map (λ s. s.now) result.now ≡ trio_required }
 {

@@ -2,7 +2,9 @@
 --
 -- Over steady objects that hold files as they must be its effect is there whole, or memory ran out. It is refused exactly for the first file that is
 -- there and not as it must be, or a fault is told.
-use Rattle.std.specs.Prelude.{◌≡◌, ℕ, ℤ, List, true, Some}
+use Rattle.std.specs.Prelude.{◌≡◌, ℕ, ℤ, Bool, List, true, Some}
+use Rattle.outside.specs.Files.{Contents}
+use Rattle.command_frame.specs.Answer.{Effect}
 use Rattle.command_frame.specs.declared.status.Status.{Status}
 use Rattle.command_frame.specs.declared.status.Status.TheVariants.{Schedule}
 use Rattle.command_frame.specs.Moments.{AreTold, Moment}
@@ -39,52 +41,38 @@ statuses_in before after i = (outside_of before.sources after.sources).status (p
 abbrev pub Asks : List (List ℕ) → Moment → Ask → Type 0 → Type 0
 Asks words before ask Then = words_of words ≡ Some ask → before.sources.files.told ≡ true → Then
 
+-- what a command keeps over files alone that the words ask for, with this effect and these refusals for what the files hold
+abbrev pub Kept : List (List ℕ) → (before after : Moment) → (given : Status) → Ask → (Contents → Effect → Type 0) → (Contents → Status → Type 0)
+    → (ends : Status → Bool) → Type 0
+Kept words before after given ask Wanted Refused ends =
+    Asks words before ask (Keeps (Wanted (contents_in before)) (Refused (contents_in before)) ends before after given)
+
 pub record Commands (words : List (List ℕ)) (before after : Moment) (given : Status) : Type 0 where
   -- `check` prints `ok`, `compile` writes the code of the program, `eval` prints the text of the evaluation in the clear and `need` the words
   -- that it used.
-  pub checks :
-      (ask : CheckAsk) → Asks words before (check ask)
-      (Keeps (CheckEffect ask (contents_in before)) (ProgramRefused ask.program (contents_in before)) is_done before after given)
-  pub compiles :
-      (ask : CompileAsk) → Asks words before (compile ask)
-      (Keeps (CompileEffect ask (contents_in before)) (ProgramRefused ask.program (contents_in before)) is_done before after given)
-  pub evaluates :
-      (ask : EvalAsk) → Asks words before (eval ask)
-      (Keeps (EvalEffect eval_text ask (contents_in before)) (EvalRefused ask (contents_in before)) is_end before after given)
-  pub tells_needs :
-      (ask : EvalAsk) → Asks words before (need ask)
-      (Keeps (EvalEffect need_text ask (contents_in before)) (EvalRefused ask (contents_in before)) is_end before after given)
+  pub checks : (ask : CheckAsk) → Kept words before after given (check ask) (CheckEffect ask) (ProgramRefused ask.program) is_done
+  pub compiles : (ask : CompileAsk) → Kept words before after given (compile ask) (CompileEffect ask) (ProgramRefused ask.program) is_done
+  pub evaluates : (ask : EvalAsk) → Kept words before after given (eval ask) (EvalEffect eval_text ask) (EvalRefused ask) is_end
+  pub tells_needs : (ask : EvalAsk) → Kept words before after given (need ask) (EvalEffect need_text ask) (EvalRefused ask) is_end
   -- `run` prints the text of the evaluation with tapes of these lengths, and writes the miners' views and the links on which messages were
   -- delivered. It is refused also for a schedule with an entry that has no message, or that leaves a miner waiting, and for a schedule only so.
-  pub runs :
-      (ask : RunAsk) → Asks words before (run ask)
-      (Keeps (RunEffect ask (contents_in before)) (RunRefused ask (contents_in before)) is_end before after given)
+  pub runs : (ask : RunAsk) → Kept words before after given (run ask) (RunEffect ask) (RunRefused ask) is_end
   pub schedule_refused_only : (ask : RunAsk) → Asks words before (run ask) (given ≡ Schedule → ScheduleRefused ask (contents_in before))
   -- `deal` writes its six files. A dealer's tape with too few words is a refusal of it.
-  pub deals :
-      (ask : DealAsk) → Asks words before (deal ask)
-      (Keeps (DealEffect ask (contents_in before)) (DealRefused ask (contents_in before)) is_done before after given)
+  pub deals : (ask : DealAsk) → Kept words before after given (deal ask) (DealEffect ask) (DealRefused ask) is_done
   -- `gather` writes a miner's share files of several owners as one: their entries end to end, and the lengths of their tapes as those of
   -- one dealing. Files of which two inputs have one name, or whose lengths don't go together, are a refusal of it.
-  pub gathers :
-      (ask : GatherAsk) → Asks words before (gather ask)
-      (Keeps (GatherEffect ask (contents_in before)) (GatherRefused ask (contents_in before)) is_done before after given)
+  pub gathers : (ask : GatherAsk) → Kept words before after given (gather ask) (GatherEffect ask) (GatherRefused ask) is_done
   -- `map` writes the tapes that the miner's view of the run is made of, the public part of the inputs, and what is opened, however
   -- the run ends.
-  pub maps :
-      (ask : MapAsk) → Asks words before (map_tape ask)
-      (Keeps (MapEffect ask (contents_in before)) (MapRefused ask (contents_in before)) is_done before after given)
+  pub maps : (ask : MapAsk) → Kept words before after given (map_tape ask) (MapEffect ask) (MapRefused ask) is_done
   -- `simulate` writes the view that the simulator makes for the miner of the public part of the inputs, the opened words and the tapes,
   -- however the run of one who is told these words ends. Words that don't suffice are a refusal of it, and else a schedule that its net
   -- can't follow to the end.
-  pub simulates :
-      (ask : SimulateAsk) → Asks words before (simulate ask)
-      (Keeps (SimulateEffect ask (contents_in before)) (SimulateRefused ask (contents_in before)) is_done before after given)
+  pub simulates : (ask : SimulateAsk) → Kept words before after given (simulate ask) (SimulateEffect ask) (SimulateRefused ask) is_done
   -- `twin` writes the tapes with which the second inputs give the miner the view of the first. Inputs that are not alike, in what
   -- everybody knows or in what is opened, are a refusal of it.
-  pub twins :
-      (ask : TwinAsk) → Asks words before (twin ask)
-      (Keeps (TwinEffect ask (contents_in before)) (TwinRefused ask (contents_in before)) is_done before after given)
+  pub twins : (ask : TwinAsk) → Kept words before after given (twin ask) (TwinEffect ask) (TwinRefused ask) is_done
   -- `load` prints the text of the evaluation of the workload of its number, and how many messages were delivered, with the evaluation's end; or the
   -- output failed, which a steady one doesn't, or memory ran out. It is never refused. It reads no file, so whether any tells or is steady is all one.
   pub loads : (ask : LoadAsk) → words_of words ≡ Some (load ask) → Loaded ask before.out after.out given

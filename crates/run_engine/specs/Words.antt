@@ -1,7 +1,7 @@
--- What each command decides of all that is told.
+-- What each command is to those that call it: its answer to all that is told, its paths, what it reaches, and how it ends.
 use Rattle.std.specs.Prelude.{◌≡◌, ℕ, List, [], Bool, true, false, Err}
 use Rattle.std.specs.Option.{option_map_or}
-use Rattle.command_frame.specs.Answer.{Course, at_once, usage}
+use Rattle.command_frame.specs.Answer.{Answer, Course, at_once, usage}
 use Rattle.command_frame.specs.Moments.{Reach, files_alone}
 use Rattle.command_frame.specs.declared.status.Status.{Status}
 use Rattle.command_frame.specs.Status.{is_done, is_end, of_peers, of_texts}
@@ -25,94 +25,6 @@ use Rattle.miner_commands.specs.Run.{ran_paths, run_of, run_paths}
 use Rattle.tape_commands.specs.Simulate.{simulate_of, simulate_paths, simulated_paths}
 use Rattle.tape_commands.specs.Twin.{twin_of, twin_paths, twinned_paths}
 
--- what a command comes to, by all that is told
-unfoldable pub answer_to : Ask → Told → Course
-answer_to (run ask) told = at_once (run_of told.found ask told.outside.files)
-answer_to (deal ask) told = at_once (deal_of ask told.outside.files)
-answer_to (check ask) told = at_once (check_of told.found ask told.outside.files)
-answer_to (compile ask) told = at_once (compile_of told.found ask told.outside.files)
-answer_to (eval ask) told = at_once (eval_of told.found ask told.outside.files)
-answer_to (need ask) told = at_once (needs_of told.found ask told.outside.files)
-answer_to (map_tape ask) told = at_once (map_of told.found ask told.outside.files)
-answer_to (simulate ask) told = at_once (simulate_of told.found ask told.outside.files)
-answer_to (twin ask) told = at_once (twin_of told.found ask told.outside.files)
-answer_to (load ask) told = at_once (load_of ask)
-answer_to (gather ask) told = at_once (gather_of ask told.outside.files)
-answer_to (join ask) told = at_once (join_of ask told.outside.files)
-answer_to (miner ask) told = at_once (miner_of ask told.outside.files told.outside.coming)
-answer_to (trio ask) told = trio_of told.found ask told.outside.files (λ i. told.outside.status (place_of i))
-
--- what it asks of a program; what that of a workload is doesn't hang on any file
-unfoldable pub question_of : Ask → Question
-question_of (run ask) = its_program ask.program
-question_of (deal ask) = nothing
-question_of (check ask) = its_program ask.program
-question_of (compile ask) = its_program ask.program
-question_of (eval ask) = its_program ask.program
-question_of (need ask) = its_program ask.program
-question_of (map_tape ask) = its_program ask.program
-question_of (simulate ask) = its_program ask.program
-question_of (twin ask) = its_program ask.program
-question_of (load ask) = nothing
-question_of (gather ask) = nothing
-question_of (join ask) = nothing
-question_of (miner ask) = nothing
-question_of (trio ask) = its_program ask.program
-
--- the paths that a command reads
-unfoldable pub reads_of : Ask → List (List ℕ)
-reads_of (run ask) = run_paths ask
-reads_of (deal ask) = deal_paths ask
-reads_of (check ask) = check_paths ask
-reads_of (compile ask) = compile_paths ask
-reads_of (eval ask) = eval_paths ask
-reads_of (need ask) = eval_paths ask
-reads_of (map_tape ask) = map_paths ask
-reads_of (simulate ask) = simulate_paths ask
-reads_of (twin ask) = twin_paths ask
-reads_of (load ask) = []
-reads_of (gather ask) = gather_paths ask
-reads_of (join ask) = join_paths ask
-reads_of (miner ask) = miner_paths ask
-reads_of (trio ask) = trio_paths ask
-
--- the paths that it writes
-unfoldable pub writes_of : Ask → List (List ℕ)
-writes_of (run ask) = ran_paths ask
-writes_of (deal ask) = written_paths ask.to
-writes_of (check ask) = []
-writes_of (compile ask) = compiled_paths ask
-writes_of (eval ask) = []
-writes_of (need ask) = []
-writes_of (map_tape ask) = mapped_paths ask
-writes_of (simulate ask) = simulated_paths ask.view
-writes_of (twin ask) = twinned_paths ask.to
-writes_of (load ask) = []
-writes_of (gather ask) = gathered_paths ask.to
-writes_of (join ask) = []
-writes_of (miner ask) = text_paths ask
-writes_of (trio ask) = prepared_paths ask
-
--- the paths that it reads once its first files are written
-unfoldable pub later_of : Ask → List (List ℕ)
-later_of (run ask) = []
-later_of (deal ask) = []
-later_of (check ask) = []
-later_of (compile ask) = []
-later_of (eval ask) = []
-later_of (need ask) = []
-later_of (map_tape ask) = []
-later_of (simulate ask) = []
-later_of (twin ask) = []
-later_of (load ask) = []
-later_of (gather ask) = []
-later_of (join ask) = []
-later_of (miner ask) = []
-later_of (trio ask) = texts_later ask
-
-abbrev pub paths_of : Ask → Paths
-paths_of ask = record { read = reads_of ask; written = writes_of ask; later = later_of ask }
-
 -- files, and the texts of miners in them; files, and links to the peers
 abbrev pub texts_alone : Reach
 texts_alone = record { links = false; children = false; breach = of_texts }
@@ -120,39 +32,86 @@ texts_alone = record { links = false; children = false; breach = of_texts }
 abbrev pub files_and_links : Reach
 files_and_links = record { links = true; children = false; breach = of_peers }
 
--- what it reaches beside files and output: other miners, or other programs
-abbrev pub reach_of : Ask → Reach
-reach_of (run ask) = files_alone
-reach_of (deal ask) = files_alone
-reach_of (check ask) = files_alone
-reach_of (compile ask) = files_alone
-reach_of (eval ask) = files_alone
-reach_of (need ask) = files_alone
-reach_of (map_tape ask) = files_alone
-reach_of (simulate ask) = files_alone
-reach_of (twin ask) = files_alone
-reach_of (load ask) = files_alone
-reach_of (gather ask) = files_alone
-reach_of (join ask) = texts_alone
-reach_of (miner ask) = files_and_links
-reach_of (trio ask) = trio_reach
+-- what a command is to those that call it
+pub record Conduct : Type 0 where
+  -- what it comes to, by all that is told
+  pub answer : Told → Course
+  -- what it asks of a program
+  pub question : Question
+  -- the paths that it reads, those that it writes, and those that it reads once its first files are written
+  pub reads : List (List ℕ)
+  pub writes : List (List ℕ)
+  pub later : List (List ℕ)
+  -- what it reaches beside files and output: other miners, or other programs
+  pub reach : Reach
+  -- how it ends where it isn't refused: done, or as the run or the evaluation ends that it tells of
+  pub ends : Status → Bool
 
--- how it ends where it isn't refused: done, or as the run or the evaluation ends that it tells of
+-- a command that asks this of a program, reads and writes these paths, ends so, and decides at once, by what it is told
+abbrev pub deciding : Question → (reads writes : List (List ℕ)) → (ends : Status → Bool) → (Told → Answer) → Conduct
+deciding question reads writes ends decide = record {
+  answer = λ told. at_once (decide told);
+  question = question;
+  reads = reads;
+  writes = writes;
+  later = [];
+  reach = files_alone;
+  ends = ends;
+}
+
+-- what a program of a workload is doesn't hang on any file
+abbrev pub conduct_of : Ask → Conduct
+conduct_of (run ask) = deciding (its_program ask.program) (run_paths ask) (ran_paths ask) is_end (λ told. run_of told.found ask told.outside.files)
+conduct_of (deal ask) = deciding nothing (deal_paths ask) (written_paths ask.to) is_done (λ told. deal_of ask told.outside.files)
+conduct_of (check ask) = deciding (its_program ask.program) (check_paths ask) [] is_done (λ told. check_of told.found ask told.outside.files)
+conduct_of (compile ask) =
+    deciding (its_program ask.program) (compile_paths ask) (compiled_paths ask) is_done (λ told. compile_of told.found ask told.outside.files)
+conduct_of (eval ask) = deciding (its_program ask.program) (eval_paths ask) [] is_end (λ told. eval_of told.found ask told.outside.files)
+conduct_of (need ask) = deciding (its_program ask.program) (eval_paths ask) [] is_end (λ told. needs_of told.found ask told.outside.files)
+conduct_of (map_tape ask) =
+    deciding (its_program ask.program) (map_paths ask) (mapped_paths ask) is_done (λ told. map_of told.found ask told.outside.files)
+conduct_of (simulate ask) =
+    deciding (its_program ask.program) (simulate_paths ask) (simulated_paths ask.view) is_done (λ told. simulate_of told.found ask told.outside.files)
+conduct_of (twin ask) =
+    deciding (its_program ask.program) (twin_paths ask) (twinned_paths ask.to) is_done (λ told. twin_of told.found ask told.outside.files)
+conduct_of (load ask) = deciding nothing [] [] is_end (λ told. load_of ask)
+conduct_of (gather ask) = deciding nothing (gather_paths ask) (gathered_paths ask.to) is_done (λ told. gather_of ask told.outside.files)
+conduct_of (join ask) = record (deciding nothing (join_paths ask) [] is_end (λ told. join_of ask told.outside.files)) { reach = texts_alone }
+conduct_of (miner ask) = record (deciding nothing (miner_paths ask) (text_paths ask) is_end
+    (λ told. miner_of ask told.outside.files told.outside.coming)) { reach = files_and_links }
+conduct_of (trio ask) = record {
+  answer = λ told. trio_of told.found ask told.outside.files (λ i. told.outside.status (place_of i));
+  question = its_program ask.program;
+  reads = trio_paths ask;
+  writes = prepared_paths ask;
+  later = texts_later ask;
+  reach = trio_reach;
+  ends = is_end;
+}
+
+unfoldable pub answer_to : Ask → Told → Course
+answer_to ask = (conduct_of ask).answer
+
+unfoldable pub question_of : Ask → Question
+question_of ask = (conduct_of ask).question
+
+unfoldable pub reads_of : Ask → List (List ℕ)
+reads_of ask = (conduct_of ask).reads
+
+unfoldable pub writes_of : Ask → List (List ℕ)
+writes_of ask = (conduct_of ask).writes
+
+unfoldable pub later_of : Ask → List (List ℕ)
+later_of ask = (conduct_of ask).later
+
+abbrev pub paths_of : Ask → Paths
+paths_of ask = record { read = reads_of ask; written = writes_of ask; later = later_of ask }
+
+abbrev pub reach_of : Ask → Reach
+reach_of ask = (conduct_of ask).reach
+
 abbrev pub ends_of : Ask → Status → Bool
-ends_of (run ask) = is_end
-ends_of (deal ask) = is_done
-ends_of (check ask) = is_done
-ends_of (compile ask) = is_done
-ends_of (eval ask) = is_end
-ends_of (need ask) = is_end
-ends_of (map_tape ask) = is_done
-ends_of (simulate ask) = is_done
-ends_of (twin ask) = is_done
-ends_of (load ask) = is_end
-ends_of (gather ask) = is_done
-ends_of (join ask) = is_end
-ends_of (miner ask) = is_end
-ends_of (trio ask) = is_end
+ends_of ask = (conduct_of ask).ends
 
 -- the same of words; those that ask for no command are refused as usage
 unfoldable pub answer_of : List (List ℕ) → Told → Course

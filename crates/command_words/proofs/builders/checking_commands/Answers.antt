@@ -1,4 +1,5 @@
-use Rattle.command_words.specs.Shapes.{check_app, checking_app, clear_app}
+use Rattle.command_words.specs.Shapes.{check_app}
+use Rattle.command_words.specs.inner.Parts.{checking_app, clear_app}
 use Rattle.command_words.proofs.builders.checking_commands.Goals as goal
 
 pub returns : goal.returns

@@ -1,6 +1,7 @@
 use Rattle.std.proofs.Common.{codes}
 use Rattle.clap.specs.Words.{with_subcommand}
-use Rattle.command_words.specs.Shapes.{evaluation_app, input_app, clear_app}
+use Rattle.command_words.specs.Shapes.{evaluation_app}
+use Rattle.command_words.specs.inner.Parts.{input_app, clear_app}
 use Rattle.command_words.proofs.builders.clear_commands.Goals as goal
 
 pub returns : goal.returns

@@ -1,4 +1,5 @@
-use Rattle.command_words.specs.Shapes.{gather_app, gathering_app, loading_app}
+use Rattle.command_words.specs.Shapes.{gather_app}
+use Rattle.command_words.specs.inner.Parts.{gathering_app, loading_app}
 use Rattle.command_words.proofs.builders.gathering_commands.Goals as goal
 
 pub returns : goal.returns

@@ -1,5 +1,6 @@
 use Rattle.clap.specs.Words.{with_subcommand}
-use Rattle.command_words.specs.Shapes.{bare_app, run_app, deal_app, input_app}
+use Rattle.command_words.specs.Shapes.{bare_app, run_app, deal_app}
+use Rattle.command_words.specs.inner.Parts.{input_app}
 use Rattle.command_words.proofs.builders.input_commands.Goals as goal
 
 pub returns : goal.returns

@@ -1,4 +1,5 @@
-use Rattle.command_words.specs.Shapes.{load_app, loading_app, viewing_app}
+use Rattle.command_words.specs.Shapes.{load_app}
+use Rattle.command_words.specs.inner.Parts.{loading_app, viewing_app}
 use Rattle.command_words.proofs.builders.loading_commands.Goals as goal
 
 pub returns : goal.returns

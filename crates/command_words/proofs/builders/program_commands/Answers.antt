@@ -1,4 +1,5 @@
-use Rattle.command_words.specs.Shapes.{checking_app, compile_app, program_app}
+use Rattle.command_words.specs.Shapes.{compile_app}
+use Rattle.command_words.specs.inner.Parts.{checking_app, program_app}
 use Rattle.command_words.proofs.builders.program_commands.Goals as goal
 
 pub returns : goal.returns

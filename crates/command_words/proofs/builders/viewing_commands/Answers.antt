@@ -1,5 +1,6 @@
 use Rattle.clap.specs.Words.{with_subcommand}
-use Rattle.command_words.specs.Shapes.{map_app, program_app, simulate_app, twin_app, viewing_app}
+use Rattle.command_words.specs.Shapes.{map_app, simulate_app, twin_app}
+use Rattle.command_words.specs.inner.Parts.{program_app, viewing_app}
 use Rattle.command_words.proofs.builders.viewing_commands.Goals as goal
 
 pub returns : goal.returns
