@@ -1,26 +1,18 @@
 // What the comparison of shared numbers costs when it is written by hand in plain Rust: three miners in one process, the same plan of gates, draws, messages
 // and blocks of 512 elements as `secrec run` has for `a < b`, without types for parties and rings, without refusals and without proofs.
-// `bench/programs_on_shares.sh` builds it with `rustc -O`. With a second word it only makes the shares and the tapes.
+// `bench/programs_on_shares.sh` builds it with `rustc -O`. With `shares` it only makes the shares; with another second word the tapes are those of
+// this tape file, read where they are drawn.
+#[path = "tape_by_hand.rs"]
+mod tape_by_hand;
+
 use std::time::Instant;
+use tape_by_hand::Tapes;
 
 const BLOCK: usize = 512;
 const WIDTHS: [u32; 6] = [1, 2, 4, 8, 16, 32];
 
 // A value: the shares of the three miners.
 type Shared = [Vec<u64>; 3];
-
-struct Tapes {
-    words: [Vec<u64>; 3],
-    drawn: [usize; 3],
-}
-
-impl Tapes {
-    fn draw(&mut self, miner: usize, count: usize) -> Vec<u64> {
-        let from = self.drawn[miner];
-        self.drawn[miner] += count;
-        self.words[miner][from..from + count].to_vec()
-    }
-}
 
 fn spread(k: u64) -> u64 {
     k.wrapping_mul(0x9E37_79B9_7F4A_7C15).rotate_left(17)
@@ -134,17 +126,23 @@ fn main() {
     let u: Shared = [0, 1, 2].map(|party| words(n, 7, party));
     let v: Shared = [0, 1, 2].map(|party| words(n, 11, party));
     let counts = [119 * n, 117 * n, 117 * n];
-    let mut tapes = Tapes { words: [0, 1, 2].map(|party| words(counts[party], 3, party as u64)), drawn: [0; 3] };
-    if std::env::args().nth(2).is_some() {
-        println!("words {}", u[0].len() + v[0].len() + tapes.words.iter().map(Vec::len).sum::<usize>());
+    let of = std::env::args().nth(2);
+    if of.as_deref() == Some("shares") {
+        println!("shares {}", 3 * (u[0].len() + v[0].len()));
         return;
     }
+    let mut tapes = match of {
+        None => Tapes::held([0, 1, 2].map(|party| words(counts[party], 3, party as u64))),
+        Some(path) => Tapes::of_file(&path),
+    };
     let start = Instant::now();
     let result = less(&mut tapes, &u, &v);
     let took = start.elapsed();
     let sum = |of: &Shared, k: usize| of.iter().fold(0u64, |all, share| all.wrapping_add(share[k]));
     let wrong = (0..n).filter(|&k| (result[0][k] ^ result[1][k] ^ result[2][k] == 1) != (sum(&u, k) < sum(&v, k))).count();
-    assert!(tapes.drawn == counts);
+    if let Tapes::Held { drawn, .. } = &tapes {
+        assert!(*drawn == counts);
+    }
     println!("elements {n} wrong {wrong}");
     println!("nanoseconds {}", took.as_nanos());
 }

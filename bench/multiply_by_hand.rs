@@ -1,8 +1,12 @@
-// What the multiplication of shared values costs when it is written by hand in plain Rust: three miners in one process, the
-// same draws, messages and blocks of 512 elements as crates/multiply, without types for parties and rings, without
-// refusals and without proofs. `bench/multiply.sh` builds it with `rustc -O` and sets it beside the proved program. With a second word it only makes the
-// shares and the tapes, so that `bench/programs_on_shares.sh` can tell how much processor time the products take.
+// What the multiplication of shared values costs when it is written by hand in plain Rust: three miners in one process, the same draws, messages and blocks of
+// 512 elements as crates/multiply, without types for parties and rings, without refusals and without proofs. The first word is how many elements, the second
+// how often they are multiplied by the second factor, one after another. With `shares` as third word it only makes the shares; with another one the tapes are
+// those of this tape file, read where they are drawn. `bench/multiply.sh` and `bench/programs_on_shares.sh` build it with `rustc -O`.
+#[path = "tape_by_hand.rs"]
+mod tape_by_hand;
+
 use std::time::Instant;
+use tape_by_hand::Tapes;
 
 const BLOCK: usize = 512;
 
@@ -17,7 +21,6 @@ fn words(count: usize, step: u64, party: u64) -> Vec<u64> {
 struct Miner {
     u: Vec<u64>,
     v: Vec<u64>,
-    tape: Vec<u64>,
     product: Vec<u64>,
 }
 
@@ -45,33 +48,48 @@ fn multiply(miner: &mut Miner, masks: &[u64], previous_masks: &[u64], own: &[u64
     }
 }
 
-fn main() {
-    let n: usize = std::env::args().nth(1).and_then(|word| word.parse().ok()).unwrap_or(1 << 20);
-    let mut miners: Vec<Miner> = (0..3)
-        .map(|party| Miner {
-            u: words(n, 7, party),
-            v: words(n, 11, party),
-            tape: words(3 * n, 3, party),
-            product: Vec::with_capacity(n),
-        })
-        .collect();
-    if std::env::args().nth(2).is_some() {
-        println!("words {}", miners.iter().map(|miner| miner.u.len() + miner.v.len() + miner.tape.len()).sum::<usize>());
-        return;
-    }
-    let start = Instant::now();
+// Each miner's first factor becomes its share of the product.
+fn multiply_all(miners: &mut [Miner], tapes: &mut Tapes) {
+    let n = miners[0].u.len();
     for from in (0..n).step_by(BLOCK) {
         let to = n.min(from + BLOCK);
-        let first: Vec<Vec<u64>> = miners.iter().map(|miner| miner.tape[3 * from..3 * to].to_vec()).collect();
+        let first = [0, 1, 2].map(|i| tapes.draw(i, 3 * (to - from)));
         let second: Vec<Vec<u64>> = (0..3).map(|i| factors(&miners[i], from, to, &first[i], &first[(i + 2) % 3])).collect();
         for i in 0..3 {
             let p = (i + 2) % 3;
             multiply(&mut miners[i], &first[i], &first[p], &second[i], &second[p]);
         }
     }
+    for miner in miners {
+        miner.u = std::mem::replace(&mut miner.product, Vec::with_capacity(n));
+    }
+}
+
+fn main() {
+    let word = |at: usize| std::env::args().nth(at);
+    let number = |at: usize, else_: usize| word(at).and_then(|it| it.parse().ok()).unwrap_or(else_);
+    let (n, times) = (number(1, 1 << 20), number(2, 1));
+    let mut miners: Vec<Miner> =
+        (0..3).map(|party| Miner { u: words(n, 7, party), v: words(n, 11, party), product: Vec::with_capacity(n) }).collect();
+    let of = word(3);
+    if of.as_deref() == Some("shares") {
+        println!("shares {}", miners.iter().map(|miner| miner.u.len() + miner.v.len()).sum::<usize>());
+        return;
+    }
+    let mut tapes = match of {
+        None => Tapes::held([0, 1, 2].map(|party| words(3 * n * times, 3, party))),
+        Some(path) => Tapes::of_file(&path),
+    };
+    let sum = |miners: &[Miner], of: &dyn Fn(&Miner) -> u64| miners.iter().map(of).fold(0u64, u64::wrapping_add);
+    let wanted: Vec<u64> = (0..n)
+        .map(|k| (0..times).fold(sum(&miners, &|m| m.u[k]), |u, _| u.wrapping_mul(sum(&miners, &|m| m.v[k]))))
+        .collect();
+    let start = Instant::now();
+    for _ in 0..times {
+        multiply_all(&mut miners, &mut tapes);
+    }
     let took = start.elapsed();
-    let sum = |of: &dyn Fn(&Miner) -> u64| miners.iter().map(of).fold(0u64, u64::wrapping_add);
-    let wrong = (0..n).filter(|&k| sum(&|m| m.product[k]) != sum(&|m| m.u[k]).wrapping_mul(sum(&|m| m.v[k]))).count();
+    let wrong = (0..n).filter(|&k| sum(&miners, &|m| m.u[k]) != wanted[k]).count();
     println!("elements {n} wrong {wrong}");
     println!("nanoseconds {}", took.as_nanos());
 }

@@ -1,13 +1,14 @@
 #!/usr/bin/env bash
 # Times what programs do on shares, at three sizes each: `secrec run` over products of private numbers, in arrays of 65,536, and over comparisons of private
-# numbers, each beside the same messages written by hand in plain Rust; and over a loop of public steps beside `secrec eval`. Processor time and peak memory
-# are those of the run of five that took least processor time. Of products, and of all that is written by hand, the time of a run over the same words that
-# computes nothing is taken away. It measures; it tests nothing. It wants bash, python3, rustc, and 2 GB of memory; another program than the one that
-# `./secrec` runs can be named.
+# numbers, each beside the same messages written by hand in plain Rust; over products of two numbers, one after another; and over a loop of public steps beside
+# `secrec eval`. Both read their words from one tape file where they draw them. Processor time and peak memory are those of the run of five that took least
+# processor time. The time of a run over the same inputs that computes nothing is taken away. It measures; it tests nothing. It wants bash, python3, rustc, and
+# 2 GB of memory and of room for files; another program than the one that `./secrec` runs can be named.
 . "$(dirname "$0")/begin.sh"
 for name in multiply compare; do rustc -O -o "$work/${name}_by_hand" "$top/bench/${name}_by_hand.rs"; done
 
 python3 - "$program" "$work" <<'PY'
+import random
 import sys
 from measure import least, ran, written
 
@@ -24,6 +25,12 @@ COMPARISONS = HEAD + """void main() {
     p uint64[[1]] a = argument("a"); p uint64[[1]] b = argument("b");
     p bool[[1]] less = a < b;
     publish("size", size(less));
+}
+"""
+NO_COMPARISONS = COMPARISONS.replace("    p bool[[1]] less = a < b;\n", "").replace("size(less)", "size(a)")
+SCALARS = HEAD + """void main() {
+    p uint64 x = argument("x"); uint64 n = argument("n");
+    for (uint64 i = 0; i < n; i++) { x = x * x; }
 }
 """
 STEPS = """void main() {
@@ -55,13 +62,26 @@ def called(command, text, entries, *more):
     return taken(program, command, source, "--input", given, "--budget", "1000000000000", *more)
 
 
-def run(text, entries, words):
-    return called("run", text, entries, "--seed", "00" * 32, "--words", str(words))
+def tape(dealer, words):
+    """A tape file of so many words for the dealer, and for each miner."""
+    path, drawn = f"{work}/p.tape", random.Random(7)
+    with open(path, "wb") as file:
+        for length in (dealer, words, words, words):
+            file.write(length.to_bytes(8, "little"))
+        for _ in range(dealer + 3 * words >> 10):
+            file.write(drawn.randbytes(8 << 10))
+        file.write(drawn.randbytes(8 * ((dealer + 3 * words) % 1024)))
+    return path
 
 
-def by_hand(name, count):
-    program = f"{work}/{name}_by_hand"
-    return taken(program, str(count)).seconds - taken(program, str(count), "words").seconds
+def run(text, entries, *tapes):
+    return called("run", text, entries, *tapes)
+
+
+def by_hand(name, *counts, words):
+    """The seconds that the same takes by hand, without the making of the shares."""
+    program, counts = f"{work}/{name}_by_hand", [str(count) for count in counts]
+    return taken(program, *counts, words).seconds - taken(program, *counts, "shares").seconds
 
 
 def told(name, size, seconds, memory, last, more=""):
@@ -71,20 +91,35 @@ def told(name, size, seconds, memory, last, more=""):
 
 
 print(f"{'what':12} {'how many':>9} {'seconds':>9} {'ns each':>9} {'peak MB':>9} {'growth':>9}")
+def beside(name, size, none, took, hand, last):
+    """A line of what a run took beyond one that computes nothing, beside the same by hand."""
+    spent = took.seconds - none.seconds
+    return told(name, size, spent, took.peak, last, f"by hand {1e9 * hand / size:.1f} ns each; over by hand {spent / hand:.2f}")
+
+
 SIZE, last = 65536, None
 for times in (4, 16, 64):
-    products = lambda n: run(PRODUCTS, pairs(SIZE) + [entry("n", "public", n)], 4 * SIZE + 3 * SIZE * times)
-    none, took, hand = products(0).seconds, products(times), by_hand("multiply", SIZE * times)
-    ratio = f"without any {none:.3f}; by hand {hand:.3f}; over by hand {(took.seconds - none) / hand:.2f}"
-    last = told("products", SIZE * times, took.seconds - none, took.peak, last, ratio)
+    words = tape(4 * SIZE, 3 * SIZE * times)
+    none, took = (run(PRODUCTS, pairs(SIZE) + [entry("n", "public", n)], "--tape", words) for n in (0, times))
+    last = beside("products", SIZE * times, none, took, by_hand("multiply", SIZE, times, words=words), last)
+seed = ("--seed", "00" * 32, "--words", str(3 * SIZE * 64))
+none, took = (run(PRODUCTS, pairs(SIZE) + [entry("n", "public", n)], *seed) for n in (0, 64))
+told("of a seed", SIZE * 64, took.seconds - none.seconds, took.peak, None)
 last = None
 for size in (4096, 16384, 65536):
-    took, hand = run(COMPARISONS, pairs(size), 119 * size), by_hand("compare", size)
-    last = told("comparisons", size, took.seconds, took.peak, last, f"by hand {hand:.3f}; over by hand {took.seconds / hand:.2f}")
+    words = tape(4 * size, 119 * size)
+    none, took = (run(text, pairs(size), "--tape", words) for text in (NO_COMPARISONS, COMPARISONS))
+    last = beside("comparisons", size, none, took, by_hand("compare", size, words=words), last)
+last = None
+for count in (2000, 8000, 32000):
+    one = [entry("x", "private", 3)]
+    words = tape(2, 3 * count)
+    none, took = (run(SCALARS, one + [entry("n", "public", n)], "--tape", words) for n in (0, count))
+    last = told("scalars", count, took.seconds - none.seconds, took.peak, last)
 last = evaluated = None
 for size in (62500, 250000, 1000000):
     given = [entry("n", "public", size)]
-    clear, shared = called("eval", STEPS, given), run(STEPS, given, 1)
+    clear, shared = called("eval", STEPS, given), run(STEPS, given, "--seed", "00" * 32, "--words", "1")
     evaluated = told("steps, eval", size, clear.seconds, clear.peak, evaluated)
     last = told("steps, run", size, shared.seconds, shared.peak, last, f"over eval {shared.seconds / clear.seconds:.2f}")
 PY
