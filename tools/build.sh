@@ -5,7 +5,7 @@
 # renamed when it is whole, so nobody ever meets half of one; a lock lets one build at a time work in a checkout.
 
 # What a build from nothing took on the fastest machine that was met: processor minutes in all, and minutes on four processors, which its longest chain of
-# crates sets (docs/performance.md). On the slowest the proofs took two and a half times as long; a build by itself was not measured there.
+# crates sets. On the slowest it took three and a half times as long (docs/performance.md).
 build_work=73
 build_chain=22
 
@@ -95,7 +95,7 @@ make_build() {
   local sum=$1 minutes status
   minutes=$((build_work / $(nproc)))
   [ "$minutes" -ge "$build_chain" ] || minutes=$build_chain
-  echo "secrec: proving and building the program (its first use here, or a source has changed); $minutes to $((5 * minutes / 2)) minutes on $(nproc) processors" >&2
+  echo "secrec: proving and building the program (its first use here, or a source has changed); $minutes to $((7 * minutes / 2)) minutes on $(nproc) processors" >&2
   echo "secrec: for a first look within three minutes, at a program of which nothing is proved, call ./try in its place" >&2
   scratch=$(mktemp -d 2>/dev/null) || give_up "no folder for temporary files can be made in ${TMPDIR:-/tmp}"
   teller=
