@@ -95,7 +95,8 @@ make_build() {
   local sum=$1 minutes status
   minutes=$((build_work / $(nproc)))
   [ "$minutes" -ge "$build_chain" ] || minutes=$build_chain
-  echo "secrec: proving and building the program (its first use here, or a source has changed); $minutes to $((7 * minutes / 2)) minutes on $(nproc) processors" >&2
+  echo "secrec: proving and building the program (its first use here, or a source has changed);" \
+    "$minutes to $((7 * minutes / 2)) minutes on $(nproc) processors" >&2
   echo "secrec: for a first look within three minutes, at a program of which nothing is proved, call ./try in its place" >&2
   scratch=$(mktemp -d 2>/dev/null) || give_up "no folder for temporary files can be made in ${TMPDIR:-/tmp}"
   teller=
