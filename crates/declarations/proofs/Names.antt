@@ -35,7 +35,7 @@ pub bytes_eq-swap : (x y : List ℕ) → bytes_eq x y ≡ bytes_eq y x
 bytes_eq-swap x y = one_answer (bytes_eq x y) (bytes_eq y x) (bytes_eq-Decides x y)
     ((λ t. sym ((bytes_eq-Decides y x).0 t)), (λ e. (bytes_eq-Decides y x).1 (sym e)))
 
--- what a map has behind a name that it has not had
+-- what a map has after a name that it has not had
 pub numbered_more : (names : List (Bor (List ℕ))) (m n : BTreeMap (Bor (List ℕ)) ℕ) (x : Bor (List ℕ)) → IsNumbered names m → found m x.now ≡ None
     → ((q : List ℕ) → found n q ≡ update bytes_eq (found m) x.now (Some (length names)) q) → IsNumbered (names ++ x ∷ []) n
 numbered_more names m n x old absent updates = record { numbers = each }
@@ -55,7 +55,7 @@ numbered_more names m n x old absent updates = record { numbers = each }
         go false (Some k) e f = old.numbers q ∙ f
         go false None e f = let swapped : bytes_eq q x.now ≡ false = bytes_eq-swap q x.now ∙ e in rw swapped (old.numbers q ∙ f)
 
--- and behind one that it has
+-- and after one that it has
 pub numbered_again : (names : List (Bor (List ℕ))) (m : BTreeMap (Bor (List ℕ)) ℕ) (x : Bor (List ℕ)) → IsNumbered names m
     → (found m x.now ≡ None → ⊥) → IsNumbered (names ++ x ∷ []) m
 numbered_again names m x old there = record { numbers = each }

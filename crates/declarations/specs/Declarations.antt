@@ -17,31 +17,23 @@ pub record Declared : Type 0 where
 abbrev pub is_imported : List ℕ → List ItemTree → Bool
 is_imported x [] = false
 is_imported x (imports y ∷ items) = bytes_eq y.text x || is_imported x items
-is_imported x (kind y ∷ items) = is_imported x items
-is_imported x (domains_item y k ∷ items) = is_imported x items
-is_imported x (defines f ∷ items) = is_imported x items
+is_imported x (_ ∷ items) = is_imported x items
 
 -- whether a kind of this name is declared
 abbrev pub is_kind : List ℕ → List ItemTree → Bool
 is_kind x [] = false
-is_kind x (imports y ∷ items) = is_kind x items
 is_kind x (kind y ∷ items) = bytes_eq y.text x || is_kind x items
-is_kind x (domains_item y k ∷ items) = is_kind x items
-is_kind x (defines f ∷ items) = is_kind x items
+is_kind x (_ ∷ items) = is_kind x items
 
 abbrev pub domains_of : List ItemTree → List (List ℕ)
 domains_of [] = []
-domains_of (imports y ∷ items) = domains_of items
-domains_of (kind y ∷ items) = domains_of items
 domains_of (domains_item y k ∷ items) = y.text ∷ domains_of items
-domains_of (defines f ∷ items) = domains_of items
+domains_of (_ ∷ items) = domains_of items
 
 abbrev pub functions_of : List ItemTree → List FunctionTree
 functions_of [] = []
-functions_of (imports y ∷ items) = functions_of items
-functions_of (kind y ∷ items) = functions_of items
-functions_of (domains_item y k ∷ items) = functions_of items
 functions_of (defines f ∷ items) = f ∷ functions_of items
+functions_of (_ ∷ items) = functions_of items
 
 abbrev pub declared_in : List ItemTree → Declared
 declared_in items =

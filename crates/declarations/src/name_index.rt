@@ -46,7 +46,7 @@ impl<'p> NameIndex<'p> {
         }
     }
 
-    /// These names and one behind them.
+    /// These names and one after them.
     pub fn with(self, name: &'p str) -> Result<NameIndex<'p>, AllocError>
         ensures { IfOk result (λ index. index ≡ self.entry ++ name.now ∷ []) }
     {

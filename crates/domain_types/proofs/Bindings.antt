@@ -1,7 +1,11 @@
--- The domains of some domain variables, and those of the others behind them.
+-- The domains of some domain variables, and those of the others after them.
 use Rattle.std.proofs.Common.{◌≡◌, List, [], ◌∷◌, ◌++◌, refl, sym, ap, Option, Some, None, append_assoc, append-nil}
 use Rattle.domain_types.specs.declared.value_type.Protection.{Protection}
-use Rattle.domain_types.specs.ExpressionTypes.{with_domain}
+use Rattle.domain_types.specs.ExpressionTypes.{of_two}
+
+-- one domain, and those of the others after it
+abbrev pub with_domain : Option Protection → Option (List Protection) → Option (List Protection)
+with_domain d ds = of_two (λ x xs. Some (x ∷ xs)) d ds
 
 abbrev pub put_before : List Protection → Option (List Protection) → Option (List Protection)
 put_before ds None = None

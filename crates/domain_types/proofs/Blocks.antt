@@ -1,8 +1,10 @@
--- Statements one after another, and the scope behind a block.
-use Rattle.std.proofs.Common.{◌≡◌, ℕ, ◌-◌, ◌≤◌, List, [], ◌∷◌, ◌++◌, length, take, drop, refl, sym, ap, ◌∙◌, append_assoc, append-nil, arith, Option, Bool}
+-- Statements one after another, and the scope after a block.
+use Rattle.std.proofs.Common.{◌≡◌, ℕ, ◌-◌, ◌≤◌, List, [], ◌∷◌, ◌++◌, length, take, drop, refl, sym, ap, ◌∙◌, append_assoc, append-nil, arith, Option, Some}
+use Rattle.std.proofs.Common.{None, Bool, true, false}
 use Rattle.std.proofs.lemmas.List.{length-append}
 use Rattle.std.proofs.Math.Seq.{drop-append_seam, take-append_seam}
 use Rattle.secrec_ast.specs.declared.function.ResultType.{ResultType}
+use Rattle.secrec_ast.specs.declared.function.ResultType.TheVariants as returned
 use Rattle.sc_text.specs.declared.span.Span.{Span}
 use Rattle.secrec_ast.specs.Tree.{Tree}
 use Rattle.secrec_ast.specs.Statements.{StartTree, starts_with_nothing, starts_with_declaration, starts_with_assignment, StepTree, StatementTree}
@@ -11,10 +13,11 @@ use Rattle.secrec_ast.specs.Statements.{declaration, assignment, evaluation, Sta
 use Rattle.domain_types.specs.declared.fault.TypeFault.{TypeFault}
 use Rattle.domain_types.specs.Settings.{Setting}
 use Rattle.domain_types.specs.Scopes.{Variable, Scope, inner, leaving}
-use Rattle.domain_types.specs.StatementTypes.{after, after_all, after_start, statement_faults, block_faults, start_faults, optional_type}
-use Rattle.domain_types.specs.StatementTypes.{optional_faults, step_faults, is_step_typed, for_rule, for_own}
+use Rattle.domain_types.specs.StatementTypes.{after, after_all, after_start, statement_faults, block_faults, start_faults}
+use Rattle.domain_types.specs.StatementTypes.{optional_faults, step_faults, is_step_typed, for_own, return_own}
 use Rattle.domain_types.specs.Reached.{Call, statement_calls, block_calls, start_calls, optional_calls, step_calls}
 use Rattle.domain_types.specs.declared.value_type.ValueType.{ValueType}
+use Rattle.domain_types.specs.inner.Given.{optional_type, for_rule, return_rule}
 use Rattle.domain_types.specs.inner.LeastFault.{least}
 use Rattle.domain_types.proofs.Visits.{then_least, then_calls}
 
@@ -60,7 +63,7 @@ pub after_all_outer : (w : Setting) (s : Scope) (ts : StatementTrees) → (after
 after_all_outer w s none = refl
 after_all_outer w s (also t ts) = after_all_outer w (after w s t) ts ∙ after_outer w s t
 
--- behind a block whose outer variables are those of s, s is known again
+-- after a block whose outer variables are those of s, s is known again
 pub leaving_inner : (s x : Scope) → x.outer ≡ s.block ++ s.outer → leaving (length s.outer) x ≡ s
 leaving_inner s x o =
     ap (λ (l : List Variable). parted (length l - length s.outer) l) o
@@ -85,7 +88,20 @@ after_start_outer w s starts_with_nothing = refl
 after_start_outer w s (starts_with_declaration d) = refl
 after_start_outer w s (starts_with_assignment a) = refl
 
--- the parts of a `for`, one after another: e0 is the scope in which it begins, v that behind its first part
+-- the rules, where the type that is given is that of the expression
+for_by_type : (w : Setting) (s : Scope) (e : Option Tree) (b : Bool) → for_rule e (optional_type w s e) b ≡ for_own w s e b
+for_by_type w s None b = refl
+for_by_type w s (Some e) false = refl
+for_by_type w s (Some e) true = refl
+
+pub return_by_type : (w : Setting) (s : Scope) (p : Span) (r : ResultType) (e : Option Tree)
+    → return_rule w p r e (optional_type w s e) ≡ return_own w s p r e
+return_by_type w s p returned.Void None = refl
+return_by_type w s p returned.Void (Some e) = refl
+return_by_type w s p (returned.Value t) None = refl
+return_by_type w s p (returned.Value t) (Some e) = refl
+
+-- the parts of a `for`, one after another: e0 is the scope in which it begins, v that after its first part
 pub for_least_fault : (w : Setting) (r : ResultType) (s e0 v : Scope) (p : Span) (a : StartTree) (e : Option Tree) (b : StepTree)
     (body : StatementTree) (o f1 f2 f3 f4 f5 : Option TypeFault) (given : Option ValueType) (typed : Bool) →
     e0 ≡ inner s → v ≡ after_start w e0 a → given ≡ optional_type w v e → typed ≡ is_step_typed w v b →
@@ -107,7 +123,9 @@ for_least_fault w r s e0 v p a e b body o f1 f2 f3 f4 f5 given typed begins goes
     all y x = start_faults w y a ++ optional_faults w x e ++ step_faults w x b ++ own x ++ statement_faults w r (inner x) body
 
     condition : f4 ≡ least f3 (own v)
-    condition = g4 ∙ ap (λ g. least f3 (for_rule e g typed)) given_is ∙ ap (λ t. least f3 (for_rule e (optional_type w v e) t)) typed_is
+    condition =
+        g4 ∙ ap (λ g. least f3 (for_rule e g typed)) given_is ∙ ap (λ t. least f3 (for_rule e (optional_type w v e) t)) typed_is
+        ∙ ap (least f3) (for_by_type w v e (is_step_typed w v b))
 
 pub for_calls : (w : Setting) (s e0 v : Scope) (p : Span) (a : StartTree) (e : Option Tree) (b : StepTree) (body : StatementTree) (o f1 f2 f3 f5 : List Call) →
     e0 ≡ inner s → v ≡ after_start w e0 a →

@@ -4,12 +4,12 @@ use Rattle.std.specs.Prelude.{option_and_then, if◌then◌else◌}
 use Rattle.std.proofs.lemmas.List.{map-append}
 use Rattle.domain_types.specs.declared.fault.TypeFault.{TypeFault}
 use Rattle.domain_types.specs.declared.calls.Call.{Call}
-use Rattle.domain_types.specs.Types.{is_faultless, unless_refused}
+use Rattle.domain_types.specs.Types.{is_without, unless_refused}
 use Rattle.domain_types.specs.Views.{call_seen, calls_seen}
 
 pub unless_refused-then : {A B : Type 0} (fs : List TypeFault) (b : Option A) (h : A → Option B)
     → unless_refused fs (option_and_then h b) ≡ option_and_then h (unless_refused fs b)
-unless_refused-then fs b h = go (is_faultless fs)
+unless_refused-then fs b h = go (is_without fs)
   where
     go : (t : Bool) → (if t then option_and_then h b else None) ≡ option_and_then h (if t then b else None)
     go true = refl

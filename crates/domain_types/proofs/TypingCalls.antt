@@ -24,10 +24,11 @@ use Rattle.domain_types.specs.Types.{fault_at, fault_if, of_typed, meet, mix_fau
 use Rattle.declarations.specs.Declarations.{Declared, Callee, built_in, defined, built_in_named, function_named}
 use Rattle.domain_types.specs.Settings.{Setting, type_written}
 use Rattle.declarations.specs.Declarations.{callee_or_function, callee}
-use Rattle.domain_types.specs.ExpressionTypes.{array_of, size_faults, cat_faults, sum_faults, bit_extract_faults, built_in_faults, built_in_result}
-use Rattle.domain_types.specs.ExpressionTypes.{bound_by, with_domain, binding_by, bound_faults, binding_faults, argument_faults, within}
+use Rattle.domain_types.specs.ExpressionTypes.{array_of, built_in_faults, built_in_result}
+use Rattle.domain_types.specs.ExpressionTypes.{bound_by, binding_by, bound_faults, binding_faults, argument_faults, within}
 use Rattle.domain_types.specs.ExpressionTypes.{defined_faults, result_type, callee_faults, callee_type, call_faults, call_type}
 use Rattle.domain_types.specs.Typing.{Meets, IsBuiltInCall, IsOfKind, AreBound, ParameterTakes, ParametersTake, IsDefinedCall, IsCall}
+use Rattle.domain_types.proofs.Bindings.{with_domain}
 use Rattle.domain_types.proofs.TypingSteps.{mapped, followed, not_refused, passes, some_fault, parts, joined, not_so, said, says_nothing}
 use Rattle.domain_types.proofs.TypingRules.{meets, meet_from, no_mix, meeting, same_type, element_same, same_elements, no_store_fault, fits_into, word}
 
@@ -57,7 +58,7 @@ sum_taken p a h =
 
 pub built_in_call : (p : Span) (b : BuiltIn) (gs : List Argument) (t : ValueType) → built_in_faults p b gs ≡ [] → built_in_result b gs ≡ Some t
     → IsBuiltInCall b gs t
-unfolding size_faults cat_faults sum_faults bit_extract_faults built_in_result
+unfolding built_in_faults built_in_result
 built_in_call p Size [] t h r = absurd (some_fault (record { place = p; problem = BadArity }) [] h)
 built_in_call p Size (a ∷ []) t h r =
     (not-false a.given.array (not_so (not a.given.array) p TypeMismatch h), sym (same_Some (public_scalar datatype.Uint64) t r))
@@ -89,7 +90,7 @@ built_in_call p BitExtract (a ∷ b ∷ gs) t h r = absurd (some_fault (record {
 
 pub built_in_from : (p : Span) (b : BuiltIn) (gs : List Argument) (t : ValueType) → IsBuiltInCall b gs t
     → (built_in_faults p b gs ≡ []) × (built_in_result b gs ≡ Some t)
-unfolding size_faults cat_faults sum_faults bit_extract_faults built_in_result
+unfolding built_in_faults built_in_result
 built_in_from p Size [] t h = absurd h
 built_in_from p Size (a ∷ []) t h = (ap (λ s. fault_if (not s) p TypeMismatch) h.0, ap Some (sym h.1))
 built_in_from p Size (a ∷ b ∷ gs) t h = absurd h
@@ -112,7 +113,7 @@ built_in_from p BitExtract (a ∷ []) t h = (ap (λ e. fault_if (not (is_uint64 
 built_in_from p BitExtract (a ∷ b ∷ gs) t h = absurd h
 
 pub built_in_typed : (p : Span) (b : BuiltIn) (gs : List Argument) → built_in_faults p b gs ≡ [] → (t : ValueType) × (built_in_result b gs ≡ Some t)
-unfolding size_faults cat_faults sum_faults bit_extract_faults built_in_result
+unfolding built_in_faults built_in_result
 built_in_typed p Size gs h = (public_scalar datatype.Uint64, refl)
 built_in_typed p Cat [] h = absurd (some_fault (record { place = p; problem = BadArity }) [] h)
 built_in_typed p Cat (a ∷ []) h = absurd (some_fault (record { place = p; problem = BadArity }) [] h)

@@ -24,7 +24,7 @@ use Rattle.domain_types.specs.Scopes.{Variable, Scope, variable_named}
 use Rattle.domain_types.specs.ExpressionTypes.{variable_type, variable_faults, operator_faults, operator_type, negation_faults, negation_type}
 use Rattle.domain_types.specs.ExpressionTypes.{cast_type, declassified, index_faults, index_type, with_argument, built_in_faults, built_in_result}
 use Rattle.domain_types.specs.ExpressionTypes.{binding_by, within, defined_faults, result_type, callee_faults, callee_type, call_faults, of_two}
-use Rattle.domain_types.specs.ExpressionTypes.{given_value, nothing_given, type_of, arguments_of, value_type, faults, argument_list_faults}
+use Rattle.domain_types.specs.ExpressionTypes.{type_of, arguments_of, value_type, faults, argument_list_faults}
 use Rattle.domain_types.specs.ExpressionTypes.{value_faults}
 use Rattle.domain_types.specs.Reached.{Call, binding_of, call_of, calls_of, calls_of_all}
 use Rattle.sc_text.specs.Lists.{Among}
@@ -54,7 +54,7 @@ GiveTypes d cs = (c : Call) → Among c cs → GivesType d c
 -- without the first a variable of an unknown domain has no type, and no fault where it's used
 unknown_is_silent : (w : Setting) (s : Scope) (p : Span) (x : List ℕ) (v : Variable) → variable_named s x ≡ Some v → v.held ≡ None
     → (type_of w s (variable p x) ≡ None) × (faults w s (variable p x) ≡ [])
-unknown_is_silent w s p x v e h = (ap (λ o. given_value (variable_type o)) e ∙ ap given_value h, ap (variable_faults p) e)
+unknown_is_silent w s p x v e h = (ap (λ o. option_map Value (variable_type o)) e ∙ ap (option_map Value) h, ap (variable_faults p) e)
 
 pub earlier_calls : (d : Declared) (bs cs : List Call) → GiveTypes d (bs ++ cs) → GiveTypes d bs
 earlier_calls d bs cs g = λ c m. g c (among_left c bs cs m)
@@ -120,7 +120,7 @@ mutual
       (f.0, has_type w s e (Value f.0) (valued (type_of w s e) f.0 f.1), m.2 ∙ ap Value f.2)
   has_type w s (argument p x) t h = absurd (none-some t h)
   has_type w s (publish p x e) t h =
-      let m = mapped nothing_given (value_of (type_of w s e)) t h in
+      let m = mapped (λ x. Void) (value_of (type_of w s e)) t h in
       (m.0, has_type w s e (Value m.0) (valued (type_of w s e) m.0 m.1), m.2)
 
   pub have_types : (w : Setting) (s : Scope) (es : Trees) (gs : List Argument) → arguments_of w s es ≡ Some gs → HaveTypes w s es gs
@@ -135,8 +135,8 @@ mutual
 
 -- the type of a node of two parts
 of_both : (rule : ValueType → ValueType → Option ValueType) (a b : Option ExpressionType) (x y z : ValueType) → a ≡ Some (Value x)
-    → b ≡ Some (Value y) → rule x y ≡ Some z → given_value (of_two rule (value_of a) (value_of b)) ≡ Some (Value z)
-of_both rule a b x y z e h n = ap₂ (λ m k. given_value (of_two rule (value_of m) (value_of k))) e h ∙ ap given_value n
+    → b ≡ Some (Value y) → rule x y ≡ Some z → option_map Value (of_two rule (value_of a) (value_of b)) ≡ Some (Value z)
+of_both rule a b x y z e h n = ap₂ (λ m k. option_map Value (of_two rule (value_of m) (value_of k))) e h ∙ ap (option_map Value) n
 
 mutual
   pub type_from : (w : Setting) (s : Scope) (e : Tree) (t : ExpressionType) → HasType w s e t → type_of w s e ≡ Some t
@@ -150,21 +150,21 @@ mutual
       (type_from w s i (Value h.1) h.3)
       (index_typed p (place_of i) h.0 h.1 (no_index_fault p (place_of i) h.0 h.1 h.4 h.5))
       ∙ ap Some (sym h.6)
-  type_from w s (parentheses p e) t h = ap (λ x. given_value (value_of x)) (type_from w s e (Value h.0) h.1) ∙ ap Some (sym h.2)
+  type_from w s (parentheses p e) t h = ap (λ x. option_map Value (value_of x)) (type_from w s e (Value h.0) h.1) ∙ ap Some (sym h.2)
   type_from w s (negation p e) t h =
-      ap (λ x. given_value (option_and_then (negation_type p) (value_of x))) (type_from w s e (Value h.0) h.1)
-      ∙ ap given_value (negation_typed p h.0 (no_negation_fault p h.0 h.2))
+      ap (λ x. option_map Value (option_and_then (negation_type p) (value_of x))) (type_from w s e (Value h.0) h.1)
+      ∙ ap (option_map Value) (negation_typed p h.0 (no_negation_fault p h.0 h.2))
       ∙ ap Some (sym h.3)
   type_from w s (cast p element e) t h =
-      ap (λ x. given_value (option_map (cast_type element) (value_of x))) (type_from w s e (Value h.0) h.1) ∙ ap Some (sym h.2)
+      ap (λ x. option_map Value (option_map (cast_type element) (value_of x))) (type_from w s e (Value h.0) h.1) ∙ ap Some (sym h.2)
   type_from w s (binary p op a b) t h =
       of_both (operator_type p op) (type_of w s a) (type_of w s b) h.0 h.1 h.2 (type_from w s a (Value h.0) h.3) (type_from w s b (Value h.1) h.4)
       (operator_from p op h.0 h.1 h.2 h.5)
       ∙ ap Some (sym h.6)
   type_from w s (declassify p e) t h =
-      ap (λ x. given_value (option_map declassified (value_of x))) (type_from w s e (Value h.0) h.1) ∙ ap Some (sym h.2)
+      ap (λ x. option_map Value (option_map declassified (value_of x))) (type_from w s e (Value h.0) h.1) ∙ ap Some (sym h.2)
   type_from w s (argument p x) t h = absurd h
-  type_from w s (publish p x e) t h = ap (λ y. option_map nothing_given (value_of y)) (type_from w s e (Value h.0) h.1) ∙ ap Some (sym h.2)
+  type_from w s (publish p x e) t h = ap (λ y. option_map (λ x. Void) (value_of y)) (type_from w s e (Value h.0) h.1) ∙ ap Some (sym h.2)
 
   pub types_from : (w : Setting) (s : Scope) (es : Trees) (gs : List Argument) → HaveTypes w s es gs → arguments_of w s es ≡ Some gs
   types_from w s none gs h = ap Some (sym h)
@@ -318,16 +318,16 @@ mutual
         Value (scalar_of x.0),
         of_both (index_type p (place_of i)) (type_of w s a) (type_of w s i) x.0 y.0 (scalar_of x.0) x.1 y.1 (index_typed p (place_of i) x.0 y.0 own),
       )
-  typed w s (parentheses p e) k g h = let x = part_value w s e (typed w s e k g) h in (Value x.0, ap (λ o. given_value (value_of o)) x.1)
+  typed w s (parentheses p e) k g h = let x = part_value w s e (typed w s e k g) h in (Value x.0, ap (λ o. option_map Value (value_of o)) x.1)
   typed w s (negation p e) k g h =
       let hs = parts (value_faults w s e) (of_typed (value_type w s e) (negation_faults p)) h in
       let x = part_value w s e (typed w s e k g) hs.0 in
       let own = said (value_type w s e) (negation_faults p) x.0 (ap value_of x.1) hs.1 in (
         Value x.0,
-        ap (λ o. given_value (option_and_then (negation_type p) (value_of o))) x.1 ∙ ap given_value (negation_typed p x.0 own),
+        ap (λ o. option_map Value (option_and_then (negation_type p) (value_of o))) x.1 ∙ ap (option_map Value) (negation_typed p x.0 own),
       )
   typed w s (cast p element e) k g h =
-      let x = part_value w s e (typed w s e k g) h in (Value (cast_type element x.0), ap (λ o. given_value (option_map (cast_type element) (value_of o))) x.1)
+      let x = part_value w s e (typed w s e k g) h in (Value (cast_type element x.0), ap (λ o. option_map Value (option_map (cast_type element) (value_of o))) x.1)
   typed w s (binary p op a b) k g h =
       let hs = parts (value_faults w s a ++ value_faults w s b) (of_typed (value_type w s a) (λ x. of_typed (value_type w s b) (operator_faults p op x))) h in
       let vs = parts (value_faults w s a) (value_faults w s b) hs.0 in
@@ -336,9 +336,9 @@ mutual
       let own = both_said w s a b (operator_faults p op) x.0 y.0 x.1 y.1 hs.1 in
       let z = operator_typed p op x.0 y.0 own in (Value z.0, of_both (operator_type p op) (type_of w s a) (type_of w s b) x.0 y.0 z.0 x.1 y.1 z.1)
   typed w s (declassify p e) k g h =
-      let x = part_value w s e (typed w s e k g) h in (Value (declassified x.0), ap (λ o. given_value (option_map declassified (value_of o))) x.1)
+      let x = part_value w s e (typed w s e k g) h in (Value (declassified x.0), ap (λ o. option_map Value (option_map declassified (value_of o))) x.1)
   typed w s (argument p x) k g h = absurd (some_fault (record { place = p; problem = ArgumentPlace }) [] h)
-  typed w s (publish p x e) k g h = let y = part_value w s e (typed w s e k g) h in (Void, ap (λ o. option_map nothing_given (value_of o)) y.1)
+  typed w s (publish p x e) k g h = let y = part_value w s e (typed w s e k g) h in (Void, ap (λ o. option_map (λ x. Void) (value_of o)) y.1)
 
   pub typed_arguments : (w : Setting) (s : Scope) (es : Trees) → Known s → GiveTypes w.declared (calls_of_all w s es)
       → argument_list_faults w s es ≡ [] → (gs : List Argument) × (arguments_of w s es ≡ Some gs)

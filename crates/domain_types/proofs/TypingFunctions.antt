@@ -1,6 +1,7 @@
 -- A function, and the head of a template, are typed by the relation where they have no fault.
 use Rattle.std.proofs.Common.{◌∙◌, ◌≡◌, List, [], ◌∷◌, ◌++◌, refl, ap, Option, Some, None, false, ◌↔◌, Bool, true, map, ℕ, sym, is_some, ◌+◌}
 use Rattle.std.specs.Prelude.{not, ◌&&◌, ◌||◌, bytes_eq, codes, option_map, if◌then◌else◌}
+use Rattle.std.specs.List.{find}
 use Rattle.std.proofs.lemmas.Bool.{not-false, or_parts}
 use Rattle.std.proofs.lemmas.Option.{none-some}
 use Rattle.secrec_ast.specs.declared.statement.Identifier.{Identifier}
@@ -11,14 +12,15 @@ use Rattle.secrec_ast.specs.declared.function.ResultType.TheVariants as returned
 use Rattle.secrec_ast.specs.Programs.{FunctionTree, ItemTree}
 use Rattle.domain_types.specs.declared.fault.TypeProblem.TheVariants.{UnknownName, Twice, TypeMismatch, MissingReturn}
 use Rattle.domain_types.specs.declared.value_type.ExpressionType.TheVariants.{Value}
-use Rattle.domain_types.specs.Types.{fault_if}
+use Rattle.domain_types.specs.declared.fault.TypeFault.{TypeFault}
+use Rattle.domain_types.specs.Types.{fault_at, fault_if, of_typed}
 use Rattle.declarations.specs.Declarations.{Declared, is_known_kind, number_in}
 use Rattle.domain_types.specs.Settings.{Setting, type_written}
 use Rattle.domain_types.specs.Scopes.{Scope, nothing_known, is_among, twice_faults}
 use Rattle.domain_types.specs.ExpressionTypes.{result_type}
-use Rattle.domain_types.specs.StatementTypes.{domain_faults, one_returns}
-use Rattle.domain_types.specs.FunctionTypes.{with_parameter, with_parameters, parameter_faults, result_faults, way_faults, body_faults}
-use Rattle.domain_types.specs.FunctionTypes.{function_faults, protections_of, first_named, hidden_faults, hiding_faults, imported_faults, is_variable}
+use Rattle.domain_types.specs.StatementTypes.{domain_faults, block_faults, one_returns}
+use Rattle.domain_types.specs.FunctionTypes.{with_parameter, with_parameters, parameter_faults, result_faults, way_faults}
+use Rattle.domain_types.specs.FunctionTypes.{function_faults, protections_of, later_of, hiding_faults, imported_faults, is_variable}
 use Rattle.domain_types.specs.FunctionTypes.{kind_faults, is_in_parameter, domain_variable_faults, domain_variables_faults}
 use Rattle.domain_types.specs.ProgramTypes.{is_one_of}
 use Rattle.domain_types.specs.Reached.{function_calls}
@@ -80,6 +82,9 @@ no_result_faults w f (returned.Value t) h =
     (no_type_fault w t v.0 v.1, ap (λ b. fault_if (not b) f.function.place MissingReturn) h.1)
 
 -- FUNCTIONS
+
+abbrev body_faults : Setting → FunctionTree → List TypeFault
+body_faults w f = block_faults w f.returned (with_parameters w f.parameters nothing_known) f.body.statements
 
 -- the parts of a function's faults
 record Faultless (w : Setting) (f : FunctionTree) : Type 0 where
@@ -143,12 +148,16 @@ one_of true o = refl
 one_of false None = refl
 one_of false (Some k) = refl
 
+-- the fault where this is the first of its name
+abbrev hidden_by : Identifier → Option Identifier → List TypeFault
+hidden_by x o = of_typed o (λ y. fault_at (later_of x.place y.place) Twice)
+
 hides_none : (x : Identifier) (ys : List Identifier) → hiding_faults x ys ≡ [] → is_one_of x.text (map text_in ys) ≡ false
 hides_none x [] h = refl
 hides_none x (y ∷ ys) h =
     one_of (bytes_eq x.text y.text) (number_in x.text (map text_in ys)) ∙ go (bytes_eq x.text y.text) h (hides_none x ys)
   where
-    go : (b : Bool) → hidden_faults x (if b then Some y else first_named x.text ys) ≡ []
+    go : (b : Bool) → hidden_by x (if b then Some y else find (λ (z : Identifier). bytes_eq x.text z.text) ys) ≡ []
         → (hiding_faults x ys ≡ [] → is_one_of x.text (map text_in ys) ≡ false) → b || is_some (number_in x.text (map text_in ys)) ≡ false
     go true e rest = cc
     go false e rest = rest e
@@ -158,7 +167,7 @@ no_hiding_faults x [] h = refl
 no_hiding_faults x (y ∷ ys) h =
     let named = number_in x.text (map text_in ys) in
     let hs = or_parts (bytes_eq x.text y.text) (is_some named) (sym (one_of (bytes_eq x.text y.text) named) ∙ h) in
-    ap (λ b. hidden_faults x (if b then Some y else first_named x.text ys)) hs.0 ∙ no_hiding_faults x ys hs.1
+    ap (λ b. hidden_by x (if b then Some y else find (λ (z : Identifier). bytes_eq x.text z.text) ys)) hs.0 ∙ no_hiding_faults x ys hs.1
 
 is_domain_variable : (d : Declared) (items : List ItemTree) (ps : List Parameter) (before : List DomainVariable) (v : DomainVariable)
     → domain_variable_faults d (protections_of items) ps before v ≡ [] → IsDomainVariable d items ps before v

@@ -404,7 +404,7 @@ no_return_faults w s p (returned.Value t) (Some e) h =
 
 -- STATEMENTS
 
--- the variables behind a statement without a fault have types
+-- the variables after a statement without a fault have types
 pub known_after : (w : Setting) (r : ResultType) (s : Scope) (t : StatementTree) → Known s → statement_faults w r s t ≡ [] → Known (after w s t)
 known_after w r s (declaration d) k h = known_behind w s d k h
 known_after w r s (block p ss) k h = k

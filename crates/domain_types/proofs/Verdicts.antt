@@ -10,14 +10,14 @@ use Rattle.secrec_ast.specs.declared.function.DomainVariable.{DomainVariable}
 use Rattle.secrec_ast.specs.Programs.{FunctionTree, ProgramTree}
 use Rattle.domain_types.specs.declared.fault.TypeFault.{TypeFault}
 use Rattle.domain_types.specs.declared.fault.TypeProblem.TheVariants.{NoMain}
-use Rattle.domain_types.specs.Types.{fault_if}
+use Rattle.domain_types.specs.Types.{is_without, fault_if}
 use Rattle.declarations.specs.Declarations.{Declared, declared_by, functions_of}
 use Rattle.domain_types.specs.ExpressionTypes.{within}
 use Rattle.domain_types.specs.FunctionTypes.{function_faults, protections_of, domain_variables_faults}
 use Rattle.sc_text.specs.Lists.{Among}
 use Rattle.domain_types.specs.inner.LeastFault.{least}
 use Rattle.domain_types.specs.Reached.{Call, function_calls, Instance, Calls, IsChecked, plain, reached}
-use Rattle.domain_types.specs.ProgramTypes.{is_without, items_faults, has_main, declaring_faults, IsFault, declaring, inside, of_head}
+use Rattle.domain_types.specs.ProgramTypes.{items_faults, has_main, declaring_faults, IsFault, declaring, inside, of_head}
 use Rattle.domain_types.specs.Answer.{AreTheChecked, IsTold}
 use Rattle.domain_types.specs.inner.WorkList.{added, with_plain, plain_instances, of_function, instance_faults, instance_calls, gathered, is_called}
 use Rattle.domain_types.specs.inner.WorkList.{heads_faults, IsReached, begins, follows, AreVisited}
@@ -28,7 +28,7 @@ use Rattle.domain_types.proofs.WorkList.{among_gathered, source_of, comes, came,
 
 -- THE PLAIN FUNCTIONS
 
--- a list behind a function that is numbered n
+-- a list after a function that is numbered n
 abbrev behind_one : List Instance → ℕ → FunctionTree → List Instance
 behind_one is n f = if is_without f.variables then added is (record { function = n; binding = [] }) else is
 
@@ -119,7 +119,7 @@ checked_if_reached p i (begins j m) = checked_if_begun p j m
 checked_if_reached p i (follows j k ds r m) =
     reached j k ds (checked_if_reached p j r) (calls_made p j (record { function = k; binding = Some ds }) m)
 
--- what the checker has behind all visits
+-- what the checker has after all visits
 pub record IsWorked (d : Declared) (is : List Instance) (test : ℕ → Bool) : Type 0 where
   pub visited : AreVisited d (plain_instances d) is is
   pub called : (k : ℕ) → test k ≡ is_called k (gathered (instance_calls d) is)
@@ -297,7 +297,7 @@ told p is test w = go (least None (noted p (declared_by p) (protections_of p.ite
     go None e = accepted_is_typed p (none_is_accepted p (noted p (declared_by p) (protections_of p.items) is test) (just_noted p is test w) e)
     go (Some f) e = least_is_told p (noted p (declared_by p) (protections_of p.items) is test) f (just_noted p is test w) e
 
--- the fault that is kept behind all: d and ps are what the program declares
+-- the fault that is kept after all: d and ps are what the program declares
 pub last_kept : (p : ProgramTree) (d : Declared) (ps : List Identifier) (is : List Instance) (test : ℕ → Bool) (missing : Bool)
     (w1 w2 w3 w4 : Option TypeFault) → d ≡ declared_by p → ps ≡ protections_of p.items → missing ≡ not (has_main d.functions)
     → w1 ≡ least None (items_faults d [] [] p.items) → w2 ≡ least w1 (fault_if missing p.end NoMain) → w3 ≡ least w2 (gathered (instance_faults d) is)

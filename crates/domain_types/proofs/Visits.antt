@@ -1,4 +1,4 @@
--- What the checker has found behind a part of a program.
+-- What the checker has found after a part of a program.
 use Rattle.std.proofs.Common.{◌≡◌, List, ◌++◌, sym, ap, ◌∙◌, Option, append_assoc}
 use Rattle.std.specs.Prelude.{Result, Ok, Err, IfOk}
 use Rattle.domain_types.specs.declared.calls.Found.{Found}
@@ -23,7 +23,7 @@ then_least o o1 o2 fs gs e f = f ∙ ap (λ (z : Option TypeFault). least z gs) 
 pub then_calls : (a b c : List Call) (cs ds : List Call) → b ≡ a ++ cs → c ≡ b ++ ds → c ≡ a ++ (cs ++ ds)
 then_calls a b c cs ds e f = f ∙ ap (λ (z : List Call). z ++ ds) e ∙ append_assoc a cs ds
 
--- behind a part: its faults and calls, and then those of the rest
+-- after a part: its faults and calls, and then those of the rest
 pub gives_behind : {A : Type 0} (wanted given : A) (f g h : Found) (fs gs : List TypeFault) (cs ds : List Call)
     → g.least_fault ≡ least f.least_fault fs → calls_seen g.calls.items ≡ calls_seen f.calls.items ++ cs → Gives wanted given g h gs ds
     → Gives wanted given f h (fs ++ gs) (cs ++ ds)

@@ -1,6 +1,6 @@
 -- The type of an expression, and all its faults. Each node's rule is a small definition of its own.
 use Rattle.std.specs.Prelude.{ℕ, Bool, true, false, not, ◌&&◌, ◌||◌, nat_eq, if◌then◌else◌, List, [], ◌∷◌, ◌++◌, length, Option, Some, None, bytes_eq}
-use Rattle.std.specs.Prelude.{is_some, option_map, option_and_then}
+use Rattle.std.specs.Prelude.{is_some, is_none, option_map, option_and_then}
 use Rattle.sc_text.specs.declared.span.Span.{Span}
 use Rattle.secrec_ast.specs.declared.expression.DataType.{DataType}
 use Rattle.secrec_ast.specs.declared.expression.DataType.TheVariants as datatype
@@ -38,12 +38,10 @@ use Rattle.domain_types.specs.Scopes.{Variable, Scope, variable_named}
 -- VARIABLES
 
 abbrev pub variable_type : Option Variable → Option ValueType
-variable_type None = None
-variable_type (Some v) = v.held
+variable_type v = option_and_then (λ (x : Variable). x.held) v
 
 abbrev pub variable_faults : Span → Option Variable → List TypeFault
-variable_faults p None = fault_at p UnknownName
-variable_faults p (Some v) = []
+variable_faults p v = fault_if (is_none v) p UnknownName
 
 -- OPERATORS
 
@@ -68,29 +66,20 @@ uint64_result OrElse s = None
 
 -- and of bool operands
 abbrev pub bool_result : Operator → Option DataType
-bool_result Add = None
-bool_result Subtract = None
-bool_result Multiply = None
-bool_result Divide = None
-bool_result Remainder = None
 bool_result Equal = Some datatype.Bool
 bool_result NotEqual = Some datatype.Bool
-bool_result Less = None
-bool_result LessOrEqual = None
-bool_result Greater = None
-bool_result GreaterOrEqual = None
 bool_result And = Some datatype.Bool
 bool_result Or = Some datatype.Bool
 bool_result Xor = Some datatype.Bool
 bool_result AndAlso = Some datatype.Bool
 bool_result OrElse = Some datatype.Bool
+bool_result _ = None
 
 -- both operands are of one data type
 abbrev pub element_result : Operator → (private_one : Bool) → DataType → DataType → Option DataType
 element_result op s datatype.Uint64 datatype.Uint64 = uint64_result op s
-element_result op s datatype.Uint64 datatype.Bool = None
-element_result op s datatype.Bool datatype.Uint64 = None
 element_result op s datatype.Bool datatype.Bool = bool_result op
+element_result op s _ _ = None
 
 abbrev pub is_division : Operator → Bool
 is_division Divide = true
@@ -141,44 +130,34 @@ index_faults p q array position =
 unfoldable pub index_type : Span → Span → ValueType → ValueType → Option ValueType
 index_type p q array position = unless_refused (index_faults p q array position) (Some (scalar_of array))
 
+-- TWO PARTS
+
+-- of two parts, where both are known
+abbrev pub of_two : {A B C : Type 0} → (A → B → Option C) → Option A → Option B → Option C
+of_two rule (Some a) (Some b) = rule a b
+of_two rule _ _ = None
+
 -- CALLS
 
 -- the arguments, where each has a type
 abbrev pub with_argument : Span → Option ValueType → Option (List Argument) → Option (List Argument)
-with_argument p None gs = None
-with_argument p (Some t) None = None
-with_argument p (Some t) (Some gs) = Some (record { place = p; given = t } ∷ gs)
+with_argument p t gs = of_two (λ (x : ValueType) (xs : List Argument). Some (record { place = p; given = x } ∷ xs)) t gs
 
--- some arguments and one behind them, where each has a type
+-- some arguments and one after them, where each has a type
 abbrev pub and_argument : Option (List Argument) → Span → Option ValueType → Option (List Argument)
 and_argument None p t = None
 and_argument (Some gs) p None = None
 and_argument (Some gs) p (Some t) = Some (gs ++ record { place = p; given = t } ∷ [])
 
 -- the rules of the built-in functions; p is the call
-unfoldable pub size_faults : Span → List Argument → List TypeFault
-size_faults p (a ∷ []) = fault_if (not a.given.array) p TypeMismatch
-size_faults p _ = fault_at p BadArity
-
-unfoldable pub cat_faults : Span → List Argument → List TypeFault
-cat_faults p (a ∷ b ∷ []) =
+unfoldable pub built_in_faults : Span → BuiltIn → List Argument → List TypeFault
+built_in_faults p Size (a ∷ []) = fault_if (not a.given.array) p TypeMismatch
+built_in_faults p Cat (a ∷ b ∷ []) =
     fault_if (not (a.given.array && b.given.array && same_element a.given.element b.given.element)) p TypeMismatch
     ++ mix_faults p a.given.domain b.given.domain
-cat_faults p _ = fault_at p BadArity
-
-unfoldable pub sum_faults : Span → List Argument → List TypeFault
-sum_faults p (a ∷ []) = fault_if (not (a.given.array && is_uint64 a.given.element)) p TypeMismatch
-sum_faults p _ = fault_at p BadArity
-
-unfoldable pub bit_extract_faults : Span → List Argument → List TypeFault
-bit_extract_faults p (a ∷ []) = fault_if (not (is_uint64 a.given.element)) p TypeMismatch
-bit_extract_faults p _ = fault_at p BadArity
-
-abbrev pub built_in_faults : Span → BuiltIn → List Argument → List TypeFault
-built_in_faults p Size gs = size_faults p gs
-built_in_faults p Cat gs = cat_faults p gs
-built_in_faults p Sum gs = sum_faults p gs
-built_in_faults p BitExtract gs = bit_extract_faults p gs
+built_in_faults p Sum (a ∷ []) = fault_if (not (a.given.array && is_uint64 a.given.element)) p TypeMismatch
+built_in_faults p BitExtract (a ∷ []) = fault_if (not (is_uint64 a.given.element)) p TypeMismatch
+built_in_faults p _ _ = fault_at p BadArity
 
 abbrev pub array_of : DataType → Protection → ValueType
 array_of element domain = record { domain = domain; element = element; array = true }
@@ -187,11 +166,9 @@ array_of element domain = record { domain = domain; element = element; array = t
 unfoldable pub built_in_result : BuiltIn → List Argument → Option ValueType
 built_in_result Size gs = Some (public_scalar datatype.Uint64)
 built_in_result Cat (a ∷ b ∷ []) = option_map (array_of a.given.element) (meet a.given.domain b.given.domain)
-built_in_result Cat _ = None
 built_in_result Sum (a ∷ []) = Some (scalar_of a.given)
-built_in_result Sum _ = None
 built_in_result BitExtract (a ∷ []) = Some (array_of datatype.Bool a.given.domain)
-built_in_result BitExtract _ = None
+built_in_result _ _ = None
 
 -- whether a parameter's domain is written with this name
 abbrev pub is_named : List ℕ → Domain → Bool
@@ -201,31 +178,24 @@ is_named x (domain.Named y) = bytes_eq x y.text
 -- what a call binds a domain variable to: the one private domain among the arguments at its parameters, or public where all
 -- are public; nothing where two private domains stand there. d is what the arguments so far have made
 abbrev pub bound_from : Protection → List ℕ → List Parameter → List Argument → Option Protection
-bound_from d x [] gs = Some d
-bound_from d x (p ∷ ps) [] = Some d
 bound_from d x (p ∷ ps) (g ∷ gs) =
     if is_named x p.declared.domain then option_and_then (λ e. bound_from e x ps gs) (meet d g.given.domain)
     else bound_from d x ps gs
+bound_from d x _ _ = Some d
 
 abbrev pub bound_by : List ℕ → List Parameter → List Argument → Option Protection
 bound_by x ps gs = bound_from Public x ps gs
 
 -- the domains of all domain variables, where each is bound
-abbrev pub with_domain : Option Protection → Option (List Protection) → Option (List Protection)
-with_domain None ds = None
-with_domain (Some d) None = None
-with_domain (Some d) (Some ds) = Some (d ∷ ds)
-
 abbrev pub binding_by : List DomainVariable → List Parameter → List Argument → Option (List Protection)
 binding_by [] ps gs = Some []
-binding_by (v ∷ vs) ps gs = with_domain (bound_by v.variable.text ps gs) (binding_by vs ps gs)
+binding_by (v ∷ vs) ps gs = of_two (λ d ds. Some (d ∷ ds)) (bound_by v.variable.text ps gs) (binding_by vs ps gs)
 
 -- a domain variable with a kind may not be bound to public
 abbrev pub bound_faults : Span → Option Identifier → Option Protection → List TypeFault
 bound_faults p kind None = fault_at p DomainMix
 bound_faults p (Some k) (Some Public) = fault_at p TypeMismatch
-bound_faults p None (Some Public) = []
-bound_faults p kind (Some (Private m)) = []
+bound_faults p _ _ = []
 
 abbrev pub binding_faults : Span → List DomainVariable → List Parameter → List Argument → List TypeFault
 binding_faults p [] ps gs = []
@@ -233,10 +203,9 @@ binding_faults p (v ∷ vs) ps gs = bound_faults p v.kind (bound_by v.variable.t
 
 -- each argument goes to its parameter; a parameter of an unknown domain takes any
 abbrev pub argument_faults : Setting → List Parameter → List Argument → List TypeFault
-argument_faults w [] gs = []
-argument_faults w (p ∷ ps) [] = []
 argument_faults w (p ∷ ps) (g ∷ gs) =
     of_typed (type_written w p.declared) (λ wanted. store_faults g.place wanted g.given) ++ argument_faults w ps gs
+argument_faults w _ _ = []
 
 -- inside a function whose domain variables are bound to these domains
 abbrev pub within : Declared → FunctionTree → List Protection → Setting
@@ -278,32 +247,20 @@ call_type d p (Some c) gs = option_and_then (callee_type d p c) gs
 
 -- THE TYPE OF AN EXPRESSION
 
--- of two parts and of one, where they have types
-abbrev pub of_two : {A : Type 0} → (ValueType → ValueType → Option A) → Option ValueType → Option ValueType → Option A
-of_two rule None b = None
-of_two rule (Some a) None = None
-of_two rule (Some a) (Some b) = rule a b
-
-abbrev pub given_value : Option ValueType → Option ExpressionType
-given_value t = option_map Value t
-
-abbrev pub nothing_given : ValueType → ExpressionType
-nothing_given t = Void
-
 abbrev mutual
   pub type_of : Setting → Scope → Tree → Option ExpressionType
   type_of w s (number p n) = Some (Value (public_scalar datatype.Uint64))
   type_of w s (truth p b) = Some (Value (public_scalar datatype.Bool))
-  type_of w s (variable p x) = given_value (variable_type (variable_named s x))
+  type_of w s (variable p x) = option_map Value (variable_type (variable_named s x))
   type_of w s (call p x es) = call_type w.declared p (callee w.declared x) (arguments_of w s es)
-  type_of w s (index p a i) = given_value (of_two (index_type p (place_of i)) (value_of (type_of w s a)) (value_of (type_of w s i)))
-  type_of w s (parentheses p e) = given_value (value_of (type_of w s e))
-  type_of w s (negation p e) = given_value (option_and_then (negation_type p) (value_of (type_of w s e)))
-  type_of w s (cast p t e) = given_value (option_map (cast_type t) (value_of (type_of w s e)))
-  type_of w s (binary p op a b) = given_value (of_two (operator_type p op) (value_of (type_of w s a)) (value_of (type_of w s b)))
-  type_of w s (declassify p e) = given_value (option_map declassified (value_of (type_of w s e)))
+  type_of w s (index p a i) = option_map Value (of_two (index_type p (place_of i)) (value_of (type_of w s a)) (value_of (type_of w s i)))
+  type_of w s (parentheses p e) = option_map Value (value_of (type_of w s e))
+  type_of w s (negation p e) = option_map Value (option_and_then (negation_type p) (value_of (type_of w s e)))
+  type_of w s (cast p t e) = option_map Value (option_map (cast_type t) (value_of (type_of w s e)))
+  type_of w s (binary p op a b) = option_map Value (of_two (operator_type p op) (value_of (type_of w s a)) (value_of (type_of w s b)))
+  type_of w s (declassify p e) = option_map Value (option_map declassified (value_of (type_of w s e)))
   type_of w s (argument p x) = None
-  type_of w s (publish p x e) = option_map nothing_given (value_of (type_of w s e))
+  type_of w s (publish p x e) = option_map (λ t. Void) (value_of (type_of w s e))
 
   -- the arguments of a call, where each has a type
   pub arguments_of : Setting → Scope → Trees → Option (List Argument)
@@ -321,8 +278,6 @@ as_value w s e own = own ++ void_faults (place_of e) (type_of w s e)
 
 abbrev mutual
   pub faults : Setting → Scope → Tree → List TypeFault
-  faults w s (number p n) = []
-  faults w s (truth p b) = []
   faults w s (variable p x) = variable_faults p (variable_named s x)
   faults w s (call p x es) =
       argument_list_faults w s es ++ call_faults w.declared p (callee w.declared x) (arguments_of w s es)
@@ -338,6 +293,7 @@ abbrev mutual
   faults w s (declassify p e) = as_value w s e (faults w s e)
   faults w s (argument p x) = fault_at p ArgumentPlace
   faults w s (publish p x e) = as_value w s e (faults w s e)
+  faults w s _ = []
 
   pub argument_list_faults : Setting → Scope → Trees → List TypeFault
   argument_list_faults w s none = []

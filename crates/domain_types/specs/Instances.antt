@@ -25,7 +25,7 @@ same_instance i j = nat_eq i.function j.function && pointwise same_protection i.
 abbrev pub is_listed : reached.Instance → List reached.Instance → Bool
 is_listed i is = list_any (same_instance i) is
 
--- no instance stands again behind itself
+-- no instance stands again after itself
 abbrev pub IsEachOnce : List reached.Instance → Type 0
 IsEachOnce [] = Unit {0}
 IsEachOnce (i ∷ is) = (Among i is → ⊥) × IsEachOnce is

@@ -1,13 +1,13 @@
 -- The faults of a program, when it is accepted, and which fault is told.
 use Rattle.std.specs.Prelude.{ℕ, ◌≡◌, Bool, true, false, not, ◌&&◌, ◌||◌, List, [], ◌∷◌, ◌++◌, Some, codes, bytes_eq, is_some}
-use Rattle.std.specs.List.{slice_get}
+use Rattle.std.specs.List.{slice_get, list_any}
 use Rattle.secrec_ast.specs.declared.statement.Identifier.{Identifier}
 use Rattle.secrec_ast.specs.declared.function.ResultType.{ResultType}
 use Rattle.secrec_ast.specs.declared.function.ResultType.TheVariants as returned
 use Rattle.secrec_ast.specs.Programs.{FunctionTree, ItemTree, imports, kind, domain, defines, ProgramTree}
 use Rattle.domain_types.specs.declared.fault.TypeProblem.TheVariants.{UnknownName, Twice, NoMain, BadImport}
 use Rattle.domain_types.specs.declared.fault.TypeFault.{TypeFault}
-use Rattle.domain_types.specs.Types.{fault_if}
+use Rattle.domain_types.specs.Types.{fault_if, is_without}
 use Rattle.declarations.specs.Declarations.{Declared, declared_by, functions_of, number_in, is_known_kind, built_in_named}
 use Rattle.domain_types.specs.ExpressionTypes.{within}
 use Rattle.domain_types.specs.FunctionTypes.{function_faults, head_faults}
@@ -23,24 +23,21 @@ is_module x = bytes_eq x (codes "stdlib") || bytes_eq x (codes "shared3p")
 abbrev pub is_one_of : List ℕ → List (List ℕ) → Bool
 is_one_of x names = is_some (number_in x names)
 
--- the names of kinds and domains, and those of functions, behind one more declaration
+-- the names of kinds and domains, and those of functions, after one more declaration
 abbrev pub more_kinds : List (List ℕ) → ItemTree → List (List ℕ)
-more_kinds ks (imports x) = ks
 more_kinds ks (kind x) = ks ++ x.text ∷ []
 more_kinds ks (domain x k) = ks ++ x.text ∷ []
-more_kinds ks (defines f) = ks
+more_kinds ks _ = ks
 
 abbrev pub more_functions : List (List ℕ) → ItemTree → List (List ℕ)
-more_functions fs (imports x) = fs
-more_functions fs (kind x) = fs
-more_functions fs (domain x k) = fs
 more_functions fs (defines f) = fs ++ f.function.text ∷ []
+more_functions fs _ = fs
 
 -- a kind or a domain called as one before it, or as the kind of the import, which stands before all
 abbrev pub space_faults : Declared → (kinds : List (List ℕ)) → Identifier → List TypeFault
 space_faults d ks x = fault_if (is_one_of x.text ks || (d.shared3p && bytes_eq x.text (codes "shared3p"))) x.place Twice
 
--- a declaration behind these kinds and domains, and behind these functions; what a function declares inside is not among these
+-- a declaration after these kinds and domains, and after these functions; what a function declares inside is not among these
 abbrev pub item_faults : Declared → (kinds functions : List (List ℕ)) → ItemTree → List TypeFault
 item_faults d ks fs (imports x) = fault_if (not (is_module x.text)) x.place BadImport
 item_faults d ks fs (kind x) =
@@ -54,22 +51,17 @@ abbrev pub items_faults : Declared → (kinds functions : List (List ℕ)) → L
 items_faults d ks fs [] = []
 items_faults d ks fs (i ∷ is) = item_faults d ks fs i ++ items_faults d (more_kinds ks i) (more_functions fs i) is
 
--- `void main()`, no template and without parameters
-abbrev pub is_without : {A : Type 0} → List A → Bool
-is_without [] = true
-is_without (x ∷ xs) = false
-
 abbrev pub is_void : ResultType → Bool
 is_void returned.Void = true
 is_void (returned.Value t) = false
 
+-- `void main()`, no template and without parameters
 abbrev pub is_main : FunctionTree → Bool
 is_main f =
     bytes_eq f.function.text (codes "main") && is_without f.variables && is_void f.returned && is_without f.parameters
 
 abbrev pub has_main : List FunctionTree → Bool
-has_main [] = false
-has_main (f ∷ fs) = is_main f || has_main fs
+has_main fs = list_any is_main fs
 
 -- the faults of the declarations themselves, and of a program without `main` at the end of its text
 abbrev pub declaring_faults : ProgramTree → List TypeFault

@@ -1,12 +1,12 @@
 -- Which functions are checked, and with which domains: each plain function, and each template with each binding that a call in a
 -- checked function gives it.
-use Rattle.std.specs.Prelude.{ℕ, ◌≡◌, List, [], ◌∷◌, ◌++◌, Option, Some, None}
+use Rattle.std.specs.Prelude.{ℕ, ◌≡◌, List, [], ◌∷◌, ◌++◌, Option, Some, None, option_and_then}
 use Rattle.std.specs.List.{slice_get}
-use Rattle.secrec_ast.specs.Tree.{Tree, Trees, number, truth, variable, call, index, parentheses, negation, cast, binary, declassify, argument, publish}
+use Rattle.secrec_ast.specs.Tree.{Tree, Trees, call, index, parentheses, negation, cast, binary, declassify, publish}
 use Rattle.secrec_ast.specs.Tree as Tree'
 use Rattle.secrec_ast.specs.Statements.{DeclarationTree, TargetTree, AssignmentTree, StartTree, starts_with_nothing, starts_with_declaration}
 use Rattle.secrec_ast.specs.Statements.{starts_with_assignment, StepTree, steps_by_nothing, steps_by_assignment, steps_by_expression, StatementTree}
-use Rattle.secrec_ast.specs.Statements.{block, empty, branch, choice, while_loop, do_loop, for_loop, breaks, continues, returns, assertion}
+use Rattle.secrec_ast.specs.Statements.{block, branch, choice, while_loop, do_loop, for_loop, returns, assertion}
 use Rattle.secrec_ast.specs.Statements.{declaration, assignment, evaluation, StatementTrees}
 use Rattle.secrec_ast.specs.Statements as Statements'
 use Rattle.secrec_ast.specs.Programs.{FunctionTree, ProgramTree}
@@ -14,7 +14,7 @@ use Rattle.sc_text.specs.declared.span.Span.{Span}
 use Rattle.domain_types.specs.declared.value_type.Argument.{Argument}
 use Rattle.domain_types.specs.declared.value_type.Protection.{Protection}
 use Rattle.domain_types.specs.Types.{unless_refused}
-use Rattle.declarations.specs.Declarations.{Declared, declared_by, functions_of, Callee, built_in, defined, callee}
+use Rattle.declarations.specs.Declarations.{Declared, declared_by, functions_of, Callee, defined, callee}
 use Rattle.domain_types.specs.Settings.{Setting}
 use Rattle.domain_types.specs.Scopes.{Scope, inner, nothing_known}
 use Rattle.domain_types.specs.ExpressionTypes.{arguments_of, binding_by, defined_faults, within}
@@ -28,21 +28,16 @@ pub record Call : Type 0 where
   pub binding : Option (List Protection)
 
 abbrev pub binding_of : Declared → Span → FunctionTree → Option (List Argument) → Option (List Protection)
-binding_of d p f None = None
-binding_of d p f (Some gs) = unless_refused (defined_faults d p f gs) (binding_by f.variables f.parameters gs)
+binding_of d p f gs = option_and_then (λ (xs : List Argument). unless_refused (defined_faults d p f xs) (binding_by f.variables f.parameters xs)) gs
 
 -- a built-in function isn't one of the program
 abbrev pub call_of : Declared → Span → Option Callee → Option (List Argument) → List Call
-call_of d p None gs = []
-call_of d p (Some (built_in b)) gs = []
 call_of d p (Some (defined k f)) gs = record { function = k; binding = binding_of d p f gs } ∷ []
+call_of d p _ gs = []
 
 -- the calls of an expression, in the order of their evaluation
 abbrev mutual
   pub calls_of : Setting → Scope → Tree → List Call
-  calls_of w s (number p n) = []
-  calls_of w s (truth p b) = []
-  calls_of w s (variable p x) = []
   calls_of w s (call p x es) = calls_of_all w s es ++ call_of w.declared p (callee w.declared x) (arguments_of w s es)
   calls_of w s (index p a i) = calls_of w s a ++ calls_of w s i
   calls_of w s (parentheses p e) = calls_of w s e
@@ -50,8 +45,8 @@ abbrev mutual
   calls_of w s (cast p t e) = calls_of w s e
   calls_of w s (binary p op a b) = calls_of w s a ++ calls_of w s b
   calls_of w s (declassify p e) = calls_of w s e
-  calls_of w s (argument p x) = []
   calls_of w s (publish p x e) = calls_of w s e
+  calls_of w s _ = []
 
   pub calls_of_all : Setting → Scope → Trees → List Call
   calls_of_all w s Tree'.none = []
@@ -81,7 +76,6 @@ step_calls w s (steps_by_expression e) = calls_of w s e
 abbrev mutual
   pub statement_calls : Setting → Scope → StatementTree → List Call
   statement_calls w s (block p ss) = block_calls w (inner s) ss
-  statement_calls w s (empty p) = []
   statement_calls w s (branch p e body) = calls_of w s e ++ statement_calls w (inner s) body
   statement_calls w s (choice p e body otherwise) =
       calls_of w s e ++ statement_calls w (inner s) body ++ statement_calls w (inner s) otherwise
@@ -92,13 +86,12 @@ abbrev mutual
       ++ optional_calls w (after_start w (inner s) start) e
       ++ step_calls w (after_start w (inner s) start) step
       ++ statement_calls w (inner (after_start w (inner s) start)) body
-  statement_calls w s (breaks p) = []
-  statement_calls w s (continues p) = []
   statement_calls w s (returns p e) = optional_calls w s e
   statement_calls w s (assertion p e) = calls_of w s e
   statement_calls w s (declaration d) = declaration_calls w s d
   statement_calls w s (assignment a) = assignment_calls w s a
   statement_calls w s (evaluation e) = calls_of w s e
+  statement_calls w s _ = []
 
   pub block_calls : Setting → Scope → StatementTrees → List Call
   block_calls w s Statements'.none = []

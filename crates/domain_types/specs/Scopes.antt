@@ -1,5 +1,6 @@
 -- The variables that are known at a place.
-use Rattle.std.specs.Prelude.{ℕ, Bool, false, ◌||◌, if◌then◌else◌, List, [], ◌∷◌, ◌++◌, ◌-◌, length, take, drop, Option, Some, None, bytes_eq}
+use Rattle.std.specs.Prelude.{ℕ, Bool, List, [], ◌∷◌, ◌++◌, ◌-◌, length, take, drop, Option, bytes_eq}
+use Rattle.std.specs.List.{find, list_any}
 use Rattle.secrec_ast.specs.declared.statement.Identifier.{Identifier}
 use Rattle.domain_types.specs.declared.value_type.ValueType.{ValueType}
 use Rattle.domain_types.specs.declared.fault.TypeProblem.TheVariants.{Twice}
@@ -26,25 +27,23 @@ nothing_known = record { block = []; outer = [] }
 abbrev pub inner : Scope → Scope
 inner s = record { block = []; outer = s.block ++ s.outer }
 
--- behind that block, where n variables were outside of the block around it
+-- after that block, where n variables were outside of the block around it
 abbrev pub leaving : ℕ → Scope → Scope
 leaving n s = record { block = take (length s.outer - n) s.outer; outer = drop (length s.outer - n) s.outer }
 
--- behind a declaration
+-- after a declaration
 abbrev pub with_variable : Variable → Scope → Scope
 with_variable v s = record { block = v ∷ s.block; outer = s.outer }
 
 -- the variable that a name means: that of the innermost block
 abbrev pub variable_in : List ℕ → List Variable → Option Variable
-variable_in x [] = None
-variable_in x (v ∷ vs) = if bytes_eq x v.name then Some v else variable_in x vs
+variable_in x vs = find (λ (v : Variable). bytes_eq x v.name) vs
 
 abbrev pub variable_named : Scope → List ℕ → Option Variable
 variable_named s x = variable_in x (s.block ++ s.outer)
 
 abbrev pub is_among : List ℕ → List Variable → Bool
-is_among x [] = false
-is_among x (v ∷ vs) = bytes_eq x v.name || is_among x vs
+is_among x vs = list_any (λ (v : Variable). bytes_eq x v.name) vs
 
 -- a name that the innermost block has declared already
 abbrev pub twice_faults : Scope → Identifier → List TypeFault

@@ -1,5 +1,6 @@
 -- What a written domain or type means where domain variables are bound.
 use Rattle.std.specs.Prelude.{ℕ, if◌then◌else◌, List, [], ◌∷◌, Option, Some, None, bytes_eq, option_map}
+use Rattle.std.specs.Option.{option_or}
 use Rattle.secrec_ast.specs.declared.statement.Domain.{Domain}
 use Rattle.secrec_ast.specs.declared.statement.Domain.TheVariants as domain
 use Rattle.secrec_ast.specs.declared.statement.DeclaredType.{DeclaredType}
@@ -20,28 +21,18 @@ bound_to x (b ∷ bs) = if bytes_eq x b.name then Some b.domain else bound_to x 
 
 -- each domain variable with its domain
 abbrev pub bind : List DomainVariable → List Protection → List Bound
-bind [] ds = []
-bind (v ∷ vs) [] = []
 bind (v ∷ vs) (d ∷ ds) = record { name = v.variable.text; domain = d } ∷ bind vs ds
+bind _ _ = []
 
 -- where a piece of a program stands: in a function whose domain variables are so bound
 pub record Setting : Type 0 where
   pub declared : Declared
   pub bound : List Bound
 
-abbrev pub private_domain : Option ℕ → Option Protection
-private_domain None = None
-private_domain (Some k) = Some (Private k)
-
--- a domain variable hides a domain
-abbrev pub domain_of_name : Setting → List ℕ → Option Protection → Option Protection
-domain_of_name w x (Some d) = Some d
-domain_of_name w x None = private_domain (number_in x w.declared.domains)
-
--- the domain that is written; none where its name is unknown
+-- the domain that is written; none where its name is unknown. A domain variable hides a domain
 abbrev pub domain_of : Setting → Domain → Option Protection
 domain_of w domain.Public = Some Public
-domain_of w (domain.Named x) = domain_of_name w x.text (bound_to x.text w.bound)
+domain_of w (domain.Named x) = option_or (bound_to x.text w.bound) (option_map Private (number_in x.text w.declared.domains))
 
 abbrev pub in_domain : DeclaredType → Protection → ValueType
 in_domain t d = record { domain = d; element = t.element; array = t.array }

@@ -1,4 +1,4 @@
--- The faults of a statement, and what is known behind it.
+-- The faults of a statement, and what is known after it.
 use Rattle.std.specs.Prelude.{Bool, true, false, not, ◌&&◌, ◌||◌, if◌then◌else◌, is_some, is_none, List, [], ◌++◌, Option, Some, None}
 use Rattle.sc_text.specs.declared.span.Span.{Span}
 use Rattle.secrec_ast.specs.declared.expression.DataType.TheVariants as datatype
@@ -9,7 +9,7 @@ use Rattle.secrec_ast.specs.declared.function.ResultType.TheVariants as returned
 use Rattle.secrec_ast.specs.Tree.{Tree, argument}
 use Rattle.secrec_ast.specs.Statements.{DeclarationTree, TargetTree, AssignmentTree, StartTree, starts_with_nothing, starts_with_declaration}
 use Rattle.secrec_ast.specs.Statements.{starts_with_assignment, StepTree, steps_by_nothing, steps_by_assignment, steps_by_expression, StatementTree}
-use Rattle.secrec_ast.specs.Statements.{block, empty, branch, choice, while_loop, do_loop, for_loop, breaks, continues, returns, assertion}
+use Rattle.secrec_ast.specs.Statements.{block, branch, choice, while_loop, do_loop, for_loop, returns, assertion}
 use Rattle.secrec_ast.specs.Statements.{declaration, assignment, evaluation, StatementTrees, none, also}
 use Rattle.secrec_ast.specs.Heights.{place_of}
 use Rattle.domain_types.specs.declared.fault.TypeProblem.{TypeProblem}
@@ -108,9 +108,8 @@ start_faults w s (starts_with_declaration d) = declaration_faults w s d
 start_faults w s (starts_with_assignment a) = assignment_faults w s a
 
 abbrev pub after_start : Setting → Scope → StartTree → Scope
-after_start w s starts_with_nothing = s
 after_start w s (starts_with_declaration d) = with_variable (variable_declared w d) s
-after_start w s (starts_with_assignment a) = s
+after_start w s _ = s
 
 abbrev pub step_faults : Setting → Scope → StepTree → List TypeFault
 step_faults w s steps_by_nothing = []
@@ -119,59 +118,33 @@ step_faults w s (steps_by_expression e) = faults w s e
 
 -- of the parts of a `for` only its condition and an expression as its third part have types
 abbrev pub is_step_typed : Setting → Scope → StepTree → Bool
-is_step_typed w s steps_by_nothing = true
-is_step_typed w s (steps_by_assignment a) = true
 is_step_typed w s (steps_by_expression e) = is_some (type_of w s e)
+is_step_typed w s _ = true
 
 abbrev pub optional_faults : Setting → Scope → Option Tree → List TypeFault
-optional_faults w s None = []
-optional_faults w s (Some e) = value_faults w s e
+optional_faults w s e = of_typed e (value_faults w s)
 
--- the type of an expression that may be left out
-abbrev pub optional_type : Setting → Scope → Option Tree → Option ValueType
-optional_type w s None = None
-optional_type w s (Some e) = value_type w s e
-
--- the condition of a `for`, which has the given type
-abbrev pub for_rule : Option Tree → Option ValueType → (step_typed : Bool) → List TypeFault
-for_rule None t b = []
-for_rule (Some e) t false = []
-for_rule (Some e) t true = of_typed t (scalar_faults datatype.Bool PrivateCondition (place_of e))
-
+-- the condition of a `for`: nothing is said of it where the third part has no type
 abbrev pub for_own : Setting → Scope → Option Tree → (step_typed : Bool) → List TypeFault
-for_own w s e b = for_rule e (optional_type w s e) b
+for_own w s (Some e) true = test_own w s PrivateCondition e
+for_own w s _ _ = []
 
 -- RETURNS
 
--- a `return` at p of a value of the given type
-abbrev pub return_rule : Setting → Span → ResultType → Option Tree → Option ValueType → List TypeFault
-return_rule w p returned.Void None given = []
-return_rule w p returned.Void (Some e) given = of_typed given (λ t. fault_at p TypeMismatch)
-return_rule w p (returned.Value t) None given = fault_at p TypeMismatch
-return_rule w p (returned.Value t) (Some e) given =
-    of_typed (type_written w t) (λ wanted. of_typed given (store_faults (place_of e) wanted))
-
+-- a `return` at p
 abbrev pub return_own : Setting → Scope → Span → ResultType → Option Tree → List TypeFault
-return_own w s p r e = return_rule w p r e (optional_type w s e)
+return_own w s p returned.Void None = []
+return_own w s p returned.Void (Some e) = of_typed (value_type w s e) (λ t. fault_at p TypeMismatch)
+return_own w s p (returned.Value t) None = fault_at p TypeMismatch
+return_own w s p (returned.Value t) (Some e) =
+    of_typed (type_written w t) (λ wanted. of_typed (value_type w s e) (store_faults (place_of e) wanted))
 
 -- STATEMENTS
 
--- what is known behind a statement
+-- what is known after a statement
 abbrev pub after : Setting → Scope → StatementTree → Scope
 after w s (declaration d) = with_variable (variable_declared w d) s
-after w s (block p ss) = s
-after w s (empty p) = s
-after w s (branch p e body) = s
-after w s (choice p e body otherwise) = s
-after w s (while_loop p e body) = s
-after w s (do_loop p body e) = s
-after w s (for_loop p start e step body) = s
-after w s (breaks p) = s
-after w s (continues p) = s
-after w s (returns p e) = s
-after w s (assertion p e) = s
-after w s (assignment a) = s
-after w s (evaluation e) = s
+after w s _ = s
 
 abbrev pub after_all : Setting → Scope → StatementTrees → Scope
 after_all w s none = s
@@ -181,7 +154,6 @@ after_all w s (also t ts) = after_all w (after w s t) ts
 abbrev mutual
   pub statement_faults : Setting → ResultType → Scope → StatementTree → List TypeFault
   statement_faults w r s (block p ss) = block_faults w r (inner s) ss
-  statement_faults w r s (empty p) = []
   statement_faults w r s (branch p e body) = test_faults w s PrivateCondition e ++ statement_faults w r (inner s) body
   statement_faults w r s (choice p e body otherwise) =
       test_faults w s PrivateCondition e ++ statement_faults w r (inner s) body ++ statement_faults w r (inner s) otherwise
@@ -193,13 +165,12 @@ abbrev mutual
       ++ step_faults w (after_start w (inner s) start) step
       ++ for_own w (after_start w (inner s) start) e (is_step_typed w (after_start w (inner s) start) step)
       ++ statement_faults w r (inner (after_start w (inner s) start)) body
-  statement_faults w r s (breaks p) = []
-  statement_faults w r s (continues p) = []
   statement_faults w r s (returns p e) = optional_faults w s e ++ return_own w s p r e
   statement_faults w r s (assertion p e) = test_faults w s PrivateAssert e
   statement_faults w r s (declaration d) = declaration_faults w s d
   statement_faults w r s (assignment a) = assignment_faults w s a
   statement_faults w r s (evaluation e) = faults w s e
+  statement_faults w r s _ = []
 
   -- statements in order, each in what is known there
   pub block_faults : Setting → ResultType → Scope → StatementTrees → List TypeFault
@@ -212,19 +183,9 @@ abbrev mutual
 abbrev mutual
   pub always_returns : StatementTree → Bool
   always_returns (block p ss) = one_returns ss
-  always_returns (empty p) = false
-  always_returns (branch p e body) = false
   always_returns (choice p e body otherwise) = always_returns body && always_returns otherwise
-  always_returns (while_loop p e body) = false
-  always_returns (do_loop p body e) = false
-  always_returns (for_loop p start e step body) = false
-  always_returns (breaks p) = false
-  always_returns (continues p) = false
   always_returns (returns p e) = true
-  always_returns (assertion p e) = false
-  always_returns (declaration d) = false
-  always_returns (assignment a) = false
-  always_returns (evaluation e) = false
+  always_returns _ = false
 
   pub one_returns : StatementTrees → Bool
   one_returns none = false

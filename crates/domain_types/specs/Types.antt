@@ -21,9 +21,10 @@ abbrev pub fault_if : Bool → Span → TypeProblem → List TypeFault
 fault_if true p problem = fault_at p problem
 fault_if false p problem = []
 
-abbrev pub is_faultless : List TypeFault → Bool
-is_faultless [] = true
-is_faultless (f ∷ fs) = false
+-- whether a list has no element
+abbrev pub is_without : {A : Type 0} → List A → Bool
+is_without [] = true
+is_without (x ∷ xs) = false
 
 -- what a node says of a part: nothing where the part has no type
 abbrev pub of_typed : {A : Type 0} → Option A → (A → List TypeFault) → List TypeFault
@@ -32,19 +33,17 @@ of_typed (Some t) say = say t
 
 -- a node that is refused has no type
 abbrev pub unless_refused : {A : Type 0} → List TypeFault → Option A → Option A
-unless_refused fs t = if is_faultless fs then t else None
+unless_refused fs t = if is_without fs then t else None
 
 -- the value that an expression gives: a void call gives none
 abbrev pub value_of : Option ExpressionType → Option ValueType
-value_of None = None
-value_of (Some Void) = None
 value_of (Some (Value t)) = Some t
+value_of _ = None
 
 -- a void call, beginning at p, where a value is wanted
 abbrev pub void_faults : Span → Option ExpressionType → List TypeFault
-void_faults p None = []
 void_faults p (Some Void) = fault_at p TypeMismatch
-void_faults p (Some (Value t)) = []
+void_faults p _ = []
 
 abbrev pub is_private : Protection → Bool
 is_private Public = false
@@ -59,8 +58,7 @@ meet (Private k) (Private m) = if nat_eq k m then Some (Private k) else None
 -- where an operation has operands of these domains
 abbrev pub mix_faults : Span → Protection → Protection → List TypeFault
 mix_faults p (Private k) (Private m) = fault_if (not (nat_eq k m)) p DomainMix
-mix_faults p (Private k) Public = []
-mix_faults p Public d = []
+mix_faults p _ _ = []
 
 abbrev pub is_uint64 : DataType → Bool
 is_uint64 datatype.Uint64 = true

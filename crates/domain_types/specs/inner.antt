@@ -1,3 +1,4 @@
+pub mod Given
 pub mod LeastFault
 pub mod Lent
 pub mod Table

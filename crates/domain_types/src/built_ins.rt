@@ -1,7 +1,7 @@
 // The rules of the built-in functions, on the types of their arguments.
 ghost use Rattle.std.specs.Prelude.{◌≡◌};
 ghost use Rattle.domain_types.specs.Types.{unless_refused};
-ghost use Rattle.domain_types.specs.ExpressionTypes.{size_faults, cat_faults, sum_faults, bit_extract_faults, built_in_faults, built_in_result};
+ghost use Rattle.domain_types.specs.ExpressionTypes.{built_in_faults, built_in_result};
 ghost use Rattle.declarations.specs.declared.built_in.BuiltIn.TheVariants.{Size, Cat, Sum, BitExtract};
 ghost use Rattle.domain_types.specs.inner.LeastFault.{least};
 
@@ -13,14 +13,14 @@ use declarations::BuiltIn;
 use sc_text::Span;
 use secrec_ast::DataType;
 
-#[tactic(auto, using(crate::proofs::Faults::appends), unfolding(crate::specs::ExpressionTypes::size_faults, crate::specs::ExpressionTypes::built_in_result))]
+#[tactic(auto, using(crate::proofs::Faults::appends), unfolding(crate::specs::ExpressionTypes::built_in_faults, crate::specs::ExpressionTypes::built_in_result))]
 fn size(
     least_fault: &mut Option<TypeFault>,
     place: Span,
     arguments: &[Argument],
 ) -> Option<ValueType>
-    ensures kind { result ≡ unless_refused (size_faults place arguments.now) (built_in_result Size arguments.now) }
-    ensures least_fault { least_fault.new ≡ least least_fault.old (size_faults place arguments.now) }
+    ensures kind { result ≡ unless_refused (built_in_faults place Size arguments.now) (built_in_result Size arguments.now) }
+    ensures least_fault { least_fault.new ≡ least least_fault.old (built_in_faults place Size arguments.now) }
 {
     let [a] = arguments else {
         note(least_fault, place, TypeProblem::BadArity);
@@ -42,14 +42,14 @@ fn size(
     })
 }
 
-#[tactic(auto, using(crate::proofs::Faults::appends), unfolding(crate::specs::ExpressionTypes::cat_faults, crate::specs::ExpressionTypes::built_in_result))]
+#[tactic(auto, using(crate::proofs::Faults::appends), unfolding(crate::specs::ExpressionTypes::built_in_faults, crate::specs::ExpressionTypes::built_in_result))]
 fn cat(
     least_fault: &mut Option<TypeFault>,
     place: Span,
     arguments: &[Argument],
 ) -> Option<ValueType>
-    ensures kind { result ≡ unless_refused (cat_faults place arguments.now) (built_in_result Cat arguments.now) }
-    ensures least_fault { least_fault.new ≡ least least_fault.old (cat_faults place arguments.now) }
+    ensures kind { result ≡ unless_refused (built_in_faults place Cat arguments.now) (built_in_result Cat arguments.now) }
+    ensures least_fault { least_fault.new ≡ least least_fault.old (built_in_faults place Cat arguments.now) }
 {
     let [a, b] = arguments else {
         note(least_fault, place, TypeProblem::BadArity);
@@ -69,14 +69,14 @@ fn cat(
     })
 }
 
-#[tactic(auto, using(crate::proofs::Faults::appends), unfolding(crate::specs::ExpressionTypes::sum_faults, crate::specs::ExpressionTypes::built_in_result))]
+#[tactic(auto, using(crate::proofs::Faults::appends), unfolding(crate::specs::ExpressionTypes::built_in_faults, crate::specs::ExpressionTypes::built_in_result))]
 fn sum(
     least_fault: &mut Option<TypeFault>,
     place: Span,
     arguments: &[Argument],
 ) -> Option<ValueType>
-    ensures kind { result ≡ unless_refused (sum_faults place arguments.now) (built_in_result Sum arguments.now) }
-    ensures least_fault { least_fault.new ≡ least least_fault.old (sum_faults place arguments.now) }
+    ensures kind { result ≡ unless_refused (built_in_faults place Sum arguments.now) (built_in_result Sum arguments.now) }
+    ensures least_fault { least_fault.new ≡ least least_fault.old (built_in_faults place Sum arguments.now) }
 {
     let [a] = arguments else {
         note(least_fault, place, TypeProblem::BadArity);
@@ -95,14 +95,14 @@ fn sum(
     })
 }
 
-#[tactic(auto, using(crate::proofs::Faults::appends), unfolding(crate::specs::ExpressionTypes::bit_extract_faults, crate::specs::ExpressionTypes::built_in_result))]
+#[tactic(auto, using(crate::proofs::Faults::appends), unfolding(crate::specs::ExpressionTypes::built_in_faults, crate::specs::ExpressionTypes::built_in_result))]
 fn bit_extract(
     least_fault: &mut Option<TypeFault>,
     place: Span,
     arguments: &[Argument],
 ) -> Option<ValueType>
-    ensures kind { result ≡ unless_refused (bit_extract_faults place arguments.now) (built_in_result BitExtract arguments.now) }
-    ensures least_fault { least_fault.new ≡ least least_fault.old (bit_extract_faults place arguments.now) }
+    ensures kind { result ≡ unless_refused (built_in_faults place BitExtract arguments.now) (built_in_result BitExtract arguments.now) }
+    ensures least_fault { least_fault.new ≡ least least_fault.old (built_in_faults place BitExtract arguments.now) }
 {
     let [a] = arguments else {
         note(least_fault, place, TypeProblem::BadArity);

@@ -1,7 +1,7 @@
 // The rule of a call of a function of the program, on the types of its arguments.
 ghost use Rattle.std.specs.Prelude.{◌≡◌, IfOk, option_map, vec_items};
 ghost use Rattle.secrec_ast.specs.Programs.{function_tree};
-ghost use Rattle.domain_types.specs.Types.{is_faultless, of_typed, unless_refused};
+ghost use Rattle.domain_types.specs.Types.{is_without, of_typed, unless_refused};
 ghost use Rattle.domain_types.specs.Settings.{type_written};
 ghost use Rattle.declarations.specs.Views.{declared};
 ghost use Rattle.domain_types.specs.Views.{setting};
@@ -58,7 +58,7 @@ fn may_be_bound(
     kind: &Option<Identifier>,
     domain: Option<Protection>,
 ) -> bool
-    ensures fits { result ≡ is_faultless (bound_faults place kind.now domain) }
+    ensures fits { result ≡ is_without (bound_faults place kind.now domain) }
     ensures least_fault { least_fault.new ≡ least least_fault.old (bound_faults place kind.now domain) }
 {
     match (kind, domain) {
@@ -83,7 +83,7 @@ fn may_all_be_bound(
     parameters: &[Parameter],
     arguments: &[Argument],
 ) -> bool
-    ensures fits { result ≡ is_faultless (binding_faults place variables.now parameters.now arguments.now) }
+    ensures fits { result ≡ is_without (binding_faults place variables.now parameters.now arguments.now) }
     ensures least_fault { least_fault.new ≡ least least_fault.old (binding_faults place variables.now parameters.now arguments.now) }
 {
     let mut fits = true;
@@ -127,7 +127,7 @@ fn arguments_fit<'p>(
     parameters: &'p [Parameter],
     arguments: &[Argument],
 ) -> bool
-    ensures fits { result ≡ is_faultless (argument_faults (setting callee.now) parameters.now arguments.now) }
+    ensures fits { result ≡ is_without (argument_faults (setting callee.now) parameters.now arguments.now) }
     ensures least_fault { least_fault.new ≡ least least_fault.old (argument_faults (setting callee.now) parameters.now arguments.now) }
 {
     let mut fits = true;

@@ -2,9 +2,9 @@
 ghost use Rattle.std.specs.Prelude.{◌≡◌, IfOk, Some, map, option_map, vec_items};
 ghost use Rattle.secrec_ast.specs.Tree.{expression, trees_of};
 ghost use Rattle.domain_types.specs.Types.{value_of, void_faults, public_scalar};
-ghost use Rattle.domain_types.specs.declared.value_type.ExpressionType.TheVariants.{Value};
+ghost use Rattle.domain_types.specs.declared.value_type.ExpressionType.TheVariants.{Void, Value};
 ghost use Rattle.domain_types.specs.Scopes.{variable_named};
-ghost use Rattle.domain_types.specs.ExpressionTypes.{variable_type, variable_faults, cast_type, declassified, given_value, nothing_given};
+ghost use Rattle.domain_types.specs.ExpressionTypes.{variable_type, variable_faults, cast_type, declassified};
 ghost use Rattle.domain_types.specs.ExpressionTypes.{and_argument, type_of, value_type, arguments_of, faults, value_faults, argument_list_faults};
 ghost use Rattle.domain_types.specs.Reached.{calls_of, calls_of_all};
 ghost use Rattle.domain_types.specs.Views.{setting};
@@ -62,7 +62,7 @@ pub fn variable<'p>(
 }
 
 fn given(value: Option<ValueType>) -> Option<ExpressionType>
-    ensures { result ≡ given_value value }
+    ensures { result ≡ option_map Value value }
 {
     match value {
         None => None,
@@ -97,7 +97,7 @@ fn declassified(value: Option<ValueType>) -> Option<ValueType>
 }
 
 fn published(value: Option<ValueType>) -> Option<ExpressionType>
-    ensures { result ≡ option_map nothing_given value }
+    ensures { result ≡ option_map (λ t. Void) value }
 {
     match value {
         None => None,
@@ -115,7 +115,7 @@ fn scalar(element: DataType) -> Option<ExpressionType>
     }))
 }
 
-// These arguments and one behind them, where each has a type.
+// These arguments and one after them, where each has a type.
 fn with_argument(
     types: Option<Vec<Argument>>,
     place: Span,

@@ -86,7 +86,7 @@ fn is_in_parameter(name: &str, parameters: &[Parameter]) -> bool
     found
 }
 
-// A domain variable behind others.
+// A domain variable after others.
 #[tactic(auto, using(crate::proofs::Faults::appends))]
 fn domain_variable<'p>(
     least_fault: &mut Option<TypeFault>,

@@ -25,7 +25,7 @@ pub fn is_known_kind(declarations: &Declarations<'_>, name: &str) -> bool
     name == "shared3p" && (declarations.shared3p || declarations.kind_declared)
 }
 
-// The name of a kind or domain behind others is new.
+// The name of a kind or domain after others is new.
 fn is_new<'p>(
     least_fault: &mut Option<TypeFault>,
     declarations: &Declarations<'p>,
@@ -39,7 +39,7 @@ fn is_new<'p>(
     note_if(least_fault, twice, name.place, TypeProblem::Twice);
 }
 
-// What a declaration does against the rules, behind these kinds and domains and behind these functions.
+// What a declaration does against the rules, after these kinds and domains and after these functions.
 #[tactic(auto, using(crate::proofs::Faults::appends))]
 fn item_faults<'p>(
     least_fault: &mut Option<TypeFault>,

@@ -1,7 +1,8 @@
 // The kinds and domains of a program.
-ghost use Rattle.std.specs.Prelude.{◌≡◌, ◌++◌, ◌∷◌, [], IfOk, map, option_map};
+ghost use Rattle.std.specs.Prelude.{◌≡◌, ◌++◌, ◌∷◌, [], IfOk, map, option_map, bytes_eq};
+ghost use Rattle.std.specs.List.{find};
 ghost use Rattle.secrec_ast.specs.Programs.{item_tree};
-ghost use Rattle.domain_types.specs.FunctionTypes.{protections_of, first_named};
+ghost use Rattle.domain_types.specs.FunctionTypes.{protections_of};
 ghost use Rattle.domain_types.specs.inner.Lent.{identifier_at};
 
 use declarations::NameIndex;
@@ -49,7 +50,7 @@ impl<'p> Protections<'p> {
         }
     }
 
-    // These and one behind them.
+    // These and one after them.
     #[tactic(auto, using(declarations::proofs::Growing::collecting))]
     fn with(self, identifier: &'p Identifier) -> Result<Protections<'p>, AllocError>
         ensures { IfOk result (λ protections. protections ≡ self.entry ++ identifier.now ∷ []) }
@@ -83,7 +84,7 @@ impl<'p> Protections<'p> {
 
     /// The first of this name, if it is there.
     pub fn first(&self, name: &'p str) -> Option<&'p Identifier>
-        ensures { option_map identifier_at result ≡ first_named name.now self.now }
+        ensures { option_map identifier_at result ≡ find (λ (y : Identifier). bytes_eq name.now y.text) self.now }
     {
         match self.names.number(name) {
             None => None,

@@ -1,6 +1,6 @@
 // Where a value may go. Each rule notes its faults and says whether there is none.
 ghost use Rattle.std.specs.Prelude.{◌≡◌};
-ghost use Rattle.domain_types.specs.Types.{is_faultless, of_typed, is_private, is_uint64, same_element, same_dimension, meet, mix_faults};
+ghost use Rattle.domain_types.specs.Types.{is_without, of_typed, is_private, is_uint64, same_element, same_dimension, meet, mix_faults};
 ghost use Rattle.domain_types.specs.Types.{flow_faults, store_faults, scalar_faults};
 ghost use Rattle.domain_types.specs.inner.LeastFault.{least};
 
@@ -57,7 +57,7 @@ pub fn meet(a: Protection, b: Protection) -> Option<Protection>
 
 /// Operands of these domains meet.
 pub fn mix(least_fault: &mut Option<TypeFault>, place: Span, a: Protection, b: Protection) -> bool
-    ensures fits { result ≡ is_faultless (mix_faults place a b) }
+    ensures fits { result ≡ is_without (mix_faults place a b) }
     ensures least_fault { least_fault.new ≡ least least_fault.old (mix_faults place a b) }
 {
     match (a, b) {
@@ -76,7 +76,7 @@ fn flow(
     wanted: Protection,
     given: Protection,
 ) -> bool
-    ensures fits { result ≡ is_faultless (flow_faults place wanted given) }
+    ensures fits { result ≡ is_without (flow_faults place wanted given) }
     ensures least_fault { least_fault.new ≡ least least_fault.old (flow_faults place wanted given) }
 {
     match (wanted, given) {
@@ -100,7 +100,7 @@ pub fn store(
     wanted: ValueType,
     given: ValueType,
 ) -> bool
-    ensures fits { result ≡ is_faultless (store_faults place wanted given) }
+    ensures fits { result ≡ is_without (store_faults place wanted given) }
     ensures least_fault { least_fault.new ≡ least least_fault.old (store_faults place wanted given) }
 {
     let same = same_element(wanted.element, given.element)
@@ -133,7 +133,7 @@ pub fn scalar(
     place: Span,
     given: ValueType,
 ) -> bool
-    ensures fits { result ≡ is_faultless (scalar_faults element private_one place given) }
+    ensures fits { result ≡ is_without (scalar_faults element private_one place given) }
     ensures least_fault { least_fault.new ≡ least least_fault.old (scalar_faults element private_one place given) }
 {
     let same = same_element(element, given.element) && !given.array;

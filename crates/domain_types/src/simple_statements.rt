@@ -2,10 +2,10 @@
 ghost use Rattle.std.specs.Prelude.{◌≡◌, ◌++◌, IfOk};
 ghost use Rattle.secrec_ast.specs.Tree.{expression};
 ghost use Rattle.secrec_ast.specs.Statements.{optional, start_tree, step_tree};
-ghost use Rattle.domain_types.specs.StatementTypes.{start_faults, after_start, step_faults, is_step_typed, optional_type, optional_faults, for_rule};
-ghost use Rattle.domain_types.specs.StatementTypes.{return_rule};
+ghost use Rattle.domain_types.specs.StatementTypes.{start_faults, after_start, step_faults, is_step_typed, optional_faults};
 ghost use Rattle.domain_types.specs.Reached.{optional_calls, start_calls, step_calls};
 ghost use Rattle.domain_types.specs.Views.{setting, calls_seen};
+ghost use Rattle.domain_types.specs.inner.Given.{optional_type, for_rule, return_rule};
 ghost use Rattle.domain_types.specs.inner.LeastFault.{least};
 
 use crate::calls::Found;

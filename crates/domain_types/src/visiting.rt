@@ -4,7 +4,7 @@ ghost use Rattle.std.specs.BTreeSet.{contains};
 ghost use Rattle.std.specs.Ordering.{nat_cmp};
 ghost use Rattle.secrec_ast.specs.Programs.{function_tree};
 ghost use Rattle.domain_types.specs.FunctionTypes.{domain_variables_faults};
-ghost use Rattle.domain_types.specs.ProgramTypes.{is_without};
+ghost use Rattle.domain_types.specs.Types.{is_without};
 ghost use Rattle.declarations.specs.Views.{declared, tree_at};
 ghost use Rattle.domain_types.specs.Views.{call_seen, calls_seen};
 ghost use Rattle.domain_types.specs.Instances.{instance_seen};
@@ -86,7 +86,7 @@ fn visit<'p>(
     Ok(calls)
 }
 
-// The work list behind a call.
+// The work list after a call.
 fn with_call(alloc: Global, list: WorkList, call: &Call) -> Result<WorkList, AllocError>
     ensures { IfOk result (λ l. l ≡ with_binding list (call_seen call.now).function (call_seen call.now).binding) }
 {
@@ -96,7 +96,7 @@ fn with_call(alloc: Global, list: WorkList, call: &Call) -> Result<WorkList, All
     }
 }
 
-// The work list behind these calls, whose functions are noted as called.
+// The work list after these calls, whose functions are noted as called.
 fn with_calls(
     alloc: Global,
     list: WorkList,

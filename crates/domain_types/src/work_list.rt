@@ -66,7 +66,7 @@ impl WorkList {
         &self.instances[index]
     }
 
-    /// These instances and one behind them, unless it is listed already.
+    /// These instances and one after them, unless it is listed already.
     pub fn with(
         self,
         alloc: Global,

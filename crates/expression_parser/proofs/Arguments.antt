@@ -1,4 +1,4 @@
--- The readings of arguments and of what stands behind a name.
+-- The readings of arguments and of what stands after a name.
 use Rattle.std.proofs.Common.{◌≡◌, ℕ, zero, suc, ◌<◌, ◌≤◌, List, [], ◌∷◌, ◌++◌, ◌⊎◌, inl, inr, refl, sym, ap, ◌∙◌, subst, append_assoc, append-nil}
 use Rattle.std.proofs.Common.{Ok, Some, None, length, arith, Bool, true, false, cond}
 use Rattle.sc_text.specs.declared.span.Span.{Span}
@@ -17,7 +17,7 @@ use Rattle.expression_parser.proofs.Tokens.{Any, origin, any_stops, good_ended, 
 use Rattle.expression_parser.proofs.Tokens.{Closing, closing, closes, sign_stops, closing_is, is_closing}
 use Rattle.expression_parser.proofs.Nodes.{Low, Lows, tall, leaf, leaf_token, first_token}
 
--- a closing parenthesis stands behind
+-- a closing parenthesis stands after
 abbrev pub IsClose : Trees → Token → Type 0
 IsClose c x = x.kind ≡ kinds.Sign signs.RightParenthesis
 
@@ -25,7 +25,7 @@ closed : (c d : Trees) (m : List Token) → Stops (IsClose c) m → Stops (IsClo
 closed c d [] h = h
 closed c d (y ∷ n) h = h
 
--- nothing of a call stands behind a name
+-- nothing of a call stands after a name
 abbrev pub FreeName : Tree → Token → Type 0
 FreeName c x = is_sign signs.LeftParenthesis x ≡ false
 
@@ -33,7 +33,7 @@ FreeName c x = is_sign signs.LeftParenthesis x ≡ false
 module _ (h : ℕ) (inner : List Token → Outcome Tree)
     (reads_inner : (w : List Token) → IsEnded w → Reads (IsExpression loosest) (Low h) (Free loosest) w (inner w))
   where
-    -- a comma, and the arguments behind it
+    -- a comma, and the arguments after it
     CommaBody : Tree → Trees → Phrase
     CommaBody e = Then AreMore (λ es. Only (also e es))
 
@@ -183,7 +183,7 @@ module _ (h : ℕ) (inner : List Token → Outcome Tree)
             (pure_reads (Lows h) Any (x ∷ m) x m none refl (omega arith))
         go false t = some_reads x m (is_sign-false signs.RightParenthesis x t) en
 
-    -- a call behind its name
+    -- a call after its name
     CallBody : Span → List ℕ → Tree → Phrase
     CallBody p bytes = Then AreArguments (λ es. Closing signs.RightParenthesis (call p bytes es))
 

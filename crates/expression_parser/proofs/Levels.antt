@@ -1,4 +1,4 @@
--- Operators of one level behind a left operand, and the levels one over another.
+-- Operators of one level after a left operand, and the levels one over another.
 use Rattle.std.proofs.Common.{◌≡◌, ℕ, zero, suc, ◌-◌, ◌<◌, ◌≤◌, List, [], ◌∷◌, ◌++◌, ◌⊎◌, inl, inr, refl, sym, ap, ◌∙◌, subst, append_assoc}
 use Rattle.std.proofs.Common.{append-nil, Ok, Err, Option, Some, None, length, arith, true, false, cond}
 use Rattle.std.specs.Prelude.{nat_le}
@@ -23,7 +23,7 @@ use Rattle.expression_parser.proofs.Operators.{at_level-own, same_sign, operator
 use Rattle.expression_parser.proofs.Nodes.{Low, tall, leaf, leaf_token, start_bad, least_positive}
 use Rattle.expression_parser.proofs.Unaries.{unary_reads}
 
--- e is a with operators of level k + 1 and their right operands behind it, which these tokens spell
+-- e is a with operators of level k + 1 and their right operands after it, which these tokens spell
 data Grows (k : ℕ) : Tree → Tree → List Token → Type 0 where
   stop : {a e : Tree} {ts : List Token} → e ≡ a → ts ≡ [] → Grows k a e ts
   go : {a e : Tree} {ts : List Token} (op : Operator) (b : Tree) (q : Span) (s t : List Token) → level op ≡ suc k

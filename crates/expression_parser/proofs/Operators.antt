@@ -158,7 +158,7 @@ sign_tighter k signs.LeftParenthesis f = f
 sign_tighter k signs.LeftBracket f = f
 sign_tighter k s f = operator_tighter k (operator_of s) f
 
--- what may stand behind a level may stand behind a tighter one
+-- what may stand after a level may stand after a tighter one
 pub tighter : (k : ℕ) (kind : TokenKind) → goes_on (suc k) kind ≡ false → goes_on k kind ≡ false
 tighter k (kinds.Sign s) f = sign_tighter k s f
 tighter k (kinds.Name bytes) f = refl

@@ -14,7 +14,7 @@ abbrev pub Begun : ParseProblem → Type 0 → Type 0
 Begun Unexpected P = Unit {0}
 Begun TooHigh P = P
 
--- the next token is one that may stand behind
+-- the next token is one that may stand after
 abbrev pub Stops : (Token → Type 0) → List Token → Type 0
 Stops F [] = ⊥
 Stops F (x ∷ m) = F x

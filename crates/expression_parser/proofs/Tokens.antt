@@ -1,4 +1,4 @@
--- Readings of single tokens, and of what stands behind them.
+-- Readings of single tokens, and of what stands after them.
 use Rattle.std.proofs.Common.{◌≡◌, ℕ, ◌≤◌, List, [], ◌∷◌, ◌++◌, inl, refl, sym, ap, ◌∙◌, subst, Ok, Err, length, arith, Bool, true, false, cond, length-append}
 use Rattle.std.specs.Prelude.{not, ◌&&◌}
 use Rattle.sc_text.specs.declared.span.Span.{Span}
@@ -58,7 +58,7 @@ pub good_shorter : {A : Type 0} {W : A → Phrase} {Fits : A → Type 0} {F : A 
     → Good W Fits F w a r → length r ≤ length w
 good_shorter {w = w} {r = r} g = omega (arith, ap length g.split, length-append g.s r)
 
--- the text goes on behind a token that is not its end
+-- the text goes on after a token that is not its end
 pub after : (x : Token) (m : List Token) → IsEnded (x ∷ m) → is_end x.kind ≡ false → IsEnded m
 after x [] h other = let f = sym h ∙ other in cc
 after x (y ∷ m) h other = (both (not (is_end x.kind)) (is_ended (y ∷ m)) h).1

@@ -1,7 +1,7 @@
 -- The steps, as the code comes to them.
 use Rattle.std.proofs.Common.{◌≡◌, ℕ, zero, suc, ◌-◌, ◌<◌, ◌≤◌, List, [], ◌∷◌, ◌++◌, refl, sym, ap, ◌∙◌, subst, Ok, Err, length, arith, true, false, cond}
 use Rattle.std.specs.Prelude.{max, Some}
-use Rattle.std.proofs.lemmas.Bool.{lt-leb}
+use Rattle.std.proofs.lemmas.Bool.{le-leb, lt-leb}
 use Rattle.secrec_lexer.specs.Tokens.{is_sign}
 use Rattle.secrec_lexer.specs.declared.sign.Sign.TheVariants as signs
 use Rattle.secrec_lexer.specs.declared.token.Token.{Token}
@@ -69,6 +69,20 @@ grow_goes k max_height operand (suc n) a (y ∷ l) x m op b r e f h g le =
     (lt-leb max_height (height a) h)
     ∙ ap (λ o. o >>= λ b. grow k max_height operand n (binary (place_of a) op a b.0) b.1) g
     ∙ ap (λ z. grow k max_height operand z (binary (place_of a) op a b) r) d
+
+-- an operator of this level where its left operand is as high as the whole may be
+pub grow_high : (k max_height : ℕ) (operand : List Token → Outcome Tree) (n : ℕ) (a : Tree) (w : List Token) (x : Token) (m : List Token)
+    (op : Operator) → w ≡ x ∷ m → at_level k (operator_at x.kind) ≡ Some op → max_height ≤ height a → length w ≤ n
+    → grow k max_height operand n a w ≡ Err (TooHigh, w)
+unfolding grow
+grow_high k max_height operand n a [] x m op e f h le = cc
+grow_high k max_height operand zero a (y ∷ l) x m op e f h le = absurd (omega arith)
+grow_high k max_height operand (suc n) a (y ∷ l) x m op e f h le =
+    ap (grow k max_height operand (suc n) a) e
+    ∙ ap (λ o. grow_at max_height operand (grow k max_height operand n) a o x m) f
+    ∙ ap (λ z. cond z (Err (TooHigh, x ∷ m)) (operand m >>= λ b. grow k max_height operand n (binary (place_of a) op a b.0) b.1))
+    (le-leb max_height (height a) h)
+    ∙ ap (λ v. Err (TooHigh, v)) (sym e)
 
 pub heights_more : (ts : List Tree) (t : Tree) → heights (trees_of (ts ++ t ∷ [])) ≡ max (heights (trees_of ts)) (height t)
 heights_more [] t = omega arith

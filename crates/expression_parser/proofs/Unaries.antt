@@ -63,7 +63,7 @@ primary_postfix (declassify p e) v = tt
 primary_postfix (argument p x) v = tt
 primary_postfix (publish p x e) v = tt
 
--- an index behind a primary
+-- an index after a primary
 IndexTrail : Tree → Tree → Phrase
 IndexTrail a = Then (λ q. sign_at q signs.LeftBracket) (λ q. Enclosed signs.RightBracket (index (place_of a) a))
 
@@ -105,7 +105,7 @@ postfix_down (declassify p e) s v = alone (declassify p e) s tt v.1
 postfix_down (argument p x) s v = alone (argument p x) s tt v.1
 postfix_down (publish p x e) s v = alone (publish p x e) s tt v.1
 
--- what may stand behind an expression may stand behind a name
+-- what may stand after an expression may stand after a name
 free_name : (c d : Tree) (m : List Token) → Stops (Free unary c) m → Stops (FreeName d) m
 free_name c d [] st = st
 free_name c d (x ∷ m) st = go (is_sign signs.LeftParenthesis x) refl
@@ -266,7 +266,7 @@ postfix_no_exclamation c s m m2 x v eq k =
     let p = postfix_down c s v in
     no_exclamation p.0 (headed p.0 p.1 (p.2 ++ m) m2 x p.4 (sym (append_assoc p.1 p.2 m) ∙ ap (λ l. l ++ m) (sym p.3) ∙ eq) ∙ k)
 
--- behind the parenthesis that a primary begins with stands an expression
+-- after the parenthesis that a primary begins with stands an expression
 primary_second : (c : Tree) (s m m2 : List Token) (x y : Token) → Primary c s → first_kind c ≡ kinds.Sign signs.LeftParenthesis → s ++ m ≡ x ∷ y ∷ m2
     → (n : ℕ) × (least y.kind ≡ Some n)
 primary_second (parentheses p e) s m m2 x y v k eq =
@@ -305,7 +305,7 @@ type_least y n e = one_of (is_sign signs.Uint64 y) (is_sign signs.Uint y) (is_si
         let untyped = ap (λ a. a || is_sign signs.Uint y || is_sign signs.Bool y) f ∙ ap (λ b. b || is_sign signs.Bool y) g ∙ i in
         let h = sym t ∙ untyped in cc
 
--- behind the parenthesis of a cast stands a type
+-- after the parenthesis of a cast stands a type
 cast_second : (c : Tree) (s m m2 : List Token) (x y : Token) → CastPhrase c s → s ++ m ≡ x ∷ y ∷ m2 → begins_data_type (y ∷ m2) ≡ true
 unfolding CastPhrase TypeBody
 cast_second c s m m2 x y v eq =
@@ -503,7 +503,7 @@ module _ (h : ℕ) (inner operand : List Token → Outcome Tree)
         some : (c : Tree) → CastPhrase c [] → ⊥
         some c v = let f : [] ≡ token v.0 (kinds.Sign signs.LeftParenthesis) ∷ v.2 = v.3 ∙ ap (λ l. l ++ v.2) v.4 in cc
 
-    -- a parenthesis, and no type behind it
+    -- a parenthesis, and no type after it
     bracketed_reads : 1 ≤ h → (x y : Token) (m : List Token) → why_not (suc h) (least x.kind) ≡ None → x.kind ≡ kinds.Sign signs.LeftParenthesis
         → begins_data_type (y ∷ m) ≡ false → IsEnded (x ∷ y ∷ m)
         → Reads (IsExpression unary) (Low (suc h)) (Free unary) (x ∷ y ∷ m) (postfix (suc h) inner (x ∷ y ∷ m))

@@ -15,7 +15,7 @@ abbrev pub Ends : List Token → Type 0
 Ends [] = ⊥
 Ends (x ∷ m) = goes_on loosest x.kind ≡ false
 
--- The front of the tokens spells this tree, and it is low enough. No other is spelled there with such a token behind it.
+-- The front of the tokens spells this tree, and it is low enough. No other is spelled there with such a token after it.
 pub record IsRead (max_height : ℕ) (ts : List Token) (e : Tree) (rest : List Token) : Type 0 where
   pub front : List Token
   pub split : ts ≡ front ++ rest

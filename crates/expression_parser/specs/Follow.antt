@@ -1,4 +1,4 @@
--- Which tokens an expression goes on with: no other phrase of the language lets them stand behind an expression.
+-- Which tokens an expression goes on with: no other phrase of the language lets them stand after an expression.
 use Rattle.std.specs.Prelude.{◌≡◌, ℕ, Bool, true, false, Option, Some, None, nat_le}
 use Rattle.secrec_lexer.specs.declared.sign.Sign.{Sign}
 use Rattle.secrec_lexer.specs.declared.sign.Sign.TheVariants as signs
@@ -26,6 +26,6 @@ goes_on k (kinds.Number n) = false
 goes_on k (kinds.Text bytes) = false
 goes_on k kinds.End = false
 
--- such a token may stand behind an expression of this level
+-- such a token may stand after an expression of this level
 abbrev pub Free : ℕ → Tree → Token → Type 0
 Free k e x = goes_on k x.kind ≡ false

@@ -56,7 +56,7 @@ abbrev pub Both : {A B : Type 0} → A → Result (B × Bor (List Token)) Stoppe
 Both first second (Ok x) = (x.0.0 ≡ first) × (second ≡ Ok (x.0.1, x.1))
 Both first second (Err e) = second ≡ Err e
 
--- what was found, and the tokens behind what closes it
+-- what was found, and the tokens after what closes it
 abbrev pub Closed : {A B : Type 0} → A → Result (B × Bor (List Token)) Stopped → Result (A × Bor (List Token)) Stopped → Type 0
 Closed {A} {B} found close (Ok x) = (x.0 ≡ found) × ((b : B) × (close ≡ Ok (b, x.1)))
 Closed found close (Err e) = close ≡ Err e

@@ -77,20 +77,13 @@ loosest = 9
 abbrev pub unary : ℕ
 unary = 0
 
--- what an index may stand behind: no operator, cast or index is outside brackets
+-- what an index may stand after: no operator, cast or index is outside brackets
 abbrev pub IsPrimary : Tree → Type 0
-IsPrimary (number p n) = Unit {0}
-IsPrimary (truth p b) = Unit {0}
-IsPrimary (variable p x) = Unit {0}
-IsPrimary (call p x es) = Unit {0}
 IsPrimary (index p a i) = ⊥
-IsPrimary (parentheses p e) = Unit {0}
 IsPrimary (negation p e) = ⊥
 IsPrimary (cast p t e) = ⊥
 IsPrimary (binary p op a b) = ⊥
-IsPrimary (declassify p e) = Unit {0}
-IsPrimary (argument p x) = Unit {0}
-IsPrimary (publish p x e) = Unit {0}
+IsPrimary _ = Unit {0}
 
 -- the type of an element: `uint` is `uint64`
 abbrev pub IsDataType : DataType → Phrase
@@ -128,7 +121,7 @@ abbrev mutual
   AreArguments none ts = nothing ts
   AreArguments (also e es) ts = (IsExpression loosest e then AreMore es) ts
 
-  -- the arguments behind the first
+  -- the arguments after the first
   pub AreMore : Trees → Phrase
   AreMore none ts = nothing ts
   AreMore (also e es) ts = (sign signs.Comma then IsExpression loosest e then AreMore es) ts

@@ -19,7 +19,7 @@ use Rattle.expression_parser.specs.declared.problem.ParseProblem.{ParseProblem}
 use Rattle.expression_parser.specs.declared.problem.ParseProblem.TheVariants.{Unexpected, TooHigh}
 use Rattle.expression_parser.specs.Grammar.{operator_of, level, loosest, unary}
 
--- what was read and the tokens behind it, or what is wrong and the tokens from there on
+-- what was read and the tokens after it, or what is wrong and the tokens from there on
 abbrev pub Outcome : Type 0 → Type 0
 Outcome A = Result (A × List Token) (ParseProblem × List Token)
 
@@ -105,7 +105,7 @@ abbrev pub unless : Option ParseProblem → List Token → Outcome Tree → Outc
 unless (Some problem) w o = Err (problem, w)
 unless None w o = o
 
--- the arguments behind a first one
+-- the arguments after a first one
 abbrev pub more_at : (List Token → Outcome Tree) → (List Token → Outcome Trees) → Token → List Token → Outcome Trees
 more_at inner again x m =
     if is_sign signs.Comma x then (inner m >>= λ e. again e.1 >>= λ es. Ok (also e.0 es.0, es.1)) else Ok (none, x ∷ m)
@@ -122,7 +122,7 @@ unfoldable pub arguments : (List Token → Outcome Tree) → List Token → Outc
 arguments inner [] = Err (Unexpected, [])
 arguments inner (x ∷ m) = if is_sign signs.RightParenthesis x then Ok (none, x ∷ m) else some_arguments inner (x ∷ m)
 
--- what stands behind a name
+-- what stands after a name
 abbrev pub call_behind : (List Token → Outcome Tree) → Span → List ℕ → List Token → Outcome Tree
 call_behind inner p bytes w = arguments inner w >>= λ es. expect signs.RightParenthesis es.1 >>= λ q. Ok (call p bytes es.0, q.1)
 
@@ -131,7 +131,7 @@ after_name inner p bytes [] = Err (Unexpected, [])
 after_name inner p bytes (y ∷ m) =
     if is_sign signs.LeftParenthesis y then call_behind inner p bytes m else Ok (variable p bytes, y ∷ m)
 
--- what stands behind the sign or keyword that a primary begins with
+-- what stands after the sign or keyword that a primary begins with
 abbrev pub parentheses_behind : (List Token → Outcome Tree) → Span → List Token → Outcome Tree
 parentheses_behind inner p w = inner w >>= λ e. expect signs.RightParenthesis e.1 >>= λ q. Ok (parentheses p e.0, q.1)
 
@@ -170,7 +170,7 @@ unfoldable pub primary : (List Token → Outcome Tree) → List Token → Outcom
 primary inner [] = Err (Unexpected, [])
 primary inner (x ∷ m) = primary_at inner x.kind x m
 
--- an index behind a primary, if there is one, where the whole may be of this height
+-- an index after a primary, if there is one, where the whole may be of this height
 abbrev pub index_behind : (List Token → Outcome Tree) → Tree → List Token → Outcome Tree
 index_behind inner a w = inner w >>= λ i. expect signs.RightBracket i.1 >>= λ q. Ok (index (place_of a) a i.0, q.1)
 
@@ -212,7 +212,7 @@ abbrev pub at_level : ℕ → Option Operator → Option Operator
 at_level k None = None
 at_level k (Some op) = if nat_eq (level op) k then Some op else None
 
--- a left operand, and the operators of a level behind it, where the whole may be of this height
+-- a left operand, and the operators of a level after it, where the whole may be of this height
 abbrev pub grow_at : ℕ → (List Token → Outcome Tree) → (Tree → List Token → Outcome Tree) → Tree → Option Operator → Token → List Token → Outcome Tree
 grow_at max_height operand again a None x m = Ok (a, x ∷ m)
 grow_at max_height operand again a (Some op) x m =

@@ -3,9 +3,9 @@ ghost use Rattle.expression_parser.specs.Given.{Both, Boxed, Closed};
 use crate::{Read, Stopped};
 use std::alloc::Global;
 
-// What was read is moved in here while what stands behind it may still be refused, so that one drop serves each type.
+// What was read is moved in here while what stands after it may still be refused, so that one drop serves each type.
 
-/// What was read first, and what was read behind it.
+/// What was read first, and what was read after it.
 pub fn both<'a, A: Drop, B>(first: A, second: Read<'a, B>) -> Read<'a, (A, B)>
     ensures { Both first second.entry result }
 {
@@ -13,7 +13,7 @@ pub fn both<'a, A: Drop, B>(first: A, second: Read<'a, B>) -> Read<'a, (A, B)>
     Ok(((first, second), rest))
 }
 
-/// What was read, where what closes it stands behind it.
+/// What was read, where what closes it stands after it.
 pub fn closed<'a, A: Drop, B: Drop>(found: A, close: Read<'a, B>) -> Read<'a, A>
     ensures { Closed found close.entry result }
 {

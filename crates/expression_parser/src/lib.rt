@@ -1,6 +1,6 @@
 //! The parser of expressions, and what the parsers of all productions share.
 //!
-//! Each function reads one phrase from the front of the tokens and gives the tokens behind it. `specs/Grammar.antt` has the
+//! Each function reads one phrase from the front of the tokens and gives the tokens after it. `specs/Grammar.antt` has the
 //! grammar of expressions, by cases on the tree, and `expression` answers what it says. A tree's height is carried along with
 //! it, so that no tree is walked again.
 #![tactic(auto)]

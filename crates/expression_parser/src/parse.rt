@@ -23,7 +23,7 @@ const UNARY: u8 = 0;
 
 const LOOSEST: u8 = 9;
 
-/// An expression of at most this height, and the tokens behind it.
+/// An expression of at most this height, and the tokens after it.
 ///
 /// It stops at the first token such that no expression of at most this height begins with the tokens up to it: that token is
 /// unexpected where no expression of any height begins so, and else the tree is too high. Where memory runs out it says so.
@@ -57,7 +57,7 @@ fn operators<'a>(alloc: Global, tokens: &'a [Token], max_height: u8, level: u8) 
     }
 }
 
-// A left operand, and the operators of this level behind it.
+// A left operand, and the operators of this level after it.
 #[cycle(expressions)]
 #[tactic(auto, unfolding(crate::specs::Steps::grow))]
 fn grow<'a>(
@@ -116,7 +116,7 @@ fn unary<'a>(alloc: Global, tokens: &'a [Token], max_height: u8) -> Read<'a, Par
     }
 }
 
-// What stands behind `!`.
+// What stands after `!`.
 #[cycle(expressions)]
 fn negation<'a>(alloc: Global, place: Span, tokens: &'a [Token], max_height: u8) -> Read<'a, Parsed>
     requires { 0 < max_height }
@@ -130,7 +130,7 @@ fn negation<'a>(alloc: Global, place: Span, tokens: &'a [Token], max_height: u8)
     Ok((Parsed { tree, height }, rest))
 }
 
-// What stands behind the parenthesis of a cast.
+// What stands after the parenthesis of a cast.
 #[cycle(expressions)]
 fn cast<'a>(alloc: Global, place: Span, tokens: &'a [Token], max_height: u8) -> Read<'a, Parsed>
     requires { 0 < max_height }
@@ -146,7 +146,7 @@ fn cast<'a>(alloc: Global, place: Span, tokens: &'a [Token], max_height: u8) -> 
     Ok((Parsed { tree, height }, rest))
 }
 
-// A primary, and an index behind it if there is one.
+// A primary, and an index after it if there is one.
 #[cycle(expressions)]
 #[tactic(auto, unfolding(crate::specs::Steps::indexed))]
 fn postfix<'a>(alloc: Global, tokens: &'a [Token], max_height: u8) -> Read<'a, Parsed>
@@ -225,7 +225,7 @@ fn signed<'a>(
     }
 }
 
-// What stands behind an opening parenthesis.
+// What stands after an opening parenthesis.
 #[cycle(expressions)]
 fn parentheses<'a>(
     alloc: Global,
@@ -245,7 +245,7 @@ fn parentheses<'a>(
     Ok((Parsed { tree, height }, rest))
 }
 
-// What stands behind `declassify`.
+// What stands after `declassify`.
 #[cycle(expressions)]
 fn declassify<'a>(
     alloc: Global,
@@ -266,7 +266,7 @@ fn declassify<'a>(
     Ok((Parsed { tree, height }, rest))
 }
 
-// What stands behind `argument`.
+// What stands after `argument`.
 fn argument<'a>(alloc: Global, place: Span, tokens: &'a [Token]) -> Read<'a, Parsed>
     ensures step { Gives (λ x. (tree_of x.0, x.1.now)) result (argument_behind place tokens.now) }
     ensures height { IfOk result (λ x. (x.0.height ≡ tree_height x.0) × (x.0.height ≡ 1)) }
@@ -278,7 +278,7 @@ fn argument<'a>(alloc: Global, place: Span, tokens: &'a [Token]) -> Read<'a, Par
     Ok((leaf(Expression::Argument(place, name)), rest))
 }
 
-// What stands behind `publish`.
+// What stands after `publish`.
 #[cycle(expressions)]
 fn publish<'a>(alloc: Global, place: Span, tokens: &'a [Token], max_height: u8) -> Read<'a, Parsed>
     requires { 0 < max_height }
@@ -299,7 +299,7 @@ fn publish<'a>(alloc: Global, place: Span, tokens: &'a [Token], max_height: u8) 
     Ok((Parsed { tree, height }, rest))
 }
 
-// What stands behind a name: a call's arguments, or nothing of the primary.
+// What stands after a name: a call's arguments, or nothing of the primary.
 #[cycle(expressions)]
 #[tactic(auto, unfolding(crate::specs::Steps::after_name))]
 fn after_name<'a>(
@@ -346,7 +346,7 @@ fn arguments<'a>(alloc: Global, tokens: &'a [Token], max_height: u8) -> Read<'a,
     more(alloc, found, rest, max_height)
 }
 
-// The arguments behind those that were found.
+// The arguments after those that were found.
 #[cycle(expressions)]
 #[tactic(auto, using(crate::proofs::Turns::more_turns), unfolding(crate::specs::Steps::more))]
 fn more<'a>(

@@ -9,7 +9,7 @@ pub enum Stopped<'a> {
     At(ParseProblem, &'a [Token]),
 }
 
-/// A phrase that was read, and the tokens behind it.
+/// A phrase that was read, and the tokens after it.
 pub type Read<'a, T> = Result<(T, &'a [Token]), Stopped<'a>>;
 
 impl From<AllocError> for Stopped<'_> {

@@ -19,7 +19,7 @@ begins_before limit ts more b = (b.0, more ++ b.1, subst (IsProgram b.0) (append
 abbrev Reaches : List Token → List Token → Token → Type 0
 Reaches d b x = (m : List Token) × (d ≡ (b ++ x ∷ []) ++ m)
 
--- of two cuts of the same tokens at a token, one is the other or lies behind it
+-- of two cuts of the same tokens at a token, one is the other or lies after it
 abbrev Ordered : (b d : List Token) (x y : Token) → Type 0
 Ordered b d x y = ((b ≡ d) × (x ≡ y)) ⊎ (Reaches d b x ⊎ Reaches b d y)
 

@@ -1,4 +1,4 @@
--- The place behind a block.
+-- The place after a block.
 use Rattle.std.proofs.Common.{◌≡◌, ℕ, ◌-◌, ◌≤◌, List, ◌++◌, length, take, drop, sym, ap, ◌∙◌, Some, arith}
 use Rattle.std.proofs.lemmas.List.{length-append}
 use Rattle.std.proofs.Math.Seq.{drop-append_seam, take-append_seam}
@@ -7,7 +7,7 @@ use Rattle.name_resolution.specs.Scopes.{Variable, Scope, FunctionScope, leaving
 use Rattle.name_resolution.specs.Resolving.{Resolving, closed, in_block}
 use Rattle.name_resolution.proofs.Sequences.{place_made}
 
--- behind a block whose outer variables are those of s, s is known again
+-- after a block whose outer variables are those of s, s is known again
 leaving_inner : (s x : Scope) → x.outer ≡ s.block ++ s.outer → leaving (length s.outer) x ≡ s
 leaving_inner s x o =
     ap (λ (l : List Variable). parted (length l - length s.outer) l) o

@@ -5,13 +5,13 @@ use Rattle.std.proofs.lemmas.List.{map-append}
 use Rattle.secrec_ast.specs.Tree.{Tree, trees_of}
 use Rattle.declarations.specs.Declarations.{Declared}
 use Rattle.name_resolution.specs.Scopes.{Scope}
-use Rattle.name_resolution.specs.Values.{TypedValue, of_both, and_values, value, values}
+use Rattle.name_resolution.specs.Values.{TypedValue, of_both, and_more, value, values}
 use Rattle.secrec_ast.specs.declared.statement.DeclaredType.{DeclaredType}
 use Rattle.secrec_ast.specs.declared.function.DomainVariable.{DomainVariable}
 use Rattle.secrec_ast.specs.Programs.{FunctionTree}
 use Rattle.typed_tree.specs.declared.kinds.Slot.{Slot}
 use Rattle.typed_tree.specs.Programs.{TypedFunctionTree}
-use Rattle.name_resolution.specs.Functions.{slot_written, slots_written, and_slots, typed_function, typed_functions, and_functions}
+use Rattle.name_resolution.specs.Functions.{slot_written, slots_written, typed_function, typed_functions}
 
 pub map_one : {A B : Type 0} (f : A → B) (xs : List A) (x : A) → map f (xs ++ x ∷ []) ≡ map f xs ++ f x ∷ []
 map_one f xs x = map-append f xs (x ∷ [])
@@ -41,12 +41,12 @@ all-more {A} {B} one all also puts empty more (x ∷ xs) a bs b e f =
 
 pub values-more : (d : Declared) (s : Scope) (ts : List Tree) (t : Tree) (vs : List TypedValue) (v : TypedValue) → values d s (trees_of ts) ≡ Some vs
     → value d s t ≡ Some v → values d s (trees_of (ts ++ t ∷ [])) ≡ Some (vs ++ v ∷ [])
-values-more d s = all-more (value d s) (λ ts. values d s (trees_of ts)) and_values (λ v vs. refl) refl (λ t ts. refl)
+values-more d s = all-more (value d s) (λ ts. values d s (trees_of ts)) and_more (λ v vs. refl) refl (λ t ts. refl)
 
 pub slots_written_more : (d : Declared) (vs : List DomainVariable) (ts : List DeclaredType) (t : DeclaredType) (ss : List Slot) (s : Slot)
     → slots_written d vs ts ≡ Some ss → slot_written d vs t ≡ Some s → slots_written d vs (ts ++ t ∷ []) ≡ Some (ss ++ s ∷ [])
-slots_written_more d vs = all-more (slot_written d vs) (slots_written d vs) and_slots (λ s ss. refl) refl (λ t ts. refl)
+slots_written_more d vs = all-more (slot_written d vs) (slots_written d vs) and_more (λ s ss. refl) refl (λ t ts. refl)
 
 pub typed_functions_more : (d : Declared) (fs : List FunctionTree) (f : FunctionTree) (ts : List TypedFunctionTree) (t : TypedFunctionTree)
     → typed_functions d fs ≡ Some ts → typed_function d f ≡ Some t → typed_functions d (fs ++ f ∷ []) ≡ Some (ts ++ t ∷ [])
-typed_functions_more d = all-more (typed_function d) (typed_functions d) and_functions (λ f fs. refl) refl (λ f fs. refl)
+typed_functions_more d = all-more (typed_function d) (typed_functions d) and_more (λ f fs. refl) refl (λ f fs. refl)

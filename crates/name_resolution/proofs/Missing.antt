@@ -18,10 +18,10 @@ use Rattle.name_resolution.specs.declared.resolve_err.ResolveErr.TheVariants.{Un
 use Rattle.name_resolution.specs.Answer.{Answers}
 use Rattle.typed_tree.specs.Statements.{TypedStatementTree, TypedStatementTrees, none, also}
 use Rattle.name_resolution.specs.Scopes.{Scope, FunctionScope}
-use Rattle.name_resolution.specs.Values.{of_both, and_values, value, values}
+use Rattle.name_resolution.specs.Values.{of_both, and_more, value, values}
 use Rattle.name_resolution.specs.Resolving.{carry, done}
 use Rattle.name_resolution.specs.Bodies.{resolved, resolved_all}
-use Rattle.name_resolution.specs.Functions.{slot_written, slots_written, and_slots, typed_function, typed_functions, and_functions}
+use Rattle.name_resolution.specs.Functions.{slot_written, slots_written, typed_function, typed_functions}
 use Rattle.name_resolution.specs.inner.Views.{type_at}
 use Rattle.name_resolution.proofs.Sequences.{place_made}
 
@@ -56,20 +56,20 @@ pub values_none : (d : Declared) (s : Scope) (xs : List Expression) (i : ℕ) (x
     → value d s (expression x) ≡ None → values d s (trees_of (map expression xs)) ≡ None
 values_none d s xs i x within is e =
     ap (λ l. values d s (trees_of l)) (parted expression xs i x within is)
-    ∙ all-none (value d s) (λ ts. values d s (trees_of ts)) and_values (λ t ts. refl) (map expression (take i xs)) (expression x)
+    ∙ all-none (value d s) (λ ts. values d s (trees_of ts)) and_more (λ t ts. refl) (map expression (take i xs)) (expression x)
     (map expression (drop (suc i) xs)) e
 
 pub slots_none : (d : Declared) (vs : List DomainVariable) (xs : List (Bor DeclaredType)) (i : ℕ) (x : Bor DeclaredType) → i < length xs
     → x ≡ get_or xs i x → slot_written d vs (type_at x) ≡ None → slots_written d vs (map type_at xs) ≡ None
 slots_none d vs xs i x within is e =
     ap (slots_written d vs) (parted type_at xs i x within is)
-    ∙ all-none (slot_written d vs) (slots_written d vs) and_slots (λ t ts. refl) (map type_at (take i xs)) (type_at x) (map type_at (drop (suc i) xs)) e
+    ∙ all-none (slot_written d vs) (slots_written d vs) and_more (λ t ts. refl) (map type_at (take i xs)) (type_at x) (map type_at (drop (suc i) xs)) e
 
 pub functions_none : (d : Declared) (xs : List (Bor Function)) (i : ℕ) (x : Bor Function) → i < length xs → x ≡ get_or xs i x
     → typed_function d (tree_at x) ≡ None → typed_functions d (map tree_at xs) ≡ None
 functions_none d xs i x within is e =
     ap (typed_functions d) (parted tree_at xs i x within is)
-    ∙ all-none (typed_function d) (typed_functions d) and_functions (λ f fs. refl) (map tree_at (take i xs)) (tree_at x) (map tree_at (drop (suc i) xs)) e
+    ∙ all-none (typed_function d) (typed_functions d) and_more (λ f fs. refl) (map tree_at (take i xs)) (tree_at x) (map tree_at (drop (suc i) xs)) e
 
 -- statements of which those before this one are made
 behind_made : (d : Declared) (ts : List StatementTree) (t : StatementTree) (us : List StatementTree) (s r : FunctionScope) (cs : TypedStatementTrees)

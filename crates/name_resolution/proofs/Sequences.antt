@@ -10,7 +10,7 @@ use Rattle.name_resolution.specs.Bodies.{resolved, resolved_all}
 abbrev pub place_made : {A : Type 0} → A → FunctionScope → A × FunctionScope
 place_made a s = (a, s)
 
--- statements with one more behind them
+-- statements with one more after them
 pub resolved_all_more : (d : Declared) (ts : List StatementTree) (t : StatementTree) (s r q : FunctionScope) (cs : List TypedStatementTree)
     (c : TypedStatementTree)
     → resolved_all d (statements_of ts) s ≡ Some (typed_statements_of cs, r) → resolved d t r ≡ Some (c, q)

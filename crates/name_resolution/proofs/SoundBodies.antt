@@ -20,9 +20,9 @@ use Rattle.typed_tree.specs.Statements.{TypedStatementTree, TypedStatementTrees,
 use Rattle.typed_tree.specs.Statements.{do_statement, break_statement, continue_statement, return_statement, assert_statement, store_statement}
 use Rattle.typed_tree.specs.Statements.{default_statement, fill_statement, input_statement, element_statement, publish_statement, evaluate_statement}
 use Rattle.name_resolution.specs.Scopes.{FunctionScope, known_of, variable_named, declaring, entering, behind_block}
-use Rattle.name_resolution.specs.Values.{value, values, called, call_made}
-use Rattle.name_resolution.specs.Resolving.{Resolving, ◌>>=◌, carry, done, reading, closed, in_block, tree_in, resolved_value, expression, known_at, named}
-use Rattle.name_resolution.specs.Bodies.{tree_in_call, calling, evaluated, default_of, from_value, initial, declared, assigned_to, assigned, started}
+use Rattle.name_resolution.specs.Values.{TypedCall, value, values, called, call_made, tree_of_value}
+use Rattle.name_resolution.specs.Resolving.{Resolving, ◌>>=◌, carry, done, reading, closed, in_block, resolved_value, expression, known_at, named}
+use Rattle.name_resolution.specs.Bodies.{calling, evaluated, default_of, from_value, initial, declared, assigned_to, assigned, started}
 use Rattle.name_resolution.specs.Bodies.{stepped, condition_of, returned, looped, resolved, resolved_all}
 use Rattle.typed_tree.specs.Sound.{IsSoundTree, IsSoundStatementTree, AreSoundStatementTrees}
 use Rattle.name_resolution.proofs.SoundValues.{mapped, both_there, arities, AreBelow, below_more, below_append, below_named, sound_value}
@@ -120,7 +120,7 @@ expression_yields d e = yields_reading (resolved_value d e) (Tree_in d) read
   where
     read : (s : FunctionScope) (t : TypedTree) → IsPlace s → resolved_value d e s ≡ Some t → (n : ℕ) → length s.slots ≤ n → Tree_in d n t
     read s t is h n l =
-        let m = mapped tree_in (value d s.scope e) t h in
+        let m = mapped tree_of_value (value d s.scope e) t h in
         subst (Tree_in d n) m.is (sound_value n d s.scope (known_below s is n l) e m.part m.there)
 
 named_yields : (d : Declared) (x : List ℕ) → Yields (named x) (λ n k. k.slot < n)
@@ -136,7 +136,7 @@ calling_yields d line x es = yields_reading (calling d line x es) (Tree_in d) re
   where
     read : (s : FunctionScope) (t : TypedTree) → IsPlace s → calling d line x es s ≡ Some t → (n : ℕ) → length s.slots ≤ n → Tree_in d n t
     read s t is h n l =
-        let m = mapped tree_in_call (call_made d s.scope line x es) t h in
+        let m = mapped (λ (c : TypedCall). c.tree) (call_made d s.scope line x es) t h in
         let b = both_there (called line) (callee d x) (values d s.scope es) m.part m.there in
         subst (Tree_in d n) m.is (sound_called n d line x b.left b.right m.part b.left_there
         (sound_values n d s.scope (known_below s is n l) es b.right b.right_there) b.is)

@@ -12,8 +12,9 @@ use Rattle.name_resolution.specs.Scopes.{FunctionScope, no_place, declaring}
 use Rattle.name_resolution.specs.Bodies.{resolved_all}
 use Rattle.typed_tree.specs.Programs.{TypedFunctionTree, TypedProgramTree}
 use Rattle.name_resolution.specs.Order.{reached}
-use Rattle.name_resolution.specs.Functions.{slot_written, slots_written, and_slots, given_back, with_parameters, function_from, function_made}
-use Rattle.name_resolution.specs.Functions.{function_behind, typed_function, and_functions, typed_functions, with_functions, program_of, typed_of}
+use Rattle.name_resolution.specs.Values.{and_more}
+use Rattle.name_resolution.specs.Functions.{slot_written, slots_written, given_back, with_parameters, function_from, function_made}
+use Rattle.name_resolution.specs.Functions.{function_behind, typed_function, typed_functions, with_functions, program_of, typed_of}
 use Rattle.typed_tree.specs.Sound.{parameters_of, IsSoundFunction, AreSoundFunctions, IsSound}
 use Rattle.name_resolution.proofs.SoundValues.{mapped, both_there, then_there, some_is, arity, arities}
 use Rattle.name_resolution.proofs.SoundBodies.{IsPlace, declaring_place, resolved_all_yields}
@@ -21,7 +22,7 @@ use Rattle.name_resolution.proofs.SoundBodies.{IsPlace, declaring_place, resolve
 slots_count : (d : Declared) (vs : List DomainVariable) (ts : List DeclaredType) (ss : List Slot) → slots_written d vs ts ≡ Some ss → length ss ≡ length ts
 slots_count d vs [] ss e = ap length (sym (some_is [] ss e))
 slots_count d vs (t ∷ ts) ss e =
-    let m = both_there and_slots (slot_written d vs t) (slots_written d vs ts) ss e in
+    let m = both_there and_more (slot_written d vs t) (slots_written d vs ts) ss e in
     let rest = slots_count d vs ts m.right m.right_there in
     let all = ap length (some_is (m.left ∷ m.right) ss m.is) in
     omega arith
@@ -57,7 +58,7 @@ sound_functions : (d : Declared) (fs : List FunctionTree) (ts : List TypedFuncti
     → AreSoundFunctions (arities d) ts × (map parameters_of ts ≡ map arity fs)
 sound_functions d [] ts e = subst (λ (z : List TypedFunctionTree). AreSoundFunctions (arities d) z × (map parameters_of z ≡ [])) (some_is [] ts e) (tt, refl)
 sound_functions d (f ∷ fs) ts e =
-    let m = both_there and_functions (typed_function d f) (typed_functions d fs) ts e in
+    let m = both_there and_more (typed_function d f) (typed_functions d fs) ts e in
     let one = sound_function d f m.left m.left_there in
     let rest = sound_functions d fs m.right m.right_there in
     subst (λ (z : List TypedFunctionTree). AreSoundFunctions (arities d) z × (map parameters_of z ≡ map arity (f ∷ fs))) (some_is (m.left ∷ m.right) ts m.is)

@@ -17,7 +17,7 @@ use Rattle.typed_tree.specs.Operators.{operator_on, operands_of, may_cut_short}
 use Rattle.name_resolution.specs.Scopes.{Variable, Scope, variable_in, variable_named}
 use Rattle.name_resolution.specs.Values.{TypedValue, TypedCall, of_both, variable_value, element_value, negated, cast_value, declassified_value}
 use Rattle.name_resolution.specs.Values.{operation_node, operation_made, operation, gives_value, with_shape, value_given, shape_returned}
-use Rattle.name_resolution.specs.Values.{tree_of_value, built_in_value, called, and_values, value, values}
+use Rattle.name_resolution.specs.Values.{tree_of_value, built_in_value, called, and_more, value, values}
 use Rattle.typed_tree.specs.Sound.{count_of, IsSoundTree, AreSoundTrees}
 
 -- WHAT IS THERE
@@ -210,5 +210,5 @@ mutual
       → values d s es ≡ Some vs → SoundValues n d vs
   sound_values n d s b Tree'.none vs h = subst (SoundValues n d) (some_is [] vs h) tt
   sound_values n d s b (Tree'.also e es) vs h =
-      let m = both_there and_values (value d s e) (values d s es) vs h in
+      let m = both_there and_more (value d s e) (values d s es) vs h in
       subst (SoundValues n d) (some_is (m.left ∷ m.right) vs m.is) (sound_value n d s b e m.left m.left_there, sound_values n d s b es m.right m.right_there)

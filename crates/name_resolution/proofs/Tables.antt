@@ -79,7 +79,7 @@ pub block_there : (n : ℕ) (es : List VariableEntry) → 0 < length (scope_at n
 block_there zero es h = absurd (omega arith)
 block_there (suc n) es h = omega arith
 
--- the scope behind the latest variable of a block
+-- the scope after the latest variable of a block
 pub block_less : (n : ℕ) (e : VariableEntry) (es : List VariableEntry) → (scope_at n es).block ≡ drop 1 (scope_at (suc n) (e ∷ es)).block
 block_less n e es = refl
 
@@ -95,7 +95,7 @@ block_empty zero es h w = refl
 block_empty (suc n) [] h w = absurd (omega arith)
 block_empty (suc n) (e ∷ es) h w = absurd (omega arith)
 
--- what is left behind a block without variables
+-- what is left after a block without variables
 pub leaving_is : (a : ℕ) (es : List VariableEntry) (s : Scope) → s.outer ≡ map variable_of es → scope_at (length es - a) es ≡ leaving a s
 leaving_is a es s o =
     sym (both (length es - a))

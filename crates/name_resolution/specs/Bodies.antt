@@ -15,28 +15,19 @@ use Rattle.typed_tree.specs.Statements.{TypedStatementTree, TypedStatementTrees,
 use Rattle.typed_tree.specs.Statements.{do_statement, break_statement, continue_statement, return_statement, assert_statement, store_statement}
 use Rattle.typed_tree.specs.Statements.{default_statement, fill_statement, input_statement, element_statement, publish_statement, evaluate_statement}
 use Rattle.name_resolution.specs.Scopes.{FunctionScope}
-use Rattle.name_resolution.specs.Values.{TypedCall, call_made}
-use Rattle.name_resolution.specs.Resolving.{Resolving, ◌>>=◌, done, reading, next_slot, declare, in_block, expression, named}
+use Rattle.name_resolution.specs.Values.{call_made}
+use Rattle.name_resolution.specs.Resolving.{Resolving, ◌>>=◌, done, into, both, reading, next_slot, declare, in_block, expression, named}
 
 -- EXPRESSIONS FOR WHAT THEY DO
 
-abbrev pub tree_in_call : TypedCall → TypedTree
-tree_in_call c = c.tree
-
 abbrev pub calling : Declared → ℕ → List ℕ → Trees → FunctionScope → Option TypedTree
-calling d line x es s = option_map tree_in_call (call_made d s.scope line x es)
+calling d line x es s = option_map (λ c. c.tree) (call_made d s.scope line x es)
 
 -- what is published is told by its name; a call may give nothing
 abbrev pub evaluated : Declared → Tree → Resolving TypedStatementTree
-evaluated d (publish p x e) = do
-  v ← expression d e
-  done (publish_statement x v)
-evaluated d (call p x es) = do
-  v ← reading (calling d p.line x es)
-  done (evaluate_statement v)
-evaluated d e = do
-  v ← expression d e
-  done (evaluate_statement v)
+evaluated d (publish p x e) = into (publish_statement x) (expression d e)
+evaluated d (call p x es) = into evaluate_statement (reading (calling d p.line x es))
+evaluated d e = into evaluate_statement (expression d e)
 
 -- DECLARATIONS
 
@@ -48,21 +39,14 @@ default_of datatype.Bool = truth_node false
 -- an input has the declared type
 abbrev pub from_value : Declared → ℕ → Tree → Resolving TypedStatementTree
 from_value d k (argument p x) = done (input_statement p.line k x)
-from_value d k e = do
-  v ← expression d e
-  done (store_statement k v)
+from_value d k e = into (store_statement k) (expression d e)
 
--- the slot is the next one, behind the size and the value
+-- the slot is the next one, after the size and the value
 abbrev pub initial : Declared → ℕ → ℕ → DataType → (size value : Option Tree) → Resolving TypedStatementTree
 initial d line k element None None = done (default_statement k)
 initial d line k element None (Some e) = from_value d k e
-initial d line k element (Some n) None = do
-  m ← expression d n
-  done (fill_statement line k m (default_of element))
-initial d line k element (Some n) (Some e) = do
-  m ← expression d n
-  v ← expression d e
-  done (fill_statement line k m v)
+initial d line k element (Some n) None = into (λ m. fill_statement line k m (default_of element)) (expression d n)
+initial d line k element (Some n) (Some e) = both (fill_statement line k) (expression d n) (expression d e)
 
 abbrev pub declared : Declared → DeclarationTree → Resolving TypedStatementTree
 declared d t = do
@@ -74,13 +58,8 @@ declared d t = do
 -- ASSIGNMENTS
 
 abbrev pub assigned_to : Declared → ℕ → ℕ → Option Tree → Tree → Resolving TypedStatementTree
-assigned_to d line k None e = do
-  v ← expression d e
-  done (store_statement k v)
-assigned_to d line k (Some i) e = do
-  j ← expression d i
-  v ← expression d e
-  done (element_statement line k j v)
+assigned_to d line k None e = into (store_statement k) (expression d e)
+assigned_to d line k (Some i) e = both (element_statement line k) (expression d i) (expression d e)
 
 abbrev pub assigned : Declared → AssignmentTree → Resolving TypedStatementTree
 assigned d a = do
@@ -106,9 +85,7 @@ condition_of d (Some e) = expression d e
 
 abbrev pub returned : Declared → Option Tree → Resolving TypedStatementTree
 returned d None = done (return_statement None)
-returned d (Some e) = do
-  v ← expression d e
-  done (return_statement (Some v))
+returned d (Some e) = into (λ v. return_statement (Some v)) (expression d e)
 
 -- the parts of a `for`, whose body is a block
 abbrev pub looped : Declared → StartTree → Option Tree → StepTree → Resolving TypedStatementTree → Resolving TypedStatementTree
@@ -123,41 +100,25 @@ looped d start e step body = do
 
 abbrev mutual
   pub resolved : Declared → StatementTree → Resolving TypedStatementTree
-  resolved d (block p ss) = do
-    cs ← in_block (resolved_all d ss)
-    done (block_statement cs)
+  resolved d (block p ss) = into block_statement (in_block (resolved_all d ss))
   resolved d (empty p) = done empty_statement
-  resolved d (branch p e body) = do
-    v ← expression d e
-    c ← in_block (resolved d body)
-    done (if_statement v c empty_statement)
+  resolved d (branch p e body) = both (λ v c. if_statement v c empty_statement) (expression d e) (in_block (resolved d body))
   resolved d (choice p e body otherwise) = do
     v ← expression d e
     b ← in_block (resolved d body)
     c ← in_block (resolved d otherwise)
     done (if_statement v b c)
-  resolved d (while_loop p e body) = do
-    v ← expression d e
-    b ← in_block (resolved d body)
-    done (loop_statement v empty_statement b)
-  resolved d (do_loop p body e) = do
-    b ← in_block (resolved d body)
-    v ← expression d e
-    done (do_statement b v)
+  resolved d (while_loop p e body) = both (λ v b. loop_statement v empty_statement b) (expression d e) (in_block (resolved d body))
+  resolved d (do_loop p body e) = both do_statement (in_block (resolved d body)) (expression d e)
   resolved d (for_loop p start e step body) = in_block (looped d start e step (resolved d body))
   resolved d (breaks p) = done break_statement
   resolved d (continues p) = done continue_statement
   resolved d (returns p e) = returned d e
-  resolved d (assertion p e) = do
-    v ← expression d e
-    done (assert_statement p.line v)
+  resolved d (assertion p e) = into (assert_statement p.line) (expression d e)
   resolved d (declaration t) = declared d t
   resolved d (assignment a) = assigned d a
   resolved d (evaluation e) = evaluated d e
 
   pub resolved_all : Declared → StatementTrees → Resolving TypedStatementTrees
   resolved_all d Statements'.none = done none
-  resolved_all d (Statements'.also t ts) = do
-    c ← resolved d t
-    cs ← resolved_all d ts
-    done (also c cs)
+  resolved_all d (Statements'.also t ts) = both also (resolved d t) (resolved_all d ts)

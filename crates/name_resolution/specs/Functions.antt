@@ -1,5 +1,5 @@
 -- A function and a program as typed ones.
-use Rattle.std.specs.Prelude.{ℕ, ◌+◌, if◌then◌else◌, List, [], ◌∷◌, length, Option, Some, None, option_map, option_and_then, bytes_eq}
+use Rattle.std.specs.Prelude.{ℕ, List, length, map, fold, Option, Some, None, option_map, option_and_then}
 use Rattle.secrec_ast.specs.declared.statement.Domain.{Domain}
 use Rattle.secrec_ast.specs.declared.statement.Domain.TheVariants as domain
 use Rattle.secrec_ast.specs.declared.statement.DeclaredType.{DeclaredType}
@@ -16,7 +16,7 @@ use Rattle.typed_tree.specs.declared.function.Returned.{Returned}
 use Rattle.typed_tree.specs.declared.function.Returned.TheVariants.{Nothing, Value}
 use Rattle.typed_tree.specs.Statements.{TypedStatementTrees}
 use Rattle.name_resolution.specs.Scopes.{FunctionScope, no_place, declaring, shape_written}
-use Rattle.name_resolution.specs.Values.{of_both}
+use Rattle.name_resolution.specs.Values.{of_both, all_of}
 use Rattle.name_resolution.specs.Bodies.{resolved_all}
 use Rattle.typed_tree.specs.Programs.{TypedFunctionTree, TypedProgramTree}
 use Rattle.name_resolution.specs.Sizes.{size_of}
@@ -26,8 +26,7 @@ use Rattle.name_resolution.specs.Order.{reached}
 
 -- the number of a domain variable
 abbrev pub variable_number : List ℕ → List DomainVariable → Option ℕ
-variable_number x [] = None
-variable_number x (v ∷ vs) = if bytes_eq x v.variable.text then Some 0 else option_map (λ k. k + 1) (variable_number x vs)
+variable_number x vs = number_in x (map (λ v. v.variable.text) vs)
 
 -- a domain variable hides a domain
 abbrev pub domain_named : Declared → List ℕ → Option ℕ → Option SlotDomain
@@ -44,12 +43,8 @@ slot_in t d = record { domain = d; shape = shape_written t }
 abbrev pub slot_written : Declared → List DomainVariable → DeclaredType → Option Slot
 slot_written d vs t = option_map (slot_in t) (slot_domain d vs t.domain)
 
-abbrev pub and_slots : Slot → List Slot → Option (List Slot)
-and_slots s ss = Some (s ∷ ss)
-
 abbrev pub slots_written : Declared → List DomainVariable → List DeclaredType → Option (List Slot)
-slots_written d vs [] = Some []
-slots_written d vs (t ∷ ts) = of_both and_slots (slot_written d vs t) (slots_written d vs ts)
+slots_written d vs ts = all_of (slot_written d vs) ts
 
 abbrev pub given_back : Declared → List DomainVariable → ResultType → Option Returned
 given_back d vs result.Void = Some Nothing
@@ -59,8 +54,7 @@ given_back d vs (result.Value t) = option_map Value (slot_written d vs t)
 
 -- the parameters are the first slots, and belong to the body's block
 abbrev pub with_parameters : List Parameter → FunctionScope → FunctionScope
-with_parameters [] s = s
-with_parameters (p ∷ ps) s = with_parameters ps (declaring p.variable p.declared s)
+with_parameters ps s = fold (λ r p. declaring p.variable p.declared r) s ps
 
 abbrev pub function_made : FunctionTree → TypedStatementTrees → List Slot → Returned → TypedFunctionTree
 function_made f body slots given =
@@ -86,17 +80,12 @@ typed_function d f =
 
 -- PROGRAMS
 
-abbrev pub and_functions : TypedFunctionTree → List TypedFunctionTree → Option (List TypedFunctionTree)
-and_functions f fs = Some (f ∷ fs)
-
 abbrev pub typed_functions : Declared → List FunctionTree → Option (List TypedFunctionTree)
-typed_functions d [] = Some []
-typed_functions d (f ∷ fs) = of_both and_functions (typed_function d f) (typed_functions d fs)
+typed_functions d fs = all_of (typed_function d) fs
 
 -- with the functions that are reached, by whose numbers calls name them
 abbrev pub with_functions : Declared → List FunctionTree → Declared
-with_functions d fs =
-    record { stdlib = d.stdlib; shared3p = d.shared3p; kind_declared = d.kind_declared; domains = d.domains; functions = fs }
+with_functions d fs = record d { functions = fs }
 
 abbrev pub program_of : List TypedFunctionTree → TypedProgramTree
 program_of fs = record { functions = fs }

@@ -1,4 +1,4 @@
--- A piece of a function becomes a typed one at a place, and leads to the place behind it; or it has no typed one.
+-- A piece of a function becomes a typed one at a place, and leads to the place after it; or it has no typed one.
 use Rattle.std.specs.Prelude.{ℕ, List, length, Option, Some, None, option_map}
 use Rattle.secrec_ast.specs.declared.statement.DeclaredType.{DeclaredType}
 use Rattle.secrec_ast.specs.declared.statement.Identifier.{Identifier}
@@ -7,7 +7,7 @@ use Rattle.declarations.specs.Declarations.{Declared}
 use Rattle.name_resolution.specs.declared.variables.Known.{Known}
 use Rattle.typed_tree.specs.Tree.{TypedTree}
 use Rattle.name_resolution.specs.Scopes.{FunctionScope, known_of, variable_named, declaring, entering, behind_block}
-use Rattle.name_resolution.specs.Values.{TypedValue, value}
+use Rattle.name_resolution.specs.Values.{tree_of_value, value}
 
 abbrev pub Resolving : Type 0 → Type 0
 Resolving A = FunctionScope → Option (A × FunctionScope)
@@ -22,6 +22,13 @@ abbrev pub ◌>>=◌ : {A B : Type 0} → Resolving A → (A → Resolving B) �
 
 abbrev pub done : {A : Type 0} → A → Resolving A
 done a s = Some (a, s)
+
+-- what is made of a piece, and of two, one after the other
+abbrev pub into : {A B : Type 0} → (A → B) → Resolving A → Resolving B
+into f m = m >>= (λ a. done (f a))
+
+abbrev pub both : {A B C : Type 0} → (A → B → C) → Resolving A → Resolving B → Resolving C
+both f m n = m >>= (λ a. n >>= (λ b. done (f a b)))
 
 -- what is read at a place leaves it
 abbrev pub reading : {A : Type 0} → (FunctionScope → Option A) → Resolving A
@@ -42,11 +49,8 @@ closed s (Some r) = Some (r.0, behind_block s r.1)
 abbrev pub in_block : {A : Type 0} → Resolving A → Resolving A
 in_block m s = closed s (m (entering s))
 
-abbrev pub tree_in : TypedValue → TypedTree
-tree_in v = v.tree
-
 abbrev pub resolved_value : Declared → Tree → FunctionScope → Option TypedTree
-resolved_value d e s = option_map tree_in (value d s.scope e)
+resolved_value d e s = option_map tree_of_value (value d s.scope e)
 
 -- an expression that gives a value
 abbrev pub expression : Declared → Tree → Resolving TypedTree

@@ -24,11 +24,11 @@ nothing_known = record { block = []; outer = [] }
 abbrev pub inner : Scope → Scope
 inner s = record { block = []; outer = s.block ++ s.outer }
 
--- behind that block, where n variables were outside of the block around it
+-- after that block, where n variables were outside of the block around it
 abbrev pub leaving : ℕ → Scope → Scope
 leaving n s = record { block = take (length s.outer - n) s.outer; outer = drop (length s.outer - n) s.outer }
 
--- behind a declaration
+-- after a declaration
 abbrev pub with_variable : Variable → Scope → Scope
 with_variable v s = record { block = v ∷ s.block; outer = s.outer }
 
@@ -51,7 +51,7 @@ no_place = record { scope = nothing_known; slots = [] }
 abbrev pub shape_written : DeclaredType → Shape
 shape_written t = record { element = t.element; array = t.array }
 
--- behind a declaration, which takes the next slot
+-- after a declaration, which takes the next slot
 abbrev pub declaring : Identifier → DeclaredType → FunctionScope → FunctionScope
 declaring x t s =
     record {
@@ -59,7 +59,7 @@ declaring x t s =
       slots = s.slots ++ t ∷ [];
     }
 
--- inside a block that begins here, and behind it, where the slots of the block stay
+-- inside a block that begins here, and after it, where the slots of the block stay
 abbrev pub entering : FunctionScope → FunctionScope
 entering s = record { scope = inner s.scope; slots = s.slots }
 

@@ -7,7 +7,7 @@ use Rattle.secrec_ast.specs.declared.expression.DataType.TheVariants as datatype
 use Rattle.secrec_ast.specs.declared.expression.Operator.{Operator}
 use Rattle.secrec_ast.specs.declared.function.ResultType.{ResultType}
 use Rattle.secrec_ast.specs.declared.function.ResultType.TheVariants as returned
-use Rattle.secrec_ast.specs.Tree.{Tree, Trees, number, truth, variable, call, index, parentheses, negation, cast, binary, declassify, argument, publish}
+use Rattle.secrec_ast.specs.Tree.{Tree, Trees, number, truth, variable, call, index, parentheses, negation, cast, binary, declassify}
 use Rattle.secrec_ast.specs.Tree as Tree'
 use Rattle.declarations.specs.declared.built_in.BuiltIn.{BuiltIn}
 use Rattle.declarations.specs.declared.built_in.BuiltIn.TheVariants.{Size, Cat, Sum, BitExtract}
@@ -31,9 +31,17 @@ made t element array = record { tree = t; shape = shape_of element array }
 
 -- of two parts, where both are there
 abbrev pub of_both : {A B C : Type 0} → (A → B → Option C) → Option A → Option B → Option C
-of_both rule None b = None
-of_both rule (Some a) None = None
 of_both rule (Some a) (Some b) = rule a b
+of_both rule _ _ = None
+
+-- one before others
+abbrev pub and_more : {A : Type 0} → A → List A → Option (List A)
+and_more a more = Some (a ∷ more)
+
+-- what is made of each of a list, where all are there
+abbrev pub all_of : {A B : Type 0} → (A → Option B) → List A → Option (List B)
+all_of f [] = Some []
+all_of f (a ∷ more) = of_both and_more (f a) (all_of f more)
 
 -- the one value of a list, and the two
 abbrev pub only : {A : Type 0} → List A → Option A
@@ -104,7 +112,7 @@ built_in_value line Size (a ∷ []) = Some (made (size_node a.tree) Uint64 false
 built_in_value line Cat (a ∷ b ∷ []) = Some (made (cat_node line a.tree b.tree) a.shape.element true)
 built_in_value line Sum (a ∷ []) = Some (made (sum_node a.tree) Uint64 false)
 built_in_value line BitExtract (a ∷ []) = Some (made (bits_node line a.tree) datatype.Bool true)
-built_in_value line b vs = None
+built_in_value line _ _ = None
 
 -- a function of the program is called by its number
 abbrev pub called : ℕ → Callee → List TypedValue → Option TypedCall
@@ -115,9 +123,6 @@ called line (defined k f) vs =
     else None
 
 -- EXPRESSIONS
-
-abbrev pub and_values : TypedValue → List TypedValue → Option (List TypedValue)
-and_values v vs = Some (v ∷ vs)
 
 abbrev mutual
   pub value : Declared → Scope → Tree → Option TypedValue
@@ -131,13 +136,12 @@ abbrev mutual
   value d s (cast p t e) = option_map (cast_value t) (value d s e)
   value d s (binary p op a b) = of_both (operation p.line op) (value d s a) (value d s b)
   value d s (declassify p e) = option_map declassified_value (value d s e)
-  value d s (argument p x) = None
-  value d s (publish p x e) = None
+  value d s _ = None
 
   -- the arguments of a call
   pub values : Declared → Scope → Trees → Option (List TypedValue)
   values d s Tree'.none = Some []
-  values d s (Tree'.also e es) = of_both and_values (value d s e) (values d s es)
+  values d s (Tree'.also e es) = of_both and_more (value d s e) (values d s es)
 
 -- a call as a statement of its own may give nothing
 abbrev pub call_made : Declared → Scope → ℕ → List ℕ → Trees → Option TypedCall

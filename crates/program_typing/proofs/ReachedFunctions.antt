@@ -273,7 +273,7 @@ at_extended fs gs k f h e = ap (λ l. slice_get l k) h.is ∙ further fs h.more 
     further (x ∷ xs) ys zero q = q
     further (x ∷ xs) ys (suc i) q = further xs ys i q
 
--- each name is found behind its callee
+-- each name is found after its callee
 found_with : (d : Declared) (fs : List FunctionTree) (x : List ℕ) (n : ℕ) (f : FunctionTree) → callee d x ≡ Some (defined n f)
     → is_found x (with_callee fs x (callee d x)) ≡ true
 found_with d fs x n f e = ap (λ c. is_found x (with_callee fs x c)) e ∙ go (is_found x fs) refl

@@ -1,6 +1,7 @@
 -- A function that is typed with some domains has a typed tree.
 use Rattle.std.proofs.Common.{◌≡◌, ℕ, ◌+◌, List, [], ◌∷◌, refl, sym, ap, ap₂, ◌∙◌, Option, Some, None, Bool, true, false, cond}
 use Rattle.std.specs.Prelude.{bytes_eq, option_map, option_and_then}
+use Rattle.std.specs.Option.{option_or}
 use Rattle.secrec_ast.specs.declared.statement.Domain.{Domain}
 use Rattle.secrec_ast.specs.declared.statement.Domain.TheVariants as domain
 use Rattle.secrec_ast.specs.declared.statement.DeclaredType.{DeclaredType}
@@ -10,9 +11,10 @@ use Rattle.secrec_ast.specs.declared.function.ResultType.{ResultType}
 use Rattle.secrec_ast.specs.declared.function.ResultType.TheVariants as result
 use Rattle.secrec_ast.specs.Programs.{FunctionTree}
 use Rattle.domain_types.specs.declared.value_type.Protection.{Protection}
+use Rattle.domain_types.specs.declared.value_type.Protection.TheVariants as protection
 use Rattle.domain_types.specs.declared.value_type.ValueType.{ValueType}
 use Rattle.domain_types.specs.Declarations.{Declared, number_in}
-use Rattle.domain_types.specs.Settings.{Setting, bind, bound_to, private_domain, domain_of_name, domain_of, in_domain, type_written}
+use Rattle.domain_types.specs.Settings.{Setting, bind, bound_to, domain_of, in_domain, type_written}
 use Rattle.domain_types.specs.Scopes as checked
 use Rattle.domain_types.specs.ExpressionTypes.{within}
 use Rattle.domain_types.specs.FunctionTypes as head
@@ -24,9 +26,9 @@ use Rattle.typed_tree.specs.declared.kinds.Slot.{Slot}
 use Rattle.typed_tree.specs.declared.function.Returned.{Returned}
 use Rattle.typed_tree.specs.declared.function.Returned.TheVariants.{Nothing, Value}
 use Rattle.name_resolution.specs.Scopes.{FunctionScope, no_place, declaring}
-use Rattle.name_resolution.specs.Values.{of_both}
+use Rattle.name_resolution.specs.Values.{of_both, and_more}
 use Rattle.typed_tree.specs.Programs.{TypedFunctionTree}
-use Rattle.name_resolution.specs.Functions.{variable_number, domain_named, slot_domain, slot_in, and_slots, slots_written, given_back}
+use Rattle.name_resolution.specs.Functions.{variable_number, domain_named, slot_domain, slot_in, slots_written, given_back}
 use Rattle.name_resolution.specs.Functions.{with_parameters, function_made, function_from, function_behind, typed_function, with_functions}
 use Rattle.program_typing.proofs.TreesOfValues.{Agree}
 use Rattle.program_typing.proofs.TreesOfStatements.{IsWritten, AreWritten, Frame, Fits, fits_declaring, names_by_all, goes_resolved_all}
@@ -48,7 +50,7 @@ unbound x (v ∷ vs) (d ∷ ds) e = go (bytes_eq x v.variable.text) e (unbound x
     go true h rest = cc
     go false h rest = rest (none_mapped (λ k. k + 1) (variable_number x vs) h)
 
-private_there : (o : Option ℕ) (p : Protection) → private_domain o ≡ Some p → (y : SlotDomain) × (option_map Private o ≡ Some y)
+private_there : (o : Option ℕ) (p : Protection) → option_map protection.Private o ≡ Some p → (y : SlotDomain) × (option_map Private o ≡ Some y)
 private_there None p e = cc
 private_there (Some k) p e = (Private k, refl)
 
@@ -62,7 +64,7 @@ slot_domain_there d fs vs ds (domain.Named x) p e = go (variable_number x.text v
 
     go : (o : Option ℕ) → (o ≡ None → bound_to x.text (bind vs ds) ≡ None) → (y : SlotDomain) × (domain_named (with_functions d fs) x.text o ≡ Some y)
     go (Some k) h = (Variable k, refl)
-    go None h = private_there (number_in x.text d.domains) p (ap (domain_of_name w x.text) (sym (h refl)) ∙ e)
+    go None h = private_there (number_in x.text d.domains) p (ap (λ o. option_or o (option_map protection.Private (number_in x.text d.domains))) (sym (h refl)) ∙ e)
 
 pub written_there : (d : Declared) (fs : List FunctionTree) (f : FunctionTree) (ds : List Protection) (t : DeclaredType) (v : ValueType)
     → type_written (within d f ds) t ≡ Some v → IsWritten (with_functions d fs) f.variables t
@@ -73,7 +75,7 @@ written_there d fs f ds t v e =
 
 slots_there : (k : Declared) (vs : List DomainVariable) (ts : List DeclaredType) → AreWritten k vs ts → (ss : List Slot) × (slots_written k vs ts ≡ Some ss)
 slots_there k vs [] h = ([], refl)
-slots_there k vs (t ∷ ts) h = let more = slots_there k vs ts h.1 in (h.0.0 ∷ more.0, ap₂ (of_both and_slots) h.0.1 more.1)
+slots_there k vs (t ∷ ts) h = let more = slots_there k vs ts h.1 in (h.0.0 ∷ more.0, ap₂ (of_both and_more) h.0.1 more.1)
 
 -- FUNCTIONS
 

@@ -14,13 +14,14 @@ use Rattle.domain_types.specs.FunctionTypes.{with_parameters}
 use Rattle.sc_text.specs.Lists.{Among}
 use Rattle.domain_types.specs.Reached.{Instance, IsChecked, plain}
 use Rattle.domain_types.specs.Reached as checked
-use Rattle.domain_types.specs.ProgramTypes.{is_one_of, is_without, is_void, is_main, has_main}
+use Rattle.domain_types.specs.Types.{is_without}
+use Rattle.domain_types.specs.ProgramTypes.{is_one_of, is_void, is_main, has_main}
 use Rattle.domain_types.specs.Typing.{AreItems, IsTypedProgram}
 use Rattle.domain_types.proofs.Names.{behind, number_in-append}
 use Rattle.typed_tree.specs.Programs.{TypedFunctionTree}
 use Rattle.name_resolution.specs.Order.{reached}
-use Rattle.name_resolution.specs.Values.{of_both}
-use Rattle.name_resolution.specs.Functions.{typed_function, and_functions, typed_functions, with_functions, program_of}
+use Rattle.name_resolution.specs.Values.{of_both, and_more}
+use Rattle.name_resolution.specs.Functions.{typed_function, typed_functions, with_functions, program_of}
 use Rattle.program_typing.specs.Existence.{HasTree}
 use Rattle.name_resolution.proofs.SoundValues.{callee_there}
 use Rattle.program_typing.proofs.TreesOfStatements.{names_by_all}
@@ -147,7 +148,7 @@ all_there k [] h = ([], refl)
 all_there k (f ∷ fs) h =
     let one = h zero f refl in
     let more = all_there k fs (λ i g e. h (suc i) g e) in
-    (one.0 ∷ more.0, ap₂ (of_both and_functions) one.1 more.1)
+    (one.0 ∷ more.0, ap₂ (of_both and_more) one.1 more.1)
 
 pub typed_has_tree : (p : ProgramTree) → IsTypedProgram p → HasTree p
 typed_has_tree p t =

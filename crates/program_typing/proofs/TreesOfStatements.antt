@@ -33,9 +33,10 @@ use Rattle.typed_tree.specs.Statements.{break_statement, continue_statement, ret
 use Rattle.typed_tree.specs.Statements.{fill_statement, input_statement, element_statement, publish_statement, evaluate_statement}
 use Rattle.name_resolution.specs.Scopes.{FunctionScope, known_of, declaring, entering, behind_block}
 use Rattle.name_resolution.specs.Functions.{slot_written}
-use Rattle.name_resolution.specs.Resolving.{Resolving, carry, ◌>>=◌, done, reading, next_slot, declare, closed, in_block, tree_in, resolved_value}
+use Rattle.name_resolution.specs.Values.{TypedCall, tree_of_value}
+use Rattle.name_resolution.specs.Resolving.{Resolving, carry, ◌>>=◌, done, reading, next_slot, declare, closed, in_block, resolved_value}
 use Rattle.name_resolution.specs.Resolving.{expression, known_at, named}
-use Rattle.name_resolution.specs.Bodies.{tree_in_call, calling, evaluated, default_of, from_value, initial, declared, assigned_to, assigned, started}
+use Rattle.name_resolution.specs.Bodies.{calling, evaluated, default_of, from_value, initial, declared, assigned_to, assigned, started}
 use Rattle.name_resolution.specs.Bodies.{stepped, condition_of, returned, looped, resolved, resolved_all}
 use Rattle.name_resolution.proofs.SoundValues.{mapped}
 use Rattle.program_typing.proofs.TreesOfValues.{SameVariable, Same, same_append, names_same, Agree, agree_left, agree_right, names_in, value_makes, call_makes}
@@ -198,7 +199,7 @@ goes_value : (z : Frame) (s : checked.Scope) (e : Tree) (v : ValueType) → Agre
     → Goes z (expression z.known e) s s
 goes_value z s e v a h =
     goes_reading z (resolved_value z.known e) s (λ p f. let m = value_makes z.setting z.known s p.scope f.same e v a h in
-    (m.value.tree, ap (option_map tree_in) m.there))
+    (m.value.tree, ap (option_map tree_of_value) m.there))
 
 goes_one : (z : Frame) (s : checked.Scope) (e : Tree) (v : ValueType) (make : TypedTree → TypedStatementTree) → Agreed z (names_in e)
     → HasType z.setting s e (Value v) → Goes z (expression z.known e >>= λ x. done (make x)) s s
@@ -212,7 +213,7 @@ goes_evaluated z s (variable p x) t a h = goes_one z s (variable p x) h.0 evalua
 goes_evaluated z s (call p x es) t a h =
     goes_bind z (reading (calling z.known p.line x es)) (λ v. done (evaluate_statement v)) s s s
     (goes_reading z (calling z.known p.line x es) s (λ q f. let c = call_makes z.setting z.known s q.scope f.same p x es t a h in
-    (c.call.tree, ap (option_map tree_in_call) c.there)))
+    (c.call.tree, ap (option_map (λ (r : TypedCall). r.tree)) c.there)))
     (λ v. goes_done z (evaluate_statement v) s)
 goes_evaluated z s (index p b i) t a h = goes_one z s (index p b i) (scalar_of h.0) evaluate_statement a (h.0, h.1, h.2, h.3, h.4, h.5, refl)
 goes_evaluated z s (parentheses p e) t a h = goes_one z s (parentheses p e) h.0 evaluate_statement a (h.0, h.1, refl)

@@ -39,7 +39,7 @@ use Rattle.typed_tree.specs.Operators.{operator_on, element_made}
 use Rattle.name_resolution.specs.Scopes.{Variable, Scope, variable_in, variable_named, shape_written}
 use Rattle.name_resolution.specs.Values.{TypedValue, TypedCall, made, of_both, variable_value, element_value, negated, cast_value, declassified_value}
 use Rattle.name_resolution.specs.Values.{operation_made, operation, gives_value, with_shape, value_given, shape_returned, tree_of_value}
-use Rattle.name_resolution.specs.Values.{built_in_value, called, and_values, value, values, call_made}
+use Rattle.name_resolution.specs.Values.{built_in_value, called, and_more, value, values, call_made}
 use Rattle.name_resolution.proofs.SoundValues.{mapped}
 
 -- WHAT IS MADE
@@ -362,7 +362,7 @@ mutual
   values_make w k s u m (Tree'.also e es) (g ∷ gs) a h =
       let x = value_makes w k s u m e g.given (agree_left w.declared k (names_in e) (names_in_all es) a) h.0 in
       let y = values_make w k s u m es gs (agree_right w.declared k (names_in e) (names_in_all es) a) h.2 in
-      record { values = x.value ∷ y.values; there = ap₂ (of_both and_values) x.there y.there; same = (x.element, x.array, y.same) }
+      record { values = x.value ∷ y.values; there = ap₂ (of_both and_more) x.there y.there; same = (x.element, x.array, y.same) }
 
 pub call_makes : (w : Setting) (k : Declared) (s : checked.Scope) (u : Scope) → Same s u → (p : Span) (x : List ℕ) (es : Trees) (t : ExpressionType)
     → Agree w.declared k (names_in (call p x es)) → HasType w s (call p x es) t → Gives (call_made k u p.line x es) t

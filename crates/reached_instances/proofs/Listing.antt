@@ -1,6 +1,6 @@
 -- Lists of instances in which each stands once, as they grow.
 use Rattle.std.proofs.Common.{◌≡◌, List, [], ◌∷◌, ◌++◌, ◌⊎◌, inl, inr, refl, sym, ap, ap₂, ◌∙◌, subst, Bool, true, false, append_assoc, append-nil, eq-eqb}
-use Rattle.std.specs.Prelude.{nat_eq, ◌&&◌, ◌||◌, if◌then◌else◌}
+use Rattle.std.specs.Prelude.{nat_eq, ◌&&◌, ◌||◌, if◌then◌else◌, fold}
 use Rattle.std.specs.Bool.{Decides}
 use Rattle.std.specs.Cmp.Lexicographic.{pointwise}
 use Rattle.std.specs.List.{flat_map}
@@ -10,7 +10,7 @@ use Rattle.secrec_ast.specs.Lists.{Among}
 use Rattle.secrec_ast.proofs.Lists.{among_left, among_right, among_parts}
 use Rattle.reached_instances.specs.declared.instance.BoundDomain.{BoundDomain}
 use Rattle.reached_instances.specs.declared.instance.BoundDomain.TheVariants.{Public, Private}
-use Rattle.reached_instances.specs.Instances.{Instance, same_domain, same_instance, is_listed, listing, listing_all}
+use Rattle.reached_instances.specs.Instances.{Instance, same_domain, same_instance, is_listed, listing}
 use Rattle.reached_instances.specs.Laws.{IsEachOnce}
 
 -- THE SAME INSTANCE
@@ -105,20 +105,20 @@ once i is o = go (is_listed i is) refl
 
 -- ALL OF THESE
 
-pub listing_all-append : (is js ks : List Instance) → listing_all is (js ++ ks) ≡ listing_all (listing_all is js) ks
-listing_all-append is [] ks = refl
-listing_all-append is (j ∷ js) ks = listing_all-append (listing is j) js ks
+pub listed-append : (is js ks : List Instance) → fold listing is (js ++ ks) ≡ fold listing (fold listing is js) ks
+listed-append is [] ks = refl
+listed-append is (j ∷ js) ks = listed-append (listing is j) js ks
 
-pub all_stay : (is js : List Instance) (i : Instance) → Among i is → Among i (listing_all is js)
+pub all_stay : (is js : List Instance) (i : Instance) → Among i is → Among i (fold listing is js)
 all_stay is [] i m = m
 all_stay is (j ∷ js) i m = all_stay (listing is j) js i (stays j i is m)
 
-pub all_come : (is js : List Instance) (i : Instance) → Among i js → Among i (listing_all is js)
+pub all_come : (is js : List Instance) (i : Instance) → Among i js → Among i (fold listing is js)
 all_come is [] i m = absurd m
 all_come is (j ∷ js) i (inl e) = all_stay (listing is j) js i (subst (λ z. Among z (listing is j)) (sym e) (comes j is))
 all_come is (j ∷ js) i (inr m) = all_come (listing is j) js i m
 
-pub all_came : (is js : List Instance) (i : Instance) → Among i (listing_all is js) → Among i is ⊎ Among i js
+pub all_came : (is js : List Instance) (i : Instance) → Among i (fold listing is js) → Among i is ⊎ Among i js
 all_came is [] i m = inl m
 all_came is (j ∷ js) i m = go (all_came (listing is j) js i m)
   where
@@ -130,18 +130,18 @@ all_came is (j ∷ js) i m = go (all_came (listing is j) js i m)
     go (inl n) = first (came j i is n)
     go (inr n) = inr (inr n)
 
-pub all_grow : (is js : List Instance) → Grows is (listing_all is js)
+pub all_grow : (is js : List Instance) → Grows is (fold listing is js)
 all_grow is [] = ([], sym (append-nil is))
 all_grow is (j ∷ js) =
     let a = grows j is in
     let b = all_grow (listing is j) js in
     (a.0 ++ b.0, b.1 ∙ ap (λ (z : List Instance). z ++ b.0) a.1 ∙ append_assoc is a.0 b.0)
 
-pub all_once : (is js : List Instance) → IsEachOnce is → IsEachOnce (listing_all is js)
+pub all_once : (is js : List Instance) → IsEachOnce is → IsEachOnce (fold listing is js)
 all_once is [] o = o
 all_once is (j ∷ js) o = all_once (listing is j) js (once j is o)
 
--- what stands in front doesn't stand behind
+-- what stands in front doesn't stand after
 pub apart : (xs ys : List Instance) (i : Instance) → IsEachOnce (xs ++ ys) → Among i xs → Among i ys → ⊥
 apart [] ys i o m n = m
 apart (x ∷ xs) ys i o (inl e) n = o.0 (among_right x xs ys (subst (λ z. Among z ys) e n))

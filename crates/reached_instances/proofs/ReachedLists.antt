@@ -1,6 +1,7 @@
 -- Lists of reached instances: how they are found, and that there is one at most.
 use Rattle.std.proofs.Common.{◌≡◌, ℕ, zero, suc, ◌+◌, ◌<◌, ◌≤◌, List, [], ◌∷◌, ◌++◌, take, drop, length, ◌⊎◌, inl, inr, refl, sym, ap, ◌∙◌, subst}
 use Rattle.std.proofs.Common.{Option, Some, None, arith, append_assoc, append-nil}
+use Rattle.std.specs.Prelude.{fold}
 use Rattle.std.specs.List.{slice_get, flat_map}
 use Rattle.std.proofs.lemmas.Bool.{cases_lt}
 use Rattle.std.proofs.lemmas.List.{take-append-drop, take-append-le, take_all}
@@ -9,21 +10,21 @@ use Rattle.std.proofs.lemmas.Option.{same_Some}
 use Rattle.secrec_ast.specs.Lists.{Among}
 use Rattle.secrec_ast.proofs.Lists.{among_left, among_right}
 use Rattle.typed_tree.specs.Programs.{TypedFunctionTree, TypedProgramTree}
-use Rattle.reached_instances.specs.Instances.{Instance, firsts, listing_all}
+use Rattle.reached_instances.specs.Instances.{Instance, listing, firsts}
 use Rattle.reached_instances.specs.Calls.{called, called_by, main_of}
 use Rattle.reached_instances.specs.Reached.{IsReached, begins, follows, IsReachedList}
 use Rattle.reached_instances.specs.Laws.{BeginsWithMain, IsEachOnce, HasEachOnce, HasEachReached, IsTheOnlyList}
-use Rattle.reached_instances.proofs.Listing.{Grows, listing_all-append, all_come, all_came, all_grow, all_once, apart, among_flat_map}
+use Rattle.reached_instances.proofs.Listing.{Grows, listed-append, all_come, all_came, all_grow, all_once, apart, among_flat_map}
 
 -- what is listed once these have been read
 abbrev pub listed_after : TypedProgramTree → List Instance → List Instance
 listed_after p done = firsts (main_of p ++ flat_map (called_by p) done)
 
-listed_after-append : (p : TypedProgramTree) (xs ys : List Instance) → listed_after p (xs ++ ys) ≡ listing_all (listed_after p xs) (flat_map (called_by p) ys)
+listed_after-append : (p : TypedProgramTree) (xs ys : List Instance) → listed_after p (xs ++ ys) ≡ fold listing (listed_after p xs) (flat_map (called_by p) ys)
 listed_after-append p xs ys =
     ap (λ zs. firsts (main_of p ++ zs)) (flat_map-append (called_by p) xs ys)
     ∙ ap firsts (sym (append_assoc (main_of p) (flat_map (called_by p) xs) (flat_map (called_by p) ys)))
-    ∙ listing_all-append [] (main_of p ++ flat_map (called_by p) xs) (flat_map (called_by p) ys)
+    ∙ listed-append [] (main_of p ++ flat_map (called_by p) xs) (flat_map (called_by p) ys)
 
 -- WHILE A LIST IS READ
 
@@ -46,7 +47,7 @@ among_place [] n i e = cc
 among_place (j ∷ js) zero i e = inl (sym (same_Some j i e))
 among_place (j ∷ js) (suc n) i e = inr (among_place js n i e)
 
-read_next : (p : TypedProgramTree) (n : ℕ) (is js : List Instance) (i : Instance) → slice_get is n ≡ Some i → js ≡ listing_all is (called_by p i)
+read_next : (p : TypedProgramTree) (n : ℕ) (is js : List Instance) (i : Instance) → slice_get is n ≡ Some i → js ≡ fold listing is (called_by p i)
     → take (n + 1) js ≡ take n is ++ i ∷ []
 read_next p n is js i there grown =
     let g = all_grow is (called_by p i) in
@@ -65,15 +66,15 @@ read_none p is e = record { in_order = e ∙ begun p; reached = λ i m. from_mai
     from_main i (inl m) = absurd m
     from_main i (inr m) = begins i m
 
-pub read_more : (p : TypedProgramTree) (n : ℕ) (is js : List Instance) (i : Instance) → slice_get is n ≡ Some i → js ≡ listing_all is (called_by p i)
+pub read_more : (p : TypedProgramTree) (n : ℕ) (is js : List Instance) (i : Instance) → slice_get is n ≡ Some i → js ≡ fold listing is (called_by p i)
     → IsReadTo p n is → IsReadTo p (n + 1) js
 read_more p n is js i there grown old = record { in_order = order; reached = each }
   where
     order : js ≡ listed_after p (take (n + 1) js)
     order =
         grown
-        ∙ ap (λ (z : List Instance). listing_all z (called_by p i)) old.in_order
-        ∙ ap (listing_all (listed_after p (take n is))) (sym (append-nil (called_by p i)))
+        ∙ ap (λ (z : List Instance). fold listing z (called_by p i)) old.in_order
+        ∙ ap (fold listing (listed_after p (take n is))) (sym (append-nil (called_by p i)))
         ∙ sym (listed_after-append p (take n is) (i ∷ []))
         ∙ ap (listed_after p) (sym (read_next p n is js i there grown))
 

@@ -1,12 +1,12 @@
 -- The instances that a piece of a function calls, in the order in which it is read.
 use Rattle.std.specs.Prelude.{ℕ, List, [], ◌∷◌, ◌++◌, Option, Some, None}
 use Rattle.std.specs.List.{slice_get}
-use Rattle.typed_tree.specs.Tree.{TypedTree, TypedTrees, word_node, truth_node, slot_node, call_node, size_node, cat_node, sum_node, bits_node}
+use Rattle.typed_tree.specs.Tree.{TypedTree, TypedTrees, call_node, size_node, cat_node, sum_node, bits_node}
 use Rattle.typed_tree.specs.Tree.{element_node, not_node, cast_node, binary_node, cut_node, declassify_node}
 use Rattle.typed_tree.specs.Tree as Tree'
-use Rattle.typed_tree.specs.Statements.{TypedStatementTree, TypedStatementTrees, empty_statement, block_statement, if_statement, loop_statement, do_statement}
-use Rattle.typed_tree.specs.Statements.{break_statement, continue_statement, return_statement, assert_statement, store_statement, default_statement}
-use Rattle.typed_tree.specs.Statements.{fill_statement, input_statement, element_statement, publish_statement, evaluate_statement}
+use Rattle.typed_tree.specs.Statements.{TypedStatementTree, TypedStatementTrees, block_statement, if_statement, loop_statement, do_statement}
+use Rattle.typed_tree.specs.Statements.{return_statement, assert_statement, store_statement}
+use Rattle.typed_tree.specs.Statements.{fill_statement, element_statement, publish_statement, evaluate_statement}
 use Rattle.typed_tree.specs.Statements as Statements'
 use Rattle.typed_tree.specs.Programs.{TypedFunctionTree, TypedProgramTree}
 use Rattle.reached_instances.specs.declared.instance.BoundDomain.{BoundDomain}
@@ -21,9 +21,6 @@ called k (Some f) ds = record { function = k; binding = binding_of f ds } ∷ []
 -- arguments are read before the call
 abbrev mutual
   pub calls : Setting → TypedTree → List Instance
-  calls w (word_node n) = []
-  calls w (truth_node b) = []
-  calls w (slot_node k) = []
   calls w (call_node line k es) = calls_of_all w es ++ called k (slice_get w.functions k) (domains w es)
   calls w (size_node e) = calls w e
   calls w (cat_node line a b) = calls w a ++ calls w b
@@ -35,6 +32,7 @@ abbrev mutual
   calls w (binary_node line op ds a b) = calls w a ++ calls w b
   calls w (cut_node c a b) = calls w a ++ calls w b
   calls w (declassify_node e) = calls w e
+  calls w _ = []
 
   pub calls_of_all : Setting → TypedTrees → List Instance
   calls_of_all w Tree'.none = []
@@ -47,22 +45,18 @@ optional_calls w (Some e) = calls w e
 -- of a loop the body is read first, then the step, then the condition, as they stand in its code
 abbrev mutual
   pub typed_statement_calls : Setting → TypedStatementTree → List Instance
-  typed_statement_calls w empty_statement = []
   typed_statement_calls w (block_statement cs) = typed_statements_calls w cs
   typed_statement_calls w (if_statement e a b) = calls w e ++ (typed_statement_calls w a ++ typed_statement_calls w b)
   typed_statement_calls w (loop_statement e step body) = typed_statement_calls w body ++ (typed_statement_calls w step ++ calls w e)
   typed_statement_calls w (do_statement body e) = typed_statement_calls w body ++ calls w e
-  typed_statement_calls w break_statement = []
-  typed_statement_calls w continue_statement = []
   typed_statement_calls w (return_statement e) = optional_calls w e
   typed_statement_calls w (assert_statement line e) = calls w e
   typed_statement_calls w (store_statement k e) = calls w e
-  typed_statement_calls w (default_statement k) = []
   typed_statement_calls w (fill_statement line k n e) = calls w n ++ calls w e
-  typed_statement_calls w (input_statement line k x) = []
   typed_statement_calls w (element_statement line k i e) = calls w i ++ calls w e
   typed_statement_calls w (publish_statement x e) = calls w e
   typed_statement_calls w (evaluate_statement e) = calls w e
+  typed_statement_calls w _ = []
 
   pub typed_statements_calls : Setting → TypedStatementTrees → List Instance
   typed_statements_calls w Statements'.none = []

@@ -8,8 +8,8 @@ use Rattle.typed_tree.specs.declared.kinds.SlotDomain.TheVariants as slot
 use Rattle.typed_tree.specs.declared.kinds.Slot.{Slot}
 use Rattle.typed_tree.specs.declared.function.Returned.{Returned}
 use Rattle.typed_tree.specs.declared.function.Returned.TheVariants.{Nothing, Value}
-use Rattle.typed_tree.specs.Tree.{TypedTree, TypedTrees, word_node, truth_node, slot_node, call_node, size_node, cat_node, sum_node, bits_node}
-use Rattle.typed_tree.specs.Tree.{element_node, not_node, cast_node, binary_node, cut_node, declassify_node}
+use Rattle.typed_tree.specs.Tree.{TypedTree, TypedTrees, slot_node, call_node, cat_node, sum_node, bits_node}
+use Rattle.typed_tree.specs.Tree.{element_node, not_node, cast_node, binary_node, cut_node}
 use Rattle.typed_tree.specs.Tree as Tree'
 use Rattle.typed_tree.specs.Programs.{TypedFunctionTree}
 use Rattle.typed_tree.specs.Shapes.{shape_of}
@@ -35,15 +35,13 @@ joined_domain (Private k) d = Private k
 -- WHAT A CALL BINDS
 
 abbrev pub is_variable : ℕ → SlotDomain → Bool
-is_variable v slot.Public = false
-is_variable v (slot.Private k) = false
 is_variable v (slot.Variable u) = nat_eq u v
+is_variable v _ = false
 
 -- to what a domain variable is bound: the arguments at the parameters that name it, together. The parameters are the first slots
 abbrev pub bound_to : ℕ → List Slot → List BoundDomain → BoundDomain
-bound_to v [] ds = Public
-bound_to v (s ∷ ss) [] = Public
 bound_to v (s ∷ ss) (d ∷ ds) = if is_variable v s.domain then joined_domain d (bound_to v ss ds) else bound_to v ss ds
+bound_to v _ _ = Public
 
 -- the domain variables below n
 abbrev pub bound_below : ℕ → List Slot → List BoundDomain → List BoundDomain
@@ -93,11 +91,8 @@ call_domain (Some f) ds = given_domain (binding_of f ds) f.given
 
 abbrev mutual
   pub domain : Setting → TypedTree → BoundDomain
-  domain w (word_node n) = Public
-  domain w (truth_node b) = Public
   domain w (slot_node k) = slot_domain w.binding (slice_get w.slots k)
   domain w (call_node line k es) = call_domain (slice_get w.functions k) (domains w es)
-  domain w (size_node e) = Public
   domain w (cat_node line a b) = joined_domain (domain w a) (domain w b)
   domain w (sum_node e) = domain w e
   domain w (bits_node line e) = domain w e
@@ -106,7 +101,7 @@ abbrev mutual
   domain w (cast_node c e) = domain w e
   domain w (binary_node line op ds a b) = joined_domain (domain w a) (domain w b)
   domain w (cut_node c a b) = joined_domain (domain w a) (domain w b)
-  domain w (declassify_node e) = Public
+  domain w _ = Public
 
   pub domains : Setting → TypedTrees → List BoundDomain
   domains w Tree'.none = []

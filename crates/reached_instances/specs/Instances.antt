@@ -1,5 +1,5 @@
 -- Instances of functions, when two are the same, and lists in which each stands once.
-use Rattle.std.specs.Prelude.{ℕ, Bool, true, false, nat_eq, ◌&&◌, if◌then◌else◌, List, [], ◌∷◌, ◌++◌, Option, vec_items}
+use Rattle.std.specs.Prelude.{ℕ, Bool, true, false, nat_eq, ◌&&◌, if◌then◌else◌, List, [], ◌∷◌, ◌++◌, fold, Option, vec_items}
 use Rattle.std.specs.List.{list_any, position}
 use Rattle.std.specs.Cmp.Lexicographic.{pointwise}
 use Rattle.reached_instances.specs.declared.instance.BoundDomain.{BoundDomain}
@@ -16,9 +16,8 @@ instance_seen i = record { function = i.function; binding = vec_items i.binding 
 
 abbrev pub same_domain : BoundDomain → BoundDomain → Bool
 same_domain Public Public = true
-same_domain Public (Private m) = false
-same_domain (Private k) Public = false
 same_domain (Private k) (Private m) = nat_eq k m
+same_domain _ _ = false
 
 abbrev pub same_instance : Instance → Instance → Bool
 same_instance i j = nat_eq i.function j.function && pointwise same_domain i.binding j.binding
@@ -30,14 +29,10 @@ is_listed i is = list_any (same_instance i) is
 abbrev pub number_in : List Instance → Instance → Option ℕ
 number_in is i = position (same_instance i) is
 
--- one more behind a list, unless it is there
+-- one more after a list, unless it is there
 abbrev pub listing : List Instance → Instance → List Instance
 listing is i = if is_listed i is then is else is ++ i ∷ []
 
-abbrev pub listing_all : List Instance → List Instance → List Instance
-listing_all is [] = is
-listing_all is (j ∷ js) = listing_all (listing is j) js
-
 -- each once, where it stands first
 abbrev pub firsts : List Instance → List Instance
-firsts is = listing_all [] is
+firsts is = fold listing [] is

@@ -9,7 +9,7 @@ use Rattle.reached_instances.specs.Reached.{IsReached, IsReachedList}
 abbrev pub BeginsWithMain : TypedProgramTree → Type 0
 BeginsWithMain p = (is : List Instance) → IsReachedList p is → (others : List Instance) × (is ≡ main_of p ++ others)
 
--- no instance stands again behind itself
+-- no instance stands again after itself
 abbrev pub IsEachOnce : List Instance → Type 0
 IsEachOnce [] = Unit {0}
 IsEachOnce (i ∷ is) = (Among i is → ⊥) × IsEachOnce is

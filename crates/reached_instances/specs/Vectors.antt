@@ -150,7 +150,7 @@ arguments_first : following (program
     ∷ two_variables_with [] ∷ template_with [] ∷ [])) arguments_first_list ≡ arguments_first_list
 arguments_first = refl
 
--- main: f(a); f(1); and f: g(x); g under what f is bound to, behind all that main calls
+-- main: f(a); f(1); and f: g(x); g under what f is bound to, after all that main calls
 abbrev under_own_variable_list : List Instance
 under_own_variable_list = instance_of 0 [] ∷ instance_of 1 (Private 0 ∷ []) ∷ instance_of 1 (Public ∷ []) ∷ instance_of 2 (Private 0 ∷ [])
     ∷ instance_of 2 (Public ∷ []) ∷ []

@@ -1,7 +1,7 @@
 // The list of the reached instances, with the number of each.
-ghost use Rattle.std.specs.Prelude.{◌≡◌, [], List, OnOk};
+ghost use Rattle.std.specs.Prelude.{◌≡◌, [], List, fold, OnOk};
 ghost use Rattle.reached_instances.specs.Instances as listed;
-ghost use Rattle.reached_instances.specs.Instances.{instance_seen, listing_all, number_in};
+ghost use Rattle.reached_instances.specs.Instances.{instance_seen, listing, number_in};
 ghost use Rattle.reached_instances.specs.Views.{instances_seen};
 
 use crate::instance::Instance;
@@ -40,7 +40,7 @@ impl ReachedInstances {
 
     /// Lists instances that are called; those that are listed already stay where they are.
     pub(crate) fn list_all(&mut self, found: Vec<Instance>) -> Result<(), AllocError>
-        ensures { OnOk result (self.new ≡ listing_all self.old (instances_seen found.items)) }
+        ensures { OnOk result (self.new ≡ fold listing self.old (instances_seen found.items)) }
     {
         for instance in found {
             self.list.insert(instance)?;

@@ -1,10 +1,10 @@
 // How large the instances of a program are.
-ghost use Rattle.std.specs.Prelude.{◌≡◌, sum};
+ghost use Rattle.std.specs.Prelude.{◌≡◌, min, nat_lt, sum};
 ghost use Rattle.std.specs.List.{find};
 ghost use Rattle.typed_tree.specs.Programs.{typed_program_tree};
 ghost use Rattle.reached_instances.specs.Instances.{instance_seen};
 ghost use Rattle.reached_instances.specs.Views.{instances_seen};
-ghost use Rattle.reached_instances.specs.Limits.{counted, is_too_large, size_of, sizes};
+ghost use Rattle.reached_instances.specs.Limits.{size_of, sizes};
 
 use crate::instance::Instance;
 use typed_tree::TypedProgram;
@@ -24,7 +24,7 @@ fn size_of(program: &TypedProgram, instance: &Instance) -> u64
 
 /// The sizes of these instances together, each by itself; 18,446,744,073,709,551,615 stands for more.
 pub fn total_size(program: &TypedProgram, instances: &[Instance]) -> u64
-    ensures { result ≡ counted (sum (sizes (typed_program_tree program.now) (instances_seen instances.now))) }
+    ensures { result ≡ min (sum (sizes (typed_program_tree program.now) (instances_seen instances.now))) 18446744073709551615 }
 {
     let mut total: u64 = 0;
     for instance in instances {
@@ -35,7 +35,7 @@ pub fn total_size(program: &TypedProgram, instances: &[Instance]) -> u64
 
 /// The size of the first of these instances that is too large for a function.
 pub fn first_too_large(program: &TypedProgram, instances: &[Instance]) -> Option<u64>
-    ensures { result ≡ find is_too_large (sizes (typed_program_tree program.now) (instances_seen instances.now)) }
+    ensures { result ≡ find (nat_lt 4095) (sizes (typed_program_tree program.now) (instances_seen instances.now)) }
 {
     for instance in instances {
         let size = size_of(program, instance);

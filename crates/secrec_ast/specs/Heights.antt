@@ -5,16 +5,13 @@ use Rattle.secrec_ast.specs.Tree.{Tree, number, truth, variable, call, index, pa
 use Rattle.secrec_ast.specs.Tree as Tree'
 use Rattle.secrec_ast.specs.Statements.{DeclarationTree, TargetTree, AssignmentTree, StartTree, starts_with_nothing, starts_with_declaration}
 use Rattle.secrec_ast.specs.Statements.{starts_with_assignment, StepTree, steps_by_nothing, steps_by_assignment, steps_by_expression, StatementTree}
-use Rattle.secrec_ast.specs.Statements.{block, empty, branch, choice, while_loop, do_loop, for_loop, breaks, continues, returns, assertion}
+use Rattle.secrec_ast.specs.Statements.{block, branch, choice, while_loop, do_loop, for_loop, returns, assertion}
 use Rattle.secrec_ast.specs.Statements.{declaration, assignment, evaluation, StatementTrees}
 use Rattle.secrec_ast.specs.Statements as Statements'
-use Rattle.secrec_ast.specs.Programs.{FunctionTree, ItemTree, imports, kind, domain, defines, ProgramTree}
+use Rattle.secrec_ast.specs.Programs.{FunctionTree, ItemTree, defines, ProgramTree}
 
 abbrev mutual
   pub height : Tree → ℕ
-  height (number p n) = 1
-  height (truth p b) = 1
-  height (variable p x) = 1
   height (call p x es) = 1 + heights es
   height (index p a i) = 1 + max (height a) (height i)
   height (parentheses p e) = 1 + height e
@@ -22,8 +19,8 @@ abbrev mutual
   height (cast p t e) = 1 + height e
   height (binary p op a b) = 1 + max (height a) (height b)
   height (declassify p e) = 1 + height e
-  height (argument p x) = 1
   height (publish p x e) = 1 + height e
+  height _ = 1
 
   -- that of the highest, 0 where there is none
   pub heights : Trees → ℕ
@@ -56,20 +53,18 @@ step_height (steps_by_expression e) = height e
 abbrev mutual
   pub statement_height : StatementTree → ℕ
   statement_height (block p ss) = 1 + statement_heights ss
-  statement_height (empty p) = 1
   statement_height (branch p e s) = 1 + max (height e) (statement_height s)
   statement_height (choice p e s t) = 1 + max (height e) (max (statement_height s) (statement_height t))
   statement_height (while_loop p e s) = 1 + max (height e) (statement_height s)
   statement_height (do_loop p s e) = 1 + max (statement_height s) (height e)
   statement_height (for_loop p a e b s) =
       1 + max (max (start_height a) (optional_height e)) (max (step_height b) (statement_height s))
-  statement_height (breaks p) = 1
-  statement_height (continues p) = 1
   statement_height (returns p e) = 1 + optional_height e
   statement_height (assertion p e) = 1 + height e
   statement_height (declaration d) = declaration_height d
   statement_height (assignment a) = assignment_height a
   statement_height (evaluation e) = 1 + height e
+  statement_height _ = 1
 
   pub statement_heights : StatementTrees → ℕ
   statement_heights Statements'.none = 0
@@ -80,10 +75,8 @@ function_height f = 2 + statement_heights f.body.statements
 
 abbrev pub items_height : List ItemTree → ℕ
 items_height [] = 0
-items_height (imports x ∷ items) = items_height items
-items_height (kind x ∷ items) = items_height items
-items_height (domain x k ∷ items) = items_height items
 items_height (defines f ∷ items) = max (function_height f) (items_height items)
+items_height (_ ∷ items) = items_height items
 
 abbrev pub program_height : ProgramTree → ℕ
 program_height p = 1 + items_height p.items

@@ -1,4 +1,4 @@
--- A list of tokens with the end of the text behind it.
+-- A list of tokens with the end of the text after it.
 use Rattle.std.proofs.Common.{◌≡◌, List, [], ◌∷◌, ◌++◌, true}
 use Rattle.std.specs.Prelude.{not}
 use Rattle.std.specs.List.{list_all}

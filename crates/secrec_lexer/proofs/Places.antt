@@ -1,4 +1,4 @@
--- Places behind more and more bytes.
+-- Places after more and more bytes.
 use Rattle.std.proofs.Common.{◌≡◌, ℕ, ◌+◌, ◌-◌, ◌≤◌, List, [], ◌∷◌, ◌++◌, refl, sym, ap, ◌∙◌, append_assoc, append-nil, length, arith, Bool, true}
 use Rattle.std.proofs.Common.{false, cond, length-drop}
 use Rattle.std.specs.Prelude.{not}
@@ -27,7 +27,7 @@ span_is place line column f g =
     let span : ℕ → ℕ → Span = λ l c. record { line = l; column = c } in
     ap (λ l. span l place.column) f ∙ ap (span line) g
 
--- the place behind one byte more
+-- the place after one byte more
 pub place_behind-push : (before : List ℕ) (byte : ℕ) → place_behind (before ++ byte ∷ []) ≡ next_place (place_behind before) byte
 place_behind-push before byte = go (is_newline byte) refl
   where
@@ -45,7 +45,7 @@ place_behind-push before byte = go (is_newline byte) refl
         span_is (place_behind (before ++ byte ∷ [])) (place_behind before).line ((place_behind before).column + 1) (omega arith)
         (omega (arith, column_is (before ++ byte ∷ []), column_is before))
 
--- the place behind more bytes
+-- the place after more bytes
 pub place_behind-append : (before bytes : List ℕ) → place_behind (before ++ bytes) ≡ fold next_place (place_behind before) bytes
 place_behind-append before [] = ap place_behind (append-nil before)
 place_behind-append before (byte ∷ more) =

@@ -38,7 +38,7 @@ pub at_offset : (text : List ℕ) (offset : ℕ) (found piece : Piece) → found
     → first (drop offset text) ≡ piece
 at_offset text offset found piece e f = ap first (sym (rest_from text offset)) ∙ sym e ∙ f
 
--- the place behind some bytes more
+-- the place after some bytes more
 place_at-more : (text : List ℕ) (offset size : ℕ) → place_at text (offset + size) ≡ fold next_place (place_at text offset) (take size (drop offset text))
 unfolding place_at
 place_at-more text offset size = ap place_behind (take-add offset size text) ∙ place_behind-append (take offset text) (take size (drop offset text))

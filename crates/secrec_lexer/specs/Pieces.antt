@@ -14,7 +14,7 @@ use Rattle.secrec_lexer.specs.Signs.{single_sign, longer_sign, keyword}
 
 -- Each piece goes with its number of bytes, and a fault with the number of bytes before it.
 
--- a comment of many lines, by the number of bytes behind its `/*`, if it is closed
+-- a comment of many lines, by the number of bytes after its `/*`, if it is closed
 abbrev pub comment : Option ℕ → Piece
 comment None = Fault faults.OpenComment 0
 comment (Some size) = Blank (2 + size)
@@ -25,7 +25,7 @@ number_spelled radix digits =
     if nat_lt 0 (length digits) && list_all (λ digit. is_digit digit radix) digits && nat_lt (digits_value radix digits) (2 ^ 64)
     then Some (digits_value radix digits) else None
 
--- the number that a word spells, in decimal, or in hexadecimal behind `0x`
+-- the number that a word spells, in decimal, or in hexadecimal after `0x`
 abbrev pub word_value : List ℕ → Option ℕ
 word_value word = if begins word (codes "0x") then number_spelled 16 (drop 2 word) else number_spelled 10 word
 
@@ -39,7 +39,7 @@ abbrev pub word : Option Sign → List ℕ → Piece
 word (Some sign) bytes = Lexeme (kinds.Sign sign) (length bytes)
 word None bytes = if is_name bytes then Lexeme (kinds.Name bytes) (length bytes) else Fault faults.BadName 0
 
--- a string: its letters, digits and `_`, and what stands behind them
+-- a string: its letters, digits and `_`, and what stands after them
 abbrev pub text : List ℕ → List ℕ → Piece
 text bytes [] = Fault faults.OpenText 0
 text bytes (next ∷ more) =

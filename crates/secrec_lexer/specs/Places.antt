@@ -4,7 +4,7 @@ use Rattle.std.specs.List.{count_by, after_last}
 use Rattle.sc_text.specs.declared.span.Span.{Span}
 use Rattle.secrec_lexer.specs.Bytes.{is_newline}
 
--- the place behind these bytes: the line is one more than the newlines among them, the column one more than the bytes behind the last newline
+-- the place after these bytes: the line is one more than the newlines among them, the column one more than the bytes after the last newline
 abbrev pub place_behind : List ℕ → Span
 place_behind bytes = record { line = 1 + count_by is_newline bytes; column = 1 + length (after_last is_newline bytes) }
 

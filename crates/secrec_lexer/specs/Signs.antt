@@ -19,7 +19,7 @@ single_sign byte =
     ∷ signs.Plus ∷ signs.Minus ∷ signs.Star ∷ signs.Slash ∷ signs.Percent
     ∷ signs.Ampersand ∷ signs.Bar ∷ signs.Caret ∷ signs.Exclamation ∷ [])
 
--- the sign that is this one with `=` behind it
+-- the sign that is this one with `=` after it
 abbrev pub with_equals : Sign → Option Sign
 with_equals signs.Assign = Some signs.Equal
 with_equals signs.Exclamation = Some signs.NotEqual

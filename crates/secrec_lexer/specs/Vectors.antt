@@ -11,7 +11,7 @@ use Rattle.secrec_lexer.specs.Lexis.{HasTokens, IsRefused, within, ended, blank,
 use Rattle.secrec_lexer.specs.Signs.{single_sign, keyword}
 use Rattle.sc_text.specs.Name.{is_name}
 
--- every sign, with a space behind it
+-- every sign, with a space after it
 signs_spelled : map first
     (codes "( " ∷ codes ") " ∷ codes "[ " ∷ codes "] " ∷ codes "{ " ∷ codes "} " ∷ codes "< " ∷ codes "> " ∷
     codes ", " ∷ codes "; " ∷ codes ": " ∷ codes "= " ∷ codes "+ " ∷ codes "- " ∷ codes "* " ∷ codes "/ " ∷
@@ -33,7 +33,7 @@ signs_spelled : map first
 unfolding single_sign keyword is_name
 signs_spelled = refl
 
--- every keyword, with a sign behind it
+-- every keyword, with a sign after it
 keywords_spelled : map first
     (codes "import;" ∷ codes "kind;" ∷ codes "domain;" ∷ codes "template;" ∷ codes "public;" ∷ codes "void;" ∷ codes "uint64;" ∷ codes "uint;" ∷
     codes "bool;" ∷ codes "if;" ∷ codes "else;" ∷ codes "while;" ∷ codes "do;" ∷ codes "for;" ∷ codes "break;" ∷ codes "continue;" ∷

@@ -16,7 +16,7 @@ use std::alloc::Global;
 
 const LONGEST_TEXT: usize = 1_048_576;
 
-// The tokens with the end of the text behind them.
+// The tokens with the end of the text after them.
 fn with_end(mut tokens: Vec<Token>, place: Span) -> Result<Tokens, LexErr>
     requires { IsTrue (list_all (λ token. not (is_end token.kind)) tokens.items) }
     ensures ok { IfOk result (λ found. found ≡ tokens.items ++ record { place = place; kind = EndOfText } ∷ []) }
@@ -56,9 +56,9 @@ fn cut(alloc: Global, text: &[u8]) -> Result<Tokens, LexErr>
     }
 }
 
-/// The tokens of a program's text, the end of it behind them; or its first fault, and the line and column where it stands.
+/// The tokens of a program's text, the end of it after them; or its first fault, and the line and column where it stands.
 ///
-/// A text of more than 1,048,576 bytes is refused for its length, before all else, at the byte behind as many.
+/// A text of more than 1,048,576 bytes is refused for its length, before all else, at the byte after as many.
 pub fn lex(alloc: Global, text: &[u8]) -> Result<Tokens, LexErr>
     ensures answer { IsAnswer text.now result }
 

@@ -15,7 +15,7 @@ fn number_spelled(digits: &[u8], radix: u32) -> Option<u64>
     u64::from_str_radix(as_text(digits), radix).ok()
 }
 
-/// The number that a word of letters, digits and `_` spells, in decimal, or in hexadecimal behind `0x`.
+/// The number that a word of letters, digits and `_` spells, in decimal, or in hexadecimal after `0x`.
 pub fn word_value(word: &[u8]) -> Option<u64>
     requires { IsTrue (list_all is_name_byte word.now) }
     ensures { result ≡ word_value word.now }

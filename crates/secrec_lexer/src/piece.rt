@@ -22,7 +22,7 @@ pub enum Piece {
     Blank(usize),
     /// A token of so many bytes.
     Lexeme(TokenKind, usize),
-    /// A fault behind so many bytes.
+    /// A fault after so many bytes.
     Fault(LexFault, usize),
 }
 
@@ -61,7 +61,7 @@ fn word(alloc: Global, bytes: &[u8]) -> Result<Piece, AllocError>
     }
 }
 
-// A string, of which these are the letters, digits and `_`, and what stands behind them.
+// A string, of which these are the letters, digits and `_`, and what stands after them.
 fn text(alloc: Global, bytes: &[u8], behind: &[u8]) -> Result<Piece, AllocError>
     requires names { IsTrue (list_all is_name_byte bytes.now) }
     requires room { length bytes.now + length behind.now + 1 < 2 ^ 64 }

@@ -31,7 +31,7 @@ fn next_place(place: Span, byte: u8) -> Span
     }
 }
 
-/// The place behind these bytes, which stand at that place.
+/// The place after these bytes, which stand at that place.
 pub fn moved(place: Span, bytes: &[u8]) -> Span
     requires lines { place.line + length bytes.now < 2 ^ 32 }
     requires columns { place.column + length bytes.now < 2 ^ 32 }

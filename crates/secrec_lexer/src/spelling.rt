@@ -35,7 +35,7 @@ pub fn single_sign(byte: u8) -> Option<Sign>
     }
 }
 
-/// The sign that is this one with `=` behind it.
+/// The sign that is this one with `=` after it.
 fn with_equals(sign: Sign) -> Option<Sign>
     ensures { result ≡ with_equals sign }
 {

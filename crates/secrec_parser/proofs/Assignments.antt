@@ -291,7 +291,7 @@ module _ (end : Sign) (free : (e : Tree) (x : Token) → x.kind ≡ kinds.Sign e
   assigned_reads max_height t [] en = cc
   assigned_reads max_height t (x ∷ m) en = assigned_head max_height t x m en
 
-  -- an update may stand behind an expression and a target
+  -- an update may stand after an expression and a target
   assigned_first : (t : TargetTree) (v : Tree) (s m : List Token) → IsAssigned t v s
       → (x : Token) × (l : List Token) × (s ++ m ≡ x ∷ l) × (u : Update) × (update_of x ≡ Some u)
   assigned_first t v [] m b = absurd (empty t v b)
@@ -462,7 +462,7 @@ abbrev pub LowAction : (h max_height : ℕ) → ActionTree → Type 0
 LowAction h max_height (assigns a) = assignment_height a ≤ max_height
 LowAction h max_height (evaluates e) = height e ≤ h
 
--- what stands behind the expression that an action begins with
+-- what stands after the expression that an action begins with
 abbrev Tail : Tree → ActionTree → Phrase
 Tail e (assigns a) ts = (target_of e ≡ Some a.target) × IsAssigned a.target a.value ts
 Tail e (evaluates d) ts = (d ≡ e) × nothing ts
@@ -491,7 +491,7 @@ module _ (end : Sign) (free : (e : Tree) (x : Token) → x.kind ≡ kinds.Sign e
   tail_first e (evaluates d) s [] v st = absurd st
   tail_first e (evaluates d) s (y ∷ m) v st = subst (λ l. Stops (Free loosest e) (l ++ y ∷ m)) (sym v.1) (free e y st)
 
-  -- nothing but the end stands behind an expression that is evaluated
+  -- nothing but the end stands after an expression that is evaluated
   no_end : (e d : Tree) (s m m2 : List Token) (x : Token) (u : Update) → update_of x ≡ Some u → Tail e (evaluates d) s
       → Stops (Before end (evaluates d)) m → s ++ m ≡ x ∷ m2 → ⊥
   no_end e d s m m2 x u f v st eq =

@@ -149,7 +149,7 @@ size_reads h (x ∷ m) en = go (is_sign signs.LeftParenthesis x) refl
         (λ e s m' m2 v eq. is_sign-false signs.LeftParenthesis x t
         (sign_head signs.LeftParenthesis (IsExpression loosest e then sign signs.RightParenthesis) s m' m2 x v eq))
 
--- the value behind `=`, in front of this sign
+-- the value after `=`, in front of this sign
 module _ (h : ℕ) (end : Sign) (free : (e : Tree) (x : Token) → x.kind ≡ kinds.Sign end → Free loosest e x)
     (no_assign : (x : Token) → x.kind ≡ kinds.Sign end → is_sign signs.Assign x ≡ false) where
   free_stop : (e : Tree) (m : List Token) → Stops (Before end e) m → Stops (Free loosest e) m

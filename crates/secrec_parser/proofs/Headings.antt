@@ -244,7 +244,7 @@ module _ (h : ℕ) (one : 1 ≤ h) where
       down (starts_with_declaration d) s m' m2 v st eq = absurd (clash (is_type y) (declaration_second d s m' m2 x y text v eq k) t)
       down (starts_with_assignment a) s m' m2 v st eq = (a, refl, v)
 
--- where a declaration alone has room, and none stands behind the name
+-- where a declaration alone has room, and none stands after the name
 module _ (x y : Token) (n : List Token) (text : List ℕ) (k : x.kind ≡ kinds.Name text) (t : is_type y ≡ false) where
   abbrev plain : TargetTree
   plain = record { variable = record { place = x.place; text = text }; index = None }

@@ -47,7 +47,7 @@ module _ {A : Type 0} (P : A → Phrase) (Fits1 : A → Type 0) (F1 : A → Toke
     shorter a [] r w v e = absurd (some a v)
     shorter a (x ∷ s) r w v e = let l = ap length e in let k = length-append (x ∷ s) r in omega (arith, l, k)
 
-    -- what was found so far, and more behind it
+    -- what was found so far, and more after it
     pub from_reads : (n : ℕ) (found : List A) (w : List Token) → length w < n → Fits found → Bound found → IsEnded w
         → Reads (Made (λ zs. found ++ zs) (λ zs ts. Bound (found ++ zs) × AreAll P zs ts)) Fits (λ zs x. End x) w (list_from stop inner n found w)
     unfolding list_from From

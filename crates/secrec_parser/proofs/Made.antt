@@ -16,7 +16,7 @@ use Rattle.expression_parser.proofs.Tokens.{Any, All, Alive, any_stops, sign_rea
 abbrev pub Made : {A C : Type 0} → (A → C) → (A → Phrase) → C → Phrase
 Made {A = A} f W c ts = (a : A) × (c ≡ f a) × W a ts
 
--- two values, the second behind the first
+-- two values, the second after the first
 abbrev pub Both : {A B : Type 0} → (A → Phrase) → (A → B → Phrase) → (A × B) → Phrase
 Both W1 W2 v ts = (W1 v.0 then W2 v.0 v.1) ts
 

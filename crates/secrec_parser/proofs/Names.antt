@@ -30,7 +30,7 @@ use Rattle.secrec_parser.proofs.Declarations.{clash, sign_head}
 use Rattle.secrec_parser.proofs.Assignments.{by_down, IsAction}
 use Rattle.secrec_parser.proofs.Leaders.{front}
 
--- what stands behind one token
+-- what stands after one token
 behind_one : {P Q : Phrase} (z : Token) (s m m2 : List Token) (x y : Token) (v : (P then Q) s) → v.0 ≡ z ∷ [] → s ++ m ≡ x ∷ y ∷ m2 → v.1 ++ m ≡ y ∷ m2
 behind_one z s m m2 x y v e eq = cons_tail (sym (ap (λ l. l ++ (v.1 ++ m)) e) ∙ front s m (y ∷ m2) x v eq)
 
@@ -102,7 +102,7 @@ name_second k (argument p z) s m m2 x y text v eq is =
 name_second k (publish p z e) s m m2 x y text v eq is =
     absurd (no_name signs.Publish x.kind text (head_kind s v.1 m (y ∷ m2) p (kinds.Sign signs.Publish) x (v.2 ∙ ap (λ l. l ++ v.1) v.3) eq) is)
 
--- Types behind a name
+-- Types after a name
 
 is_type_at : (x : Token) (k : TokenKind) → k ≡ x.kind → is_type x ≡ is_type (token x.place k)
 is_type_at x k e = ap (λ z. is_type (token x.place z)) (sym e)
@@ -137,7 +137,7 @@ pub declaration_second : (d : DeclarationTree) (s m m2 : List Token) (x y : Toke
     → x.kind ≡ kinds.Name text → is_type y ≡ true
 declaration_second d s m m2 x y text v eq is = type_second d.declared v.0 (v.1 ++ m) m2 x y text v.3 (front s m (y ∷ m2) x v eq) is
 
--- What goes on behind a name is told by `follows_name`
+-- What goes on after a name is told by `follows_name`
 
 type_stops : (k : TokenKind) (p : Span) → is_type (token p k) ≡ true → follows_name (token p k) ≡ false
 type_stops (kinds.Sign signs.Uint64) p e = refl

@@ -209,7 +209,7 @@ action_statement_reads max_height w en =
 module _ (max_height : ℕ) (two : 2 ≤ max_height) (in_loop : Bool) (inner : Inner)
     (reads_inner : (w : List Token) → IsEnded w → Reads (IsStatement in_loop) (LowStatement (max_height - 1)) Follow w (inner w))
   where
-    -- `else` and its statement, or nothing, behind the statement s
+    -- `else` and its statement, or nothing, after the statement s
     pub ElseTail : StatementTree → Option StatementTree → Phrase
     ElseTail s None ts = nothing ts
     ElseTail s (Some t) ts = Closed s × (sign signs.Else then IsStatement in_loop t) ts

@@ -189,7 +189,7 @@ pub passes_on : {Y Z : Type 0} (s : Stopped) (o : Outcome Y) (u : Outcome Z) (k 
 passes_on Memory o u k f t = tt
 passes_on (At p r) o u k f t = f p r.now t
 
--- what was found stays, where what closes it stands behind it
+-- what was found stays, where what closes it stands after it
 pub closed_takes : {A B Y Z : Type 0} (found : A) (close : Result (B × Bor (List Token)) Stopped) (r : Result (A × Bor (List Token)) Stopped)
     (view : A → Y) (seen : B → Z) (o : Outcome Z) (k n : ℕ) → k ≤ n → Closed found close r → Gives (λ x. (seen x.0, x.1.now)) close o → IfOk close
     (λ x. length x.1.now < k) → Takes (λ x. (view x.0, x.1.now)) r (o >>= λ b. Ok (view found, b.1)) n
@@ -234,7 +234,7 @@ variables_full found w l = ap (λ b. not (at_sign signs.Comma w && b)) (le-ltb (
     go true = refl
     go false = refl
 
--- what stops behind a comma
+-- what stops after a comma
 pub comma_fails : {A : Type 0} (inner : List Token → Outcome A) (w r r2 : List Token) (q : Span) (p : ParseProblem) → expect signs.Comma w ≡ Ok (q, r)
     → inner r ≡ Err (p, r2) → comma_then inner w ≡ Err (p, r2)
 comma_fails inner w r r2 q p e f = ap (λ o. o >>= λ a. inner a.1) e ∙ f

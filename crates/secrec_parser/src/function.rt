@@ -39,7 +39,7 @@ fn domain_variable<'a>(alloc: Global, tokens: &'a [Token]) -> Read<'a, DomainVar
     Ok((DomainVariable { variable, kind }, rest))
 }
 
-/// The domain variables of a template behind the first, which is given.
+/// The domain variables of a template after the first, which is given.
 fn more_variables<'a>(
     alloc: Global,
     first: DomainVariable,
@@ -96,7 +96,7 @@ fn parameter<'a>(alloc: Global, tokens: &'a [Token]) -> Read<'a, Parameter>
     Ok((Parameter { declared, variable }, rest))
 }
 
-/// The parameters of a function behind the first, which is given.
+/// The parameters of a function after the first, which is given.
 fn more_parameters<'a>(
     alloc: Global,
     first: Parameter,

@@ -1,7 +1,7 @@
 //! The parser: from the tokens of a text to the tree of its program.
 //!
 //! `specs/Grammar.antt` says for each tree which tokens spell it, and `specs/FirstFault.antt` where tokens that spell none
-//! are at fault first. Each function reads one phrase from the front of the tokens and gives the tokens behind it.
+//! are at fault first. Each function reads one phrase from the front of the tokens and gives the tokens after it.
 #![tactic(auto)]
 
 mod assignment;

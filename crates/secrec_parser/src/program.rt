@@ -21,7 +21,7 @@ fn named<'a>(alloc: Global, tokens: &'a [Token]) -> Read<'a, Identifier>
     closed(name, expect(Sign::Semicolon, rest))
 }
 
-/// A domain and its kind, behind the keyword.
+/// A domain and its kind, after the keyword.
 #[tactic(auto, unfolding(crate::specs::inner::Steps::domain_item))]
 fn domain<'a>(alloc: Global, tokens: &'a [Token]) -> Read<'a, Item>
     ensures { Takes (λ x. (item_tree x.0, x.1.now)) result (domain_item tokens.now) (length tokens.now) }

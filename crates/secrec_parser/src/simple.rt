@@ -70,7 +70,7 @@ pub fn action_statement<'a>(
     closed(action.into_statement(), expect(Sign::Semicolon, rest))
 }
 
-/// Whether a token goes on with an assignment or an expression behind a name.
+/// Whether a token goes on with an assignment or an expression after a name.
 fn follows_name(token: &Token) -> bool
     ensures { result ≡ follows_name token.now }
 {
@@ -81,7 +81,7 @@ fn follows_name(token: &Token) -> bool
         || operator_of(token).is_some()
 }
 
-/// What is wrong behind a name where a declaration alone has room, and none stands.
+/// What is wrong after a name where a declaration alone has room, and none stands.
 fn fault_behind_name(tokens: &[Token]) -> ParseProblem
     ensures { only_declares tokens.now ≡ Err (result, tokens.now) }
 {
@@ -95,7 +95,7 @@ fn fault_behind_name(tokens: &[Token]) -> ParseProblem
     }
 }
 
-/// A statement that begins with a name, behind which the rest stands.
+/// A statement that begins with a name, after which the rest stands.
 #[tactic(auto, unfolding(crate::specs::inner::Steps::name_statement))]
 pub fn name_statement<'a>(
     alloc: Global,
@@ -210,7 +210,7 @@ fn last<'a>(alloc: Global, tokens: &'a [Token], max_height: u8) -> Read<'a, ForS
     Ok((action.into_step(), rest))
 }
 
-/// The first part of a `for`, with the parenthesis before it and the semicolon behind it.
+/// The first part of a `for`, with the parenthesis before it and the semicolon after it.
 #[tactic(auto, unfolding(crate::specs::inner::Steps::start_part))]
 fn start_part<'a>(alloc: Global, tokens: &'a [Token], max_height: u8) -> Read<'a, ForStart>
     requires { 1 ≤ max_height }
@@ -221,7 +221,7 @@ fn start_part<'a>(alloc: Global, tokens: &'a [Token], max_height: u8) -> Read<'a
     closed(found, expect(Sign::Semicolon, rest))
 }
 
-/// The third part of a `for`, with the parenthesis behind it.
+/// The third part of a `for`, with the parenthesis after it.
 #[tactic(auto, unfolding(crate::specs::inner::Steps::last_part))]
 fn last_part<'a>(alloc: Global, tokens: &'a [Token], max_height: u8) -> Read<'a, ForStep>
     ensures { Takes (λ x. (step_tree x.0, x.1.now)) result (last_part max_height tokens.now) (length tokens.now) }

@@ -35,50 +35,33 @@ word_operator sign.GreaterOrEqual = Some word.GreaterOrEqual
 word_operator sign.And = Some word.And
 word_operator sign.Or = Some word.Or
 word_operator sign.Xor = Some word.Xor
-word_operator sign.AndAlso = None
-word_operator sign.OrElse = None
+word_operator _ = None
 
 -- `&&` and `||` that can't cut short are `&` and `|`
 abbrev pub bool_operator : Operator → Option BoolOperator
-bool_operator sign.Add = None
-bool_operator sign.Subtract = None
-bool_operator sign.Multiply = None
-bool_operator sign.Divide = None
-bool_operator sign.Remainder = None
 bool_operator sign.Equal = Some truth.Equal
 bool_operator sign.NotEqual = Some truth.NotEqual
-bool_operator sign.Less = None
-bool_operator sign.LessOrEqual = None
-bool_operator sign.Greater = None
-bool_operator sign.GreaterOrEqual = None
 bool_operator sign.And = Some truth.And
 bool_operator sign.Or = Some truth.Or
 bool_operator sign.Xor = Some truth.Xor
 bool_operator sign.AndAlso = Some truth.And
 bool_operator sign.OrElse = Some truth.Or
+bool_operator _ = None
 
 abbrev pub operator_on : Operator → DataType → DataType → Option BinaryOperator
 operator_on op Uint64 Uint64 = option_map Words (word_operator op)
-operator_on op Uint64 datatype.Bool = None
-operator_on op datatype.Bool Uint64 = None
 operator_on op datatype.Bool datatype.Bool = option_map Bools (bool_operator op)
+operator_on op _ _ = None
 
--- a comparison of words gives truth values
+-- a comparison of words gives truth values, and another operator words
 abbrev pub word_result : WordOperator → DataType
-word_result word.Add = Uint64
-word_result word.Subtract = Uint64
-word_result word.Multiply = Uint64
-word_result word.Divide = Uint64
-word_result word.Remainder = Uint64
 word_result word.Equal = datatype.Bool
 word_result word.NotEqual = datatype.Bool
 word_result word.Less = datatype.Bool
 word_result word.LessOrEqual = datatype.Bool
 word_result word.Greater = datatype.Bool
 word_result word.GreaterOrEqual = datatype.Bool
-word_result word.And = Uint64
-word_result word.Or = Uint64
-word_result word.Xor = Uint64
+word_result _ = Uint64
 
 abbrev pub element_made : BinaryOperator → DataType
 element_made (Words op) = word_result op

@@ -13,7 +13,7 @@ pub enum TypedExpression {
     Call(u32, usize, Vec<TypedExpression>),
     /// How many elements an array has.
     Size(Box<TypedExpression>),
-    /// An array and the elements of another behind it.
+    /// An array and the elements of another after it.
     Cat(u32, Box<TypedExpression>, Box<TypedExpression>),
     /// The sum of an array of words.
     Sum(Box<TypedExpression>),

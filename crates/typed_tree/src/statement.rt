@@ -13,7 +13,7 @@ pub enum TypedStatement {
     If(TypedExpression, Box<TypedStatement>, Box<TypedStatement>),
     /// While the condition is true: the body, and then the step. `continue` goes to the step.
     Loop(TypedExpression, Box<TypedStatement>, Box<TypedStatement>),
-    /// The body, again while the condition behind it is true. `continue` goes to the condition.
+    /// The body, again while the condition after it is true. `continue` goes to the condition.
     DoWhile(Box<TypedStatement>, TypedExpression),
     Break,
     Continue,
@@ -27,7 +27,7 @@ pub enum TypedStatement {
     Fill(u32, usize, TypedExpression, TypedExpression),
     /// Stores the input of this name in the slot of this number.
     Input(u32, usize, Name),
-    /// Stores at this index of the array in the slot of this number the value behind.
+    /// Stores at this index of the array in the slot of this number the value after.
     StoreElement(u32, usize, TypedExpression, TypedExpression),
     /// Gives a value to the client, under a name.
     Publish(Name, TypedExpression),

@@ -24,7 +24,8 @@ use Rattle.domain_types.specs.Typing as typing
 use Rattle.typed_tree.specs.declared.kinds.SlotDomain.{SlotDomain}
 use Rattle.typed_tree.specs.declared.kinds.SlotDomain.TheVariants as slot
 use Rattle.typed_tree.specs.declared.kinds.Slot.{Slot}
-use Rattle.name_resolution.specs.Functions.{variable_number, domain_named, slot_domain, slot_in, slot_written, and_slots, slots_written}
+use Rattle.name_resolution.specs.Values.{and_more}
+use Rattle.name_resolution.specs.Functions.{variable_number, domain_named, slot_domain, slot_in, slot_written, slots_written}
 use Rattle.name_resolution.proofs.SoundValues.{mapped, both_there, some_is}
 use Rattle.reached_instances.specs.declared.instance.BoundDomain.{BoundDomain}
 use Rattle.reached_instances.specs.declared.instance.BoundDomain.TheVariants.{Public, Private}
@@ -154,7 +155,7 @@ pub slots_first : (k : Declared) (vs : List DomainVariable) (t : DeclaredType) (
     → slots_written k vs (t ∷ ts) ≡ Some ss → (s : Slot) × (rest : List Slot) × (slot_written k vs t ≡ Some s) × (slots_written k vs ts ≡ Some rest)
     × (s ∷ rest ≡ ss)
 slots_first k vs t ts ss e =
-    let m = both_there and_slots (slot_written k vs t) (slots_written k vs ts) ss e in
+    let m = both_there and_more (slot_written k vs t) (slots_written k vs ts) ss e in
     (m.left, m.right, m.left_there, m.right_there, some_is (m.left ∷ m.right) ss m.is)
 
 bound_to_none : (i : ℕ) (ss : List Slot) → bound_to i ss [] ≡ Public

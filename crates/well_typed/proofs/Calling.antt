@@ -19,11 +19,12 @@ use Rattle.domain_types.specs.BuiltIn.TheVariants.{Size, Cat, Sum, BitExtract}
 use Rattle.domain_types.specs.Declarations.{Declared, declared_by, functions_of, defined, callee}
 use Rattle.domain_types.specs.Settings.{Setting, domain_of, in_domain, type_written}
 use Rattle.domain_types.specs.Scopes as checked
-use Rattle.domain_types.specs.ExpressionTypes.{within, with_domain, binding_by, defined_faults, result_type}
+use Rattle.domain_types.specs.ExpressionTypes.{within, binding_by, defined_faults, result_type}
 use Rattle.domain_types.specs.FunctionTypes as head
 use Rattle.sc_text.specs.Lists.{Among}
 use Rattle.domain_types.specs.Reached.{Call, Instance, Calls, IsChecked, reached, function_calls, call_of}
 use Rattle.domain_types.specs.Typing.{IsBuiltInCall, ParameterTakes, ParametersTake, AreBound, AreParameters, IsDefinedCall, IsTypedProgram}
+use Rattle.domain_types.proofs.Bindings.{with_domain}
 use Rattle.domain_types.proofs.TypingSteps.{there, passes}
 use Rattle.domain_types.proofs.TypingCalls.{defined_from}
 use Rattle.typed_tree.specs.declared.kinds.Shape.{Shape}

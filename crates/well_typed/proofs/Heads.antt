@@ -1,4 +1,4 @@
--- The head of a typed function: its first slots are its parameters, whatever its body declares behind them.
+-- The head of a typed function: its first slots are its parameters, whatever its body declares after them.
 use Rattle.std.proofs.Common.{◌≡◌, ℕ, zero, suc, List, [], ◌∷◌, ◌++◌, length, refl, sym, ap, ◌∙◌, subst, Option, Some, None, true, append_assoc, append-nil}
 use Rattle.std.specs.Prelude.{map}
 use Rattle.std.specs.List.{slice_get}
@@ -24,8 +24,9 @@ use Rattle.name_resolution.specs.Resolving.{Resolving, ◌>>=◌, done, reading,
 use Rattle.name_resolution.specs.Bodies.{calling, evaluated, default_of, from_value, initial, declared, assigned_to, assigned, started, stepped}
 use Rattle.name_resolution.specs.Bodies.{condition_of, returned, looped, resolved, resolved_all}
 use Rattle.typed_tree.specs.Programs.{TypedFunctionTree}
+use Rattle.name_resolution.specs.Values.{and_more}
 use Rattle.name_resolution.specs.Functions.{slots_written, given_back, with_parameters, function_made, function_from, function_behind, typed_function}
-use Rattle.name_resolution.specs.Functions.{and_functions, typed_functions}
+use Rattle.name_resolution.specs.Functions.{typed_functions}
 use Rattle.name_resolution.proofs.SoundValues.{both_there, then_there, some_is}
 use Rattle.well_typed.proofs.Bindings.{declared_type}
 use Rattle.well_typed.proofs.SlotsWritten.{slots_split}
@@ -238,12 +239,12 @@ pub function_at : (k : Declared) (fs : List FunctionTree) (ts : List TypedFuncti
     → slice_get fs n ≡ Some f → (t : TypedFunctionTree) × (slice_get ts n ≡ Some t) × (typed_function k f ≡ Some t)
 function_at k [] ts n f e h = cc
 function_at k (g ∷ gs) ts zero f e h =
-    let m = both_there and_functions (typed_function k g) (typed_functions k gs) ts e in (
+    let m = both_there and_more (typed_function k g) (typed_functions k gs) ts e in (
       m.left,
       ap (λ (z : List TypedFunctionTree). slice_get z zero) (sym (some_is (m.left ∷ m.right) ts m.is)),
       ap (typed_function k) (sym (same_Some g f h)) ∙ m.left_there,
     )
 function_at k (g ∷ gs) ts (suc n) f e h =
-    let m = both_there and_functions (typed_function k g) (typed_functions k gs) ts e in
+    let m = both_there and_more (typed_function k g) (typed_functions k gs) ts e in
     let r = function_at k gs m.right n f m.right_there h in
     (r.0, ap (λ (z : List TypedFunctionTree). slice_get z (suc n)) (sym (some_is (m.left ∷ m.right) ts m.is)) ∙ r.1, r.2)

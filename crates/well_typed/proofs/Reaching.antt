@@ -11,7 +11,8 @@ use Rattle.secrec_ast.specs.Programs.{FunctionTree, ProgramTree}
 use Rattle.domain_types.specs.Declarations.{Declared, declared_by, functions_of, defined, function_named, callee}
 use Rattle.sc_text.specs.Lists.{Among}
 use Rattle.domain_types.specs.Reached.{plain}
-use Rattle.domain_types.specs.ProgramTypes.{is_without, is_void, is_main, has_main}
+use Rattle.domain_types.specs.Types.{is_without}
+use Rattle.domain_types.specs.ProgramTypes.{is_void, is_main, has_main}
 use Rattle.domain_types.specs.Typing.{IsTypedProgram}
 use Rattle.domain_types.proofs.TypingPrograms.{accepted_is_typed}
 use Rattle.typed_tree.specs.declared.function.Returned.TheVariants as given

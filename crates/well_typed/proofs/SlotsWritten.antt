@@ -4,6 +4,7 @@ use Rattle.std.proofs.Common.{true, false, cond, arith}
 use Rattle.std.specs.Prelude.{map, bytes_eq, option_map, unwrap_or}
 use Rattle.std.specs.List.{slice_get}
 use Rattle.std.proofs.lemmas.Option.{same_Some, slice_get-map}
+use Rattle.std.specs.Option.{option_or}
 use Rattle.secrec_ast.specs.declared.statement.Domain.{Domain}
 use Rattle.secrec_ast.specs.declared.statement.Domain.TheVariants as domain
 use Rattle.secrec_ast.specs.declared.statement.DeclaredType.{DeclaredType}
@@ -13,15 +14,15 @@ use Rattle.domain_types.specs.declared.value_type.Protection.{Protection}
 use Rattle.domain_types.specs.declared.value_type.Protection.TheVariants as checked
 use Rattle.domain_types.specs.declared.value_type.ValueType.{ValueType}
 use Rattle.domain_types.specs.Declarations.{Declared, number_in}
-use Rattle.domain_types.specs.Settings.{Setting, bind, bound_to, private_domain, domain_of_name, domain_of, in_domain, type_written}
+use Rattle.domain_types.specs.Settings.{Setting, bind, bound_to, domain_of, in_domain, type_written}
 use Rattle.domain_types.specs.ExpressionTypes.{within}
 use Rattle.typed_tree.specs.declared.kinds.Shape.{Shape}
 use Rattle.typed_tree.specs.declared.kinds.SlotDomain.{SlotDomain}
 use Rattle.typed_tree.specs.declared.kinds.SlotDomain.TheVariants as slot
 use Rattle.typed_tree.specs.declared.kinds.Slot.{Slot}
 use Rattle.typed_tree.specs.Shapes.{shape_of}
-use Rattle.name_resolution.specs.Values.{of_both}
-use Rattle.name_resolution.specs.Functions.{variable_number, domain_named, slot_domain, slot_in, slot_written, and_slots, slots_written, with_functions}
+use Rattle.name_resolution.specs.Values.{of_both, and_more}
+use Rattle.name_resolution.specs.Functions.{variable_number, domain_named, slot_domain, slot_in, slot_written, slots_written, with_functions}
 use Rattle.name_resolution.proofs.SoundValues.{mapped, some_is}
 use Rattle.reached_instances.specs.declared.instance.BoundDomain.{BoundDomain}
 use Rattle.reached_instances.specs.declared.instance.BoundDomain.TheVariants.{Public}
@@ -53,7 +54,7 @@ named_bound x (v ∷ vs) (d ∷ ds) u n e = go (bytes_eq x v.variable.text) e (�
         let at : u ≡ suc m.part = omega arith in
         (r.0, r.1, ap (slice_get (d ∷ ds)) at ∙ r.2)
 
-private_same : (o : Option ℕ) (b : List BoundDomain) (d : Protection) (s : SlotDomain) → private_domain o ≡ Some d
+private_same : (o : Option ℕ) (b : List BoundDomain) (d : Protection) (s : SlotDomain) → option_map checked.Private o ≡ Some d
     → option_map slot.Private o ≡ Some s → domain_under b s ≡ bound_domain d
 private_same None b d s e h = cc
 private_same (Some k) b d s e h = ap (domain_under b) (sym (some_is (slot.Private k) s h)) ∙ ap bound_domain (same_Some (checked.Private k) d e)
@@ -69,15 +70,18 @@ domain_same d fs vs ds n (domain.Named x) p s e h = go (variable_number x.text v
     w : Setting
     w = record { declared = d; bound = bind vs ds }
 
+    known : Option Protection → Option Protection
+    known o = option_or o (option_map checked.Private (number_in x.text d.domains))
+
     go : (o : Option ℕ) → variable_number x.text vs ≡ o → domain_named (with_functions d fs) x.text o ≡ Some s
         → domain_under (map bound_domain ds) s ≡ bound_domain p
     go (Some u) q g =
         let r = named_bound x.text vs ds u n q in
-        let same : r.0 ≡ p = same_Some r.0 p (sym (ap (domain_of_name w x.text) r.1) ∙ e) in
+        let same : r.0 ≡ p = same_Some r.0 p (sym (ap known r.1) ∙ e) in
         ap (domain_under (map bound_domain ds)) (sym (some_is (slot.Variable u) s g))
         ∙ ap (λ o. unwrap_or o Public) (slice_get-map bound_domain ds u ∙ ap (option_map bound_domain) r.2)
         ∙ ap bound_domain same
-    go None q g = private_same (number_in x.text d.domains) (map bound_domain ds) p s (sym (ap (domain_of_name w x.text) (unbound x.text vs ds q)) ∙ e) g
+    go None q g = private_same (number_in x.text d.domains) (map bound_domain ds) p s (sym (ap known (unbound x.text vs ds q)) ∙ e) g
 
 -- under this binding a slot holds values of this type
 pub record SlotIs (b : List BoundDomain) (s : Slot) (v : ValueType) : Type 0 where
@@ -116,7 +120,7 @@ slots_split k vs (t ∷ ts) us ss e =
     (f.0 ∷ r.0, r.1, written f.0 r.0 f.2 r.2, sym f.4 ∙ ap (λ z. f.0 ∷ z) r.3)
   where
     written : (s : Slot) (rest : List Slot) → slot_written k vs t ≡ Some s → slots_written k vs ts ≡ Some rest → slots_written k vs (t ∷ ts) ≡ Some (s ∷ rest)
-    written s rest a b = ap₂ (of_both and_slots) a b
+    written s rest a b = ap₂ (of_both and_more) a b
 
 pub slots_count : (k : Declared) (vs : List DomainVariable) (ts : List DeclaredType) (ss : List Slot) → slots_written k vs ts ≡ Some ss → length ss ≡ length ts
 slots_count k vs [] ss e = ap length (sym (some_is [] ss e))

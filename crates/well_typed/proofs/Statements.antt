@@ -43,9 +43,9 @@ use Rattle.typed_tree.specs.Statements.{do_statement, break_statement, continue_
 use Rattle.typed_tree.specs.Statements.{default_statement, fill_statement, input_statement, element_statement, publish_statement, evaluate_statement}
 use Rattle.name_resolution.specs.Scopes.{FunctionScope, known_of, variable_named, shape_written, declaring}
 use Rattle.typed_tree.specs.Shapes.{shape_of}
-use Rattle.name_resolution.specs.Values.{value, call_made}
-use Rattle.name_resolution.specs.Resolving.{Resolving, carry, ◌>>=◌, done, reading, in_block, tree_in, resolved_value, expression, known_at, named}
-use Rattle.name_resolution.specs.Bodies.{tree_in_call, calling, evaluated, default_of, from_value, initial, declared, assigned_to, assigned, started}
+use Rattle.name_resolution.specs.Values.{TypedCall, value, call_made, tree_of_value}
+use Rattle.name_resolution.specs.Resolving.{Resolving, carry, ◌>>=◌, done, reading, in_block, resolved_value, expression, known_at, named}
+use Rattle.name_resolution.specs.Bodies.{calling, evaluated, default_of, from_value, initial, declared, assigned_to, assigned, started}
 use Rattle.name_resolution.specs.Bodies.{stepped, condition_of, returned, looped, resolved, resolved_all}
 use Rattle.name_resolution.specs.Functions.{slot_written, slots_written}
 use Rattle.name_resolution.specs.Functions as functions
@@ -236,7 +236,7 @@ module _ (p : ProgramTree) (z : Frame p) (g : Returned) where
     where
       one : (b : FunctionScope) (t : TypedTree) → Same (here z) s b.scope → resolved_value (known_in p) e b ≡ Some t → GoodTree p (here z) v t
       one b t m i =
-          let r = mapped tree_in (value (known_in p) b.scope e) t i in
+          let r = mapped tree_of_value (value (known_in p) b.scope e) t i in
           let x = good_value_of p z s b.scope m e v a c w h r.part r.there in
           let is : GoodTree p (here z) v r.part.tree = record { gives = x.gives; seen_by = x.seen_by; called = x.called } in
           subst (GoodTree p (here z) v) r.is is
@@ -255,7 +255,7 @@ module _ (p : ProgramTree) (z : Frame p) (g : Returned) where
     where
       one : (b : FunctionScope) (u : TypedTree) → Same (here z) s b.scope → calling (known_in p) q.line x es b ≡ Some u → GoodAny p (here z) u
       one b u m i =
-          let r = mapped tree_in_call (call_made (known_in p) b.scope q.line x es) u i in
+          let r = mapped (λ (c : TypedCall). c.tree) (call_made (known_in p) b.scope q.line x es) u i in
           let k = good_call p z s b.scope m q x es t a c w h r.part r.there in
           let is : GoodAny p (here z) r.part.tree = record { given = shape_of_type t; gives = k.gives; called = k.called } in
           subst (GoodAny p (here z)) r.is is

@@ -1,4 +1,4 @@
--- Resolving, step by step: what holds between the place before a step, what it makes, and the place behind it.
+-- Resolving, step by step: what holds between the place before a step, what it makes, and the place after it.
 use Rattle.std.proofs.Common.{◌≡◌, ℕ, length, refl, subst, Option, Some, None}
 use Rattle.std.specs.Prelude.{option_map}
 use Rattle.secrec_ast.specs.declared.statement.Identifier.{Identifier}

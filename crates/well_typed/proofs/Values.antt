@@ -27,7 +27,7 @@ use Rattle.typed_tree.specs.Operators.{operator_on}
 use Rattle.name_resolution.specs.Scopes.{Variable, Scope, variable_in, variable_named}
 use Rattle.name_resolution.specs.Values.{TypedValue, TypedCall, made, of_both, variable_value, element_value, negated, cast_value, declassified_value}
 use Rattle.name_resolution.specs.Values.{operation_made, operation, gives_value, with_shape, value_given, shape_returned, built_in_value, called}
-use Rattle.name_resolution.specs.Values.{and_values, value, values, call_made}
+use Rattle.name_resolution.specs.Values.{and_more, value, values, call_made}
 use Rattle.name_resolution.proofs.SoundValues.{mapped, both_there, then_there, some_is}
 use Rattle.reached_instances.specs.Domains as domains
 use Rattle.program_typing.proofs.TreesOfValues.{Agrees, Agree, agree_left, agree_right, names_in, names_in_all}
@@ -226,7 +226,7 @@ module _ (p : ProgramTree) (z : Frame p) where
     good_values_of s u m Tree'.none gs a c w h xs i = subst (AllGood p (here z) xs) (sym h) (subst (λ xs. AllGood p (here z) xs []) (some_is [] xs i) tt)
     good_values_of s u m (Tree'.also e es) [] a c w h xs i = absurd h
     good_values_of s u m (Tree'.also e es) (g ∷ gs) a c w h xs i =
-        let r = both_there and_values (value (known_in p) u e) (values (known_in p) u es) xs i in
+        let r = both_there and_more (value (known_in p) u e) (values (known_in p) u es) xs i in
         let one = good_value_of s u m e g.given (agree_left (declared_by p) (known_in p) (names_in e) (names_in_all es) a)
         (made_left (calls_of (setting z) s e) (calls_of_all (setting z) s es) c) w.0 h.0 r.left r.left_there in
         let rest = good_values_of s u m es gs (agree_right (declared_by p) (known_in p) (names_in e) (names_in_all es) a)

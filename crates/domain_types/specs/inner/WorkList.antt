@@ -11,16 +11,16 @@ use Rattle.domain_types.specs.ExpressionTypes.{within}
 use Rattle.domain_types.specs.FunctionTypes.{function_faults, domain_variables_faults}
 use Rattle.sc_text.specs.Lists.{Among}
 use Rattle.domain_types.specs.Reached.{Call, function_calls, Instance}
-use Rattle.domain_types.specs.ProgramTypes.{is_without}
+use Rattle.domain_types.specs.Types.{is_without}
 use Rattle.domain_types.specs.Instances.{is_listed, IsEachOnce}
 
 -- WHAT IS LISTED
 
--- behind one more instance, which is not listed twice
+-- after one more instance, which is not listed twice
 abbrev pub added : List Instance → Instance → List Instance
 added is i = if is_listed i is then is else is ++ i ∷ []
 
--- behind a call of this function: a call that is refused lists nothing
+-- after a call of this function: a call that is refused lists nothing
 abbrev pub with_binding : List Instance → ℕ → Option (List Protection) → List Instance
 with_binding is k None = is
 with_binding is k (Some ds) = added is (record { function = k; binding = ds })
@@ -29,7 +29,7 @@ abbrev pub with_calls : List Instance → List Call → List Instance
 with_calls is [] = is
 with_calls is (c ∷ cs) = with_calls (with_binding is c.function c.binding) cs
 
--- behind the plain functions among these, which are numbered from n on
+-- after the plain functions among these, which are numbered from n on
 abbrev pub with_plain : List Instance → ℕ → List FunctionTree → List Instance
 with_plain is n [] = is
 with_plain is n (f ∷ fs) =

@@ -50,7 +50,7 @@ typed_statement_in c = typed_statement c.value
 abbrev pub typed_statements_seen : Vec TypedStatement Global → TypedStatementTrees
 typed_statements_seen cs = typed_statements_of (map typed_statement cs.items)
 
--- what is made of a piece, with the place behind it
+-- what is made of a piece, with the place after it
 abbrev pub with_place : {A B : Type 0} → (A → B) → scopes.FunctionScope → A → B × scopes.FunctionScope
 with_place view s a = (view a, s)
 

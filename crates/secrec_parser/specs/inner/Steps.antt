@@ -384,7 +384,7 @@ action_statement max_height w = do
   b ← expect signs.Semicolon a.1
   Ok (statement_of a.0, b.1)
 
--- what goes on with an assignment or an expression behind a name
+-- what goes on with an assignment or an expression after a name
 abbrev pub is_operator : Option Operator → Bool
 is_operator None = false
 is_operator (Some op) = true
@@ -394,7 +394,7 @@ follows_name x =
     is_sign signs.LeftParenthesis x || is_sign signs.LeftBracket x || is_sign signs.Semicolon x
     || updates_by (update_of x) || is_operator (operator_at x.kind)
 
--- behind a name where a declaration alone has room
+-- after a name where a declaration alone has room
 abbrev pub only_declares : List Token → Outcome StatementTree
 only_declares [] = Err (Unexpected, [])
 only_declares (y ∷ m) = if follows_name y then Err (TooHigh, y ∷ m) else Err (Unexpected, y ∷ m)
@@ -454,7 +454,7 @@ domain_variable w = do
   k ← constraint x.1
   Ok (record { variable = x.0; kind = k.0 }, k.1)
 
--- behind a comma
+-- after a comma
 abbrev pub comma_then : {A : Type 0} → (List Token → Outcome A) → List Token → Outcome A
 comma_then inner w = expect signs.Comma w >>= λ a. inner a.1
 

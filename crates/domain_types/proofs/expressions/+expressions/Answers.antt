@@ -8,9 +8,10 @@ use Rattle.secrec_ast.specs.Equations.{call_is, index_is, negation_is, binary_is
 use Rattle.domain_types.specs.declared.calls.Found.{Found}
 use Rattle.domain_types.specs.declared.value_type.Argument.{Argument}
 use Rattle.domain_types.specs.declared.value_type.ExpressionType.{ExpressionType}
+use Rattle.domain_types.specs.declared.value_type.ExpressionType.TheVariants.{Value}
 use Rattle.domain_types.specs.Types.{of_typed}
 use Rattle.declarations.specs.Declarations.{callee}
-use Rattle.domain_types.specs.ExpressionTypes.{and_argument, of_two, given_value, negation_type, operator_type, index_type, call_type}
+use Rattle.domain_types.specs.ExpressionTypes.{and_argument, of_two, negation_type, operator_type, index_type, call_type}
 use Rattle.domain_types.specs.ExpressionTypes.{negation_faults, operator_faults, index_faults, call_faults, type_of, value_type, faults, value_faults}
 use Rattle.domain_types.specs.ExpressionTypes.{arguments_of, argument_list_faults}
 use Rattle.domain_types.specs.Reached.{calls_of, calls_of_all, call_of}
@@ -71,7 +72,7 @@ expression-returns-in_ok-value-in-Not t c =
     subst (λ (x : Expression). Gives (value_type w s (expression x)) v f g (value_faults w s (expression x)) (calls_of w s (expression x))) lent
     c.in_ok-value-in-Not.ensures in
     let kind : c.given-in-Not.result ≡ type_of w s (negation p e) =
-    c.given-in-Not.ensures ∙ ap given_value (c.negation.ensures.kind ∙ ap (option_and_then (negation_type p)) part.kind) in
+    c.given-in-Not.ensures ∙ ap (option_map Value) (c.negation.ensures.kind ∙ ap (option_and_then (negation_type p)) part.kind) in
     subst (λ (x : Tree). Gives (type_of w s x) c.given-in-Not.result f h (faults w s x) (calls_of w s x)) (sym (ap expression c.in-Not.is ∙ negation_is _ _))
     (one_part w s e f g h v (type_of w s (negation p e)) c.given-in-Not.result (negation_faults p) part kind c.negation.ensures.least_fault refl)
 
@@ -98,7 +99,7 @@ expression-returns-in_ok-b-in-Binary t c =
     subst (λ (x : Expression). Gives (value_type w s (expression x)) v g h (value_faults w s (expression x)) (calls_of w s (expression x))) other
     c.in_ok-b-in-Binary.ensures in
     let kind : c.given-in-Binary.result ≡ type_of w s (binary p op a b) =
-    c.given-in-Binary.ensures ∙ ap given_value
+    c.given-in-Binary.ensures ∙ ap (option_map Value)
     (c.operation.ensures.kind ∙ ap (λ z. of_two (operator_type p op) z v) left.kind ∙ ap (of_two (operator_type p op) (value_type w s a)) right.kind) in
     subst (λ (x : Tree). Gives (type_of w s x) c.given-in-Binary.result f k (faults w s x) (calls_of w s x))
     (sym (ap expression c.in-Binary.is ∙ binary_is _ _ _ _))
@@ -130,7 +131,7 @@ expression-returns-in_ok-counted-in-Index t c =
     c.in_ok-counted-in-Index.ensures in
     let kind : c.given-in-Index.result ≡ type_of w s (index p a b) =
     c.given-in-Index.ensures
-    ∙ ap given_value (c.indexing.ensures.kind ∙ ap (λ q. of_two (index_type p q) u v) at ∙ ap (λ z. of_two (index_type p (place_of b)) z v) left.kind
+    ∙ ap (option_map Value) (c.indexing.ensures.kind ∙ ap (λ q. of_two (index_type p q) u v) at ∙ ap (λ z. of_two (index_type p (place_of b)) z v) left.kind
     ∙ ap (of_two (index_type p (place_of b)) (value_type w s a)) right.kind) in
     let least_fault = c.indexing.ensures.least_fault ∙ ap (λ q. least h.least_fault (of_typed u (λ t. of_typed v (index_faults p q t)))) at in
     subst (λ (x : Tree). Gives (type_of w s x) c.given-in-Index.result f k (faults w s x) (calls_of w s x)) (sym (ap expression c.in-Index.is ∙ index_is _ _ _))

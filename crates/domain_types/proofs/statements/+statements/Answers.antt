@@ -8,14 +8,15 @@ use Rattle.secrec_ast.specs.Equations.{block_statement_is, branch_statement_is, 
 use Rattle.secrec_ast.specs.Equations.{for_statement_is, return_statement_is}
 use Rattle.domain_types.specs.declared.fault.TypeProblem.TheVariants.{PrivateCondition}
 use Rattle.domain_types.specs.Scopes.{inner, leaving}
-use Rattle.domain_types.specs.StatementTypes.{after, after_all, test_faults, statement_faults, block_faults, optional_faults, return_rule, optional_type}
+use Rattle.domain_types.specs.StatementTypes.{after, after_all, test_faults, statement_faults, block_faults, optional_faults, return_own}
 use Rattle.domain_types.specs.Reached.{calls_of, statement_calls, block_calls}
 use Rattle.domain_types.specs.Views.{setting, calls_seen}
+use Rattle.domain_types.specs.inner.Given.{return_rule}
 use Rattle.domain_types.specs.inner.LeastFault.{least}
 use Rattle.domain_types.proofs.Faults.{least-append}
 use Rattle.domain_types.proofs.Visits.{then_least, then_calls}
 use Rattle.domain_types.proofs.Blocks.{after_all-more, block_faults-more, block_calls-more, after_all_outer, after_start_outer, leaving_inner}
-use Rattle.domain_types.proofs.Blocks.{leave_fits, for_least_fault, for_calls}
+use Rattle.domain_types.proofs.Blocks.{leave_fits, for_least_fault, for_calls, return_by_type}
 use Rattle.domain_types.proofs.statements.+statements.Goals as goal
 
 pub statement-leave-requires : goal.statement-leave-requires
@@ -233,9 +234,10 @@ statement-returns-in_ok-given-in-Return-clause-least_fault t c =
     let o = c.args.found.now.least_fault in
     let e = optional c.in-Return.e in
     then_least o c.optional_value-in-Return.new.found.least_fault c.returning.new.least_fault (optional_faults w s e)
-    (return_rule w c.in-Return.place r e (optional_type w s e)) c.in_ok-given-in-Return.ensures.least_fault
+    (return_own w s c.in-Return.place r e) c.in_ok-given-in-Return.ensures.least_fault
     (c.returning.ensures ∙ ap (λ g. least c.optional_value-in-Return.new.found.least_fault (return_rule w c.in-Return.place r e g))
-    c.in_ok-given-in-Return.ensures.kind)
+    c.in_ok-given-in-Return.ensures.kind
+    ∙ ap (least c.optional_value-in-Return.new.found.least_fault) (return_by_type w s c.in-Return.place r e))
     ∙ sym (ap (λ t. least o (statement_faults w r s t)) (ap statement c.in-Return.is ∙ return_statement_is _ _))
 
 pub statements-loop-each-preserved : goal.statements-loop-each-preserved

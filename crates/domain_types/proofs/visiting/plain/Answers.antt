@@ -1,7 +1,7 @@
 use Rattle.std.proofs.Common.{◌≡◌, ◌+◌, [], ◌∷◌, drop, arith, suc, sym, ap, ◌∙◌, Bool}
 use Rattle.std.specs.Prelude.{map, if◌then◌else◌}
 use Rattle.std.proofs.Math.Seq.{drop-cons}
-use Rattle.domain_types.specs.ProgramTypes.{is_without}
+use Rattle.domain_types.specs.Types.{is_without}
 use Rattle.declarations.specs.Views.{tree_at}
 use Rattle.domain_types.specs.inner.WorkList.{added, with_plain}
 use Rattle.domain_types.proofs.visiting.plain.Goals as goal

@@ -6,7 +6,7 @@ use Rattle.expression_parser.specs.declared.parsed.ParsedTrees.{ParsedTrees}
 use Rattle.expression_parser.specs.Given.{tree_of, tree_height, list_of}
 use Rattle.expression_parser.specs.Steps.{at_most, front, grow, more}
 use Rattle.expression_parser.proofs.HandedOn.{holds, read}
-use Rattle.expression_parser.proofs.Turns.{grow_goes, more_stop, more_comma}
+use Rattle.expression_parser.proofs.Turns.{grow_goes, grow_high, more_stop, more_comma}
 use Rattle.expression_parser.proofs.parse.+expressions.Goals as goal
 
 pub more-returns-then-not-is-clause-step : goal.more-returns-then-not-is-clause-step
@@ -84,3 +84,12 @@ grow-loop-token-preserved t c =
             (j.0 ∙ ap (λ (n : Parsed). binary (place_of (tree_of n)) op (tree_of n) (tree_of second)) b.0)),
       );
     }
+
+pub grow-returns-then-max_height-left-clause-step : goal.grow-returns-then-max_height-left-clause-step
+grow-returns-then-max_height-left-clause-step t c =
+    let i = c.loop-token.invariant in
+    let f = c.in-Some.ensures.cases in
+    let high : c.args.max_height ≤ height (tree_of c.loop-token.left) = omega (arith, i.height.0, c.if-max_height-left.true) in
+    i.step.2
+    ∙ grow_high c.args.level c.args.max_height (at_most (c.args.max_height - 1) (c.args.level - 1)) i.step.0 (tree_of c.loop-token.left)
+    c.loop-token.rest.now c.in-Some.token.now c.in-Some.behind.now c.in-Some-operator_at.operator f.0 (sym c.in-Some-operator_at.ensures) high i.step.1

@@ -1,9 +1,10 @@
 use Rattle.std.proofs.Common.{◌≡◌, ◌≤◌, [], length, refl, sym, ap, ◌∙◌, arith}
+use Rattle.std.specs.Prelude.{fold}
 use Rattle.std.specs.List.{slice_get}
 use Rattle.std.proofs.lemmas.List.{length-map}
 use Rattle.std.proofs.lemmas.Option.{slice_get_read}
 use Rattle.typed_tree.specs.Programs.{typed_program_tree}
-use Rattle.reached_instances.specs.Instances.{instance_seen, listing_all}
+use Rattle.reached_instances.specs.Instances.{instance_seen, listing}
 use Rattle.reached_instances.specs.Views.{instances_seen}
 use Rattle.reached_instances.proofs.Bound.{reached_bound, all_bound}
 use Rattle.reached_instances.proofs.Keys.{seen_at}
@@ -15,8 +16,8 @@ loop-instance-init c =
     let p = typed_program_tree c.args.program.now in
     read_none p c.list_all.new.self
     (c.in_ok-list_all.ensures
-    ∙ ap (λ is. listing_all is (instances_seen c.in_ok-found.found.items)) c.new-reached.ensures
-    ∙ ap (listing_all []) c.in_ok-found.ensures)
+    ∙ ap (λ is. fold listing is (instances_seen c.in_ok-found.found.items)) c.new-reached.ensures
+    ∙ ap (fold listing []) c.in_ok-found.ensures)
 
 pub loop-instance-preserved : goal.loop-instance-preserved
 loop-instance-preserved c =
@@ -28,7 +29,7 @@ loop-instance-preserved c =
     read_more p n is c.list_all-in-Some.new.self (instance_seen i)
     (ap (λ l. slice_get l n) (sym c.as_slice.ensures)
     ∙ seen_at ks n i (slice_get_read ks (length ks) n i refl c.in-Some.ensures.lookup.3.0 c.in-Some.ensures.lookup.1))
-    (c.in_ok-list_all-2.ensures ∙ ap (listing_all is) c.in_ok-found-2.ensures)
+    (c.in_ok-list_all-2.ensures ∙ ap (fold listing is) c.in_ok-found-2.ensures)
     c.loop-instance.invariant
 
 pub returns-clause-list : goal.returns-clause-list
