@@ -13,7 +13,7 @@ use Rattle.typed_tree.specs.declared.operators.BinaryOperator.TheVariants.{Words
 use Rattle.typed_tree.specs.declared.operators.Cast.{Cast}
 use Rattle.typed_tree.specs.declared.operators.Cast.TheVariants.{WordToWord, WordToBool, BoolToWord, BoolToBool}
 use Rattle.language_model.specs.Values.{Value}
-use Rattle.language_model.specs.Operations.{number_of, stretched, flip, equal_gates, less_gates, word_gates, or_gates, bool_gates, operator_gates, cast_gates}
+use Rattle.language_model.specs.Operations.{number_of, stretched, flip, equal_gates, less_gates, or_gates, operator_gates, cast_gates}
 use Rattle.blind_evaluation.proofs.Alike.{Alike, Same, same_bind, alike_done, gate_alike, number_alike, planned_alike}
 use Rattle.blind_evaluation.proofs.AlikeValues.{LikeValues, plains, unmade, made}
 
@@ -35,7 +35,7 @@ equal_alike u v = same_bind (gate_alike (Sub u v)) (λ d. planned_alike (λ firs
 less_alike : (n u v : ℕ) → Alike (Same {A = ℕ}) (less_gates n u v) (less_gates n u v)
 less_alike n u v = planned_alike (λ first. less_plan first u v n)
 
-word_alike : (op : WordOperator) (n u v : ℕ) → Alike (Same {A = ℕ}) (word_gates op n u v) (word_gates op n u v)
+word_alike : (op : WordOperator) (n u v : ℕ) → Alike (Same {A = ℕ}) (operator_gates (Words op) n u v) (operator_gates (Words op) n u v)
 word_alike word.Add n u v = gate_alike (Add u v)
 word_alike word.Subtract n u v = gate_alike (Sub u v)
 word_alike word.Multiply n u v = gate_alike (Mul u v)
@@ -54,7 +54,7 @@ word_alike word.Xor n u v = number_alike
 or_alike : (u v : ℕ) → Alike (Same {A = ℕ}) (or_gates u v) (or_gates u v)
 or_alike u v = same_bind (gate_alike (And u v)) (λ both. same_bind (gate_alike (Xor u v)) (λ one. gate_alike (Xor one both)))
 
-bool_alike : (op : BoolOperator) (n u v : ℕ) → Alike (Same {A = ℕ}) (bool_gates op n u v) (bool_gates op n u v)
+bool_alike : (op : BoolOperator) (n u v : ℕ) → Alike (Same {A = ℕ}) (operator_gates (Bools op) n u v) (operator_gates (Bools op) n u v)
 bool_alike truth.Equal n u v = same_bind (gate_alike (Xor u v)) (flip_alike n)
 bool_alike truth.NotEqual n u v = gate_alike (Xor u v)
 bool_alike truth.And n u v = gate_alike (And u v)

@@ -8,10 +8,10 @@ use Rattle.typed_tree.specs.declared.kinds.Shape.{Shape}
 use Rattle.language_model.specs.Effects.{GivenInput, charge, test}
 use Rattle.language_model.specs.Operations.{charged}
 use Rattle.language_model.specs.Evaluation.{behind, input_from, input_named, is_as_declared, given_value, asked_for, either}
-use Rattle.language_model.specs.Reports.{words_dealt, dealing, Offered, zeros_for, public_input}
+use Rattle.language_model.specs.Reports.{words_dealt, dealing, Offered, public_input}
 use Rattle.blind_evaluation.proofs.Alike.{Alike, Never, same_bind, any_bind, never_bind, end_alike, charge_alike, test_alike, gate_alike}
 use Rattle.blind_evaluation.proofs.AlikeValues.{LikeValues}
-use Rattle.blind_evaluation.proofs.Lengths.{zeros_length}
+use Rattle.blind_evaluation.proofs.Lengths.{zeros_for, zeros_length}
 use Rattle.blind_evaluation.proofs.Rows.{clear, unseen, charged_alike, result_alike, plain_alike}
 
 -- ---- DEALING

@@ -1,6 +1,6 @@
 -- How many words an operation gives depends on how many it is given.
 use Rattle.std.proofs.Common.{◌≡◌, ℕ, ◌*◌, List, [], ◌∷◌, ◌++◌, length, Bool, true, false, refl, sym, ap, ◌∙◌, arith, length-append, min}
-use Rattle.std.specs.Prelude.{nat_le, nat_eq, map, replicate, set, ◌%◌}
+use Rattle.std.specs.Prelude.{if◌then◌else◌, nat_le, nat_eq, map, replicate, set, ◌%◌}
 use Rattle.std.specs.List.{zip, flat_map}
 use Rattle.std.specs.Int.{bit_at}
 use Rattle.std.proofs.lemmas.List.{length-map, length-replicate, length-set}
@@ -18,7 +18,6 @@ use Rattle.typed_tree.specs.declared.operators.Operands.TheVariants.{Scalars, Ar
 use Rattle.language_model.specs.Values.{Value, size}
 use Rattle.language_model.specs.Words.{meaning, result_size, are_alike, left_words, right_words, result_words}
 use Rattle.language_model.specs.Operations.{read_answer}
-use Rattle.language_model.specs.Reports.{zeros_for}
 use Rattle.blind_evaluation.proofs.AlikeValues.{LikeValues, like_size}
 
 pub mapped_length : (f : ℕ → ℕ) (xs xs' : List ℕ) → length xs ≡ length xs' → length (map f xs) ≡ length (map f xs')
@@ -43,6 +42,9 @@ all_bits_length (x ∷ xs) = omega (arith, length-append (bits_of x) (flat_map b
 
 pub bits_lengths : (xs xs' : List ℕ) → length xs ≡ length xs' → length (flat_map bits_of xs) ≡ length (flat_map bits_of xs')
 bits_lengths xs xs' e = all_bits_length xs ∙ ap (λ n. 64 * n) e ∙ sym (all_bits_length xs')
+
+abbrev pub zeros_for : (secret : Bool) → List ℕ → List ℕ
+zeros_for secret words = if secret then replicate (length words) 0 else words
 
 pub zeros_length : (secret : Bool) (words : List ℕ) → length (zeros_for secret words) ≡ length words
 zeros_length true words = length-replicate (length words) 0

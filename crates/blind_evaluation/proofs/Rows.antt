@@ -1,7 +1,7 @@
 -- What each operation does is alike, on operands that are alike.
 use Rattle.std.proofs.Common.{◌≡◌, ℕ, ◌+◌, ◌*◌, ◌-◌, List, [], ◌∷◌, ◌++◌, length, take, drop, Option, Some, None, Ok, Err, Bool, true, false, cond}
 use Rattle.std.proofs.Common.{refl, sym, ap, ◌∙◌, subst}
-use Rattle.std.specs.Prelude.{nat_le, nat_lt, map, replicate, set, sum, not, ◌&&◌, ◌==◌, ◌%◌, ◌^◌}
+use Rattle.std.specs.Prelude.{get_or, nat_le, nat_lt, map, replicate, set, sum, not, ◌&&◌, ◌==◌, ◌%◌, ◌^◌}
 use Rattle.std.specs.List.{flat_map}
 use Rattle.std.proofs.lemmas.List.{length-map}
 use Rattle.std.proofs.lemmas.List.Elements.{AllZip-push}
@@ -30,7 +30,7 @@ use Rattle.language_model.specs.Operations.{revealed, opened_from, declassified,
 use Rattle.language_model.specs.Operations.{operator_gates, is_product, result_shape, private_result, product_with, combined_from, operator_traps}
 use Rattle.language_model.specs.Operations.{operated, is_classified, operation, negated_from, negated, words_of_cast, cast_shape, cast_gates, changed}
 use Rattle.language_model.specs.Operations.{cast_from, cast_to, scalar_word, size_told, summed_from, summed, words_for_bits, bits_from}
-use Rattle.language_model.specs.Operations.{bits_extracted, concatenated_from, concatenated, position, element_at, element_from, element_of_array}
+use Rattle.language_model.specs.Operations.{bits_extracted, concatenated_from, concatenated, position, element_from, element_of_array}
 use Rattle.language_model.specs.Operations.{with_element_from, with_element, filled_from, filled, handed_over, published, tested, asserted}
 use Rattle.language_model.specs.Reports.{Offered, world_of, public_part}
 use Rattle.blind_evaluation.specs.Courses.{LikeEvent, LikeEvents}
@@ -150,7 +150,7 @@ element_private k i l =
     (λ u. same_bind (gate_alike (Part u i 1)) (λ r. result_alike (ap (λ (s : Shape). shape_of s.element false) (like_shape l)) refl r))
 
 element_from_alike : (i : ℕ) {v v' : Value} → LikeValues v v' → Alike LikeValues (element_from v.secrecy v i) (element_from v'.secrecy v' i)
-element_from_alike i (plains shape words) = plain_alike (shape_of shape.element false) (element_at words i ∷ [])
+element_from_alike i (plains shape words) = plain_alike (shape_of shape.element false) (get_or words i 0 ∷ [])
 element_from_alike i (unmade shape words) = element_private None i (unmade shape words)
 element_from_alike i (made shape k words words' e) = element_private (Some k) i (made shape k words words' e)
 

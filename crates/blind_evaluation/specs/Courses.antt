@@ -24,7 +24,7 @@ pub record TakeSameCourse (r s : Report) : Type 0 where
   pub opened : r.opened ≡ s.opened
   pub gates : r.gates ≡ s.gates
 
--- a run that stopped for another reason than that answers were wanting
+-- a run that stopped for another reason than that answers were missing
 abbrev pub IsEnded : RunStop → Type 0
 IsEnded (Ended e) = Unit {0}
 IsEnded Short = ⊥

@@ -5,7 +5,7 @@ ghost use Rattle.language_model.specs.Reports.{Offered, eval, blind};
 ghost use Rattle.blind_evaluation.specs.Courses.{TakeSameCourse, IsEnded};
 
 /// Law: evaluation with zeros in the place of the private inputs, told the words that the run in the clear opens and any
-/// more behind them, takes the course of the run in the clear, and never wants an answer: whatever the program, the inputs,
+/// more after them, takes the course of the run in the clear, and never wants an answer: whatever the program, the inputs,
 /// the lengths of the tapes and the budget.
 pub fn blind_runs_take_the_same_course()
     ensures same { (p : TypedProgramTree) (o : Offered) (budget : ℕ) (more : List ℕ) →

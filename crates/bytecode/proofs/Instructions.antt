@@ -69,7 +69,7 @@ instruction_spells ps (ReturnNone) h = (_, _, refl, refl, (refl, refl))
 
 -- ---- and what spells is written
 
--- the numbers behind the tag are those of an instruction that is proper
+-- the numbers after the tag are those of an instruction that is proper
 abbrev Told : List ℕ → ℕ → List Number → Raw → Type 0
 Told ps tag ns i = (byte tag ∷ ns ≡ instruction_numbers i) × IsProper ps i
 

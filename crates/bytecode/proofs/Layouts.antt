@@ -223,7 +223,7 @@ layout_spelled {A} (NameField test next) text a rest bs h = go (number 1 text) r
         by_length false l h = err_ok _ _ h
         by_length true l h = by_text l (characters y.0 y.1) refl h
 
--- ---- one layout behind the other
+-- ---- one layout after the other
 
 pub behind_spells : {A B : Type 0} (f : Layout A) (g : A → Layout B) (xs ys : List Number) (a : A) (b : B) → Spells f xs a → Spells (g a) ys b
     → Spells (behind f g) (xs ++ ys) b

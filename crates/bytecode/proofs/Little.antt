@@ -22,7 +22,7 @@ pub bytes_of-append : (xs ys : List Number) → bytes_of (xs ++ ys) ≡ bytes_of
 bytes_of-append [] ys = refl
 bytes_of-append (sized n x ∷ xs) ys = ap (λ z. little n x ++ z) (bytes_of-append xs ys) ∙ sym (append_assoc (little n x) (bytes_of xs) (bytes_of ys))
 
--- more numbers behind those that a text ends with
+-- more numbers after those that a text ends with
 pub behind_bytes : (start old new : List ℕ) (xs ys : List Number) → old ≡ start ++ bytes_of xs → new ≡ old ++ bytes_of ys → new ≡ start ++ bytes_of (xs ++ ys)
 behind_bytes start old new xs ys e f =
     f ∙ ap (λ z. z ++ bytes_of ys) e ∙ append_assoc start (bytes_of xs) (bytes_of ys) ∙ ap (λ z. start ++ z) (sym (bytes_of-append xs ys))

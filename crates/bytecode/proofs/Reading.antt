@@ -1,4 +1,4 @@
--- How reading goes on behind what was read.
+-- How reading goes on after what was read.
 use Rattle.std.proofs.Common.{◌≡◌, ℕ, zero, suc, ◌+◌, ◌-◌, ◌*◌, ◌^◌, ◌<◌, ◌≤◌, List, [], ◌∷◌, ◌++◌, append_assoc, append-nil, length, Bool, true}
 use Rattle.std.proofs.Common.{false, Result, Ok, Err, refl, sym, ap, ◌∙◌, subst, arith, IsTrue, mul_comm, lit≤}
 use native.Mathlib.Numerals.{unary_clauses}
@@ -66,7 +66,7 @@ power_below (suc (suc (suc (suc (suc (suc (suc (suc (suc n))))))))) h = absurd (
 pub number_room : (n low high : ℕ) → (n ≡ 0 → ⊥) → n ≤ 8 → low < 256 → high < 256 ^ (n - 1) → low + 256 * high < 18446744073709551616
 number_room n low high h m l g = omega (arith, number_fits n low high h l g, power_below n m)
 
--- ---- one layout behind the other
+-- ---- one layout after the other
 
 pub read_behind : {A B : Type 0} (f : Layout A) (g : A → Layout B) (text : List ℕ) → read (behind f g) text ≡ carry (read f text) (λ a rest. read (g a) rest)
 read_behind (Makes a) g text = refl
@@ -183,7 +183,7 @@ repeated_ends f n i xs t r l h =
     let none : n - i ≡ 0 = omega arith in
     h ∙ ap (λ k. after xs (read (repeated f k) t)) none ∙ ap (λ z. Ok (z, t)) (append-nil xs)
 
--- ---- seven numbers, one behind the other
+-- ---- seven numbers, one after the other
 
 abbrev pub seven : {A : Type 0} (f0 f1 f2 f3 f4 f5 f6 : Layout ℕ) → ((x0 x1 x2 x3 x4 x5 x6 : ℕ) → A) → Layout A
 seven f0 f1 f2 f3 f4 f5 f6 make =

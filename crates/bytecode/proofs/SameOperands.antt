@@ -1,4 +1,4 @@
--- The operands of a tag, one after the other, are what the layout has behind it.
+-- The operands of a tag, one after the other, are what the layout has after it.
 use Rattle.std.proofs.Common.{◌≡◌, ℕ, List, Bool, Ok, refl, sym, ap, ◌∙◌, subst}
 use Rattle.bytecode.specs.declared.tag.Tag.{Tag}
 use Rattle.bytecode.specs.declared.tag.Tag.TheVariants as tags

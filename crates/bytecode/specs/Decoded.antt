@@ -25,7 +25,7 @@ pair_layout make = short_field (λ d. short_field (λ r. Makes (make d r)))
 abbrev pub triple_layout : (ℕ → ℕ → ℕ → ℕ → Raw) → Layout Raw
 triple_layout make = short_field (λ a. short_field (λ b. short_field (λ c. line_field (λ line. Makes (make a b c line)))))
 
--- so many of a layout, one behind the other
+-- so many of a layout, one after the other
 abbrev pub repeated : {A : Type 0} → Layout A → ℕ → Layout (List A)
 repeated layout zero = Makes []
 repeated layout (suc n) = behind layout (λ x. behind (repeated layout n) (λ xs. Makes (x ∷ xs)))
@@ -45,7 +45,7 @@ is_operator o = nat_lt o 14
 abbrev pub is_truth : ℕ → Bool
 is_truth v = nat_lt v 2
 
--- the operands behind a tag, where the functions have so many parameters
+-- the operands after a tag, where the functions have so many parameters
 abbrev pub operands : List ℕ → ℕ → Layout Raw
 operands ps tag =
     if tag == 0x01 then short_field (λ d. Field BadTag 8 any (λ x. Makes (Literal d x)))
@@ -129,7 +129,7 @@ code_layout =
 
 -- ---- a whole text
 
--- the text, of so many bytes, has to end behind what was read
+-- the text, of so many bytes, has to end after what was read
 abbrev pub ended : {A : Type 0} → ℕ → A → List ℕ → Result A DecodeFault
 ended size a [] = Ok a
 ended size a (b ∷ left) = Err (record { kind = Trailing; place = size - length (b ∷ left) })

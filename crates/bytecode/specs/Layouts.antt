@@ -9,7 +9,7 @@ pub data Layout (A : Type 0) : Type 0 where
   Field : FaultKind → (bytes : ℕ) → (ℕ → Bool) → (ℕ → Layout A) → Layout A
   NameField : (List ℕ → Bool) → (List ℕ → Layout A) → Layout A
 
--- what was read and the text behind it, or the fault and the text from its place on
+-- what was read and the text after it, or the fault and the text from its place on
 abbrev pub Read : Type 0 → Type 0
 Read A = Result (A × List ℕ) (FaultKind × List ℕ)
 
@@ -44,7 +44,7 @@ read (NameField test next) text =
     carry (number 1 text) (λ n rest. passed (is_name_length n) BadTag text
     (carry (characters n rest) (λ name left. passed (test name) BadTag text (read (next name) left))))
 
--- one layout behind the other
+-- one layout after the other
 abbrev pub behind : {A B : Type 0} → Layout A → (A → Layout B) → Layout B
 behind (Makes a) next = next a
 behind (Field why n test k) next = Field why n test (λ x. behind (k x) next)

@@ -5,20 +5,13 @@ use Rattle.bytecode.specs.declared.kind.Kind.{Kind}
 -- A number that says where a value goes or comes from is a register's; a line is that of the construct, for traps.
 pub data Raw : Type 0 where
   Literal : (to word : ℕ) → Raw
-  Move : (to source : ℕ) → Raw
-  Store : (to source : ℕ) → Raw
+  Move Store Not Cast Classify Size Sum Declassify : (to source : ℕ) → Raw
   Binary : (operator to left right line : ℕ) → Raw
-  Not : (to source : ℕ) → Raw
-  Cast : (to source : ℕ) → Raw
-  Classify : (to source : ℕ) → Raw
   Fill : (to size value line : ℕ) → Raw
   At : (to array index line : ℕ) → Raw
   Put : (array index value line : ℕ) → Raw
-  Size : (to source : ℕ) → Raw
   Cat : (to left right line : ℕ) → Raw
-  Sum : (to source : ℕ) → Raw
   Bits : (to source line : ℕ) → Raw
-  Declassify : (to source : ℕ) → Raw
   Argument : (to name line : ℕ) → Raw
   Publish : (name source : ℕ) → Raw
   Assert : (condition line : ℕ) → Raw

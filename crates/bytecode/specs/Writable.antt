@@ -1,5 +1,5 @@
 -- Which code can be written so that it is read again.
-use Rattle.std.specs.Prelude.{◌≡◌, ℕ, ◌<◌, ◌^◌, List, [], ◌∷◌, length, map, Bool, not, ◌&&◌, IsTrue, Option, None, Some, slice_get}
+use Rattle.std.specs.Prelude.{◌≡◌, ℕ, ◌<◌, ◌^◌, List, [], ◌∷◌, length, map, Bool, not, ◌&&◌, IsTrue, slice_get, unwrap_or}
 use Rattle.std.specs.List.{AllByRecursion as Each, list_any}
 use Rattle.std.specs.Str.{bytes_eq}
 use Rattle.sc_text.specs.Name.{is_name}
@@ -15,13 +15,9 @@ Fits (sized n x) = x < 256 ^ n
 abbrev pub parameters_of : List RawFunction → List ℕ
 parameters_of = map (λ f. f.parameters)
 
-abbrev pub or_none : Option ℕ → ℕ
-or_none None = 0
-or_none (Some n) = n
-
 -- how many arguments a call of this function has: as many as it has parameters, none where there is no such function
 abbrev pub arguments_at : List ℕ → ℕ → ℕ
-arguments_at parameters f = or_none (slice_get parameters f)
+arguments_at parameters f = unwrap_or (slice_get parameters f) 0
 
 -- the operator, the value of a branch and the number of arguments are within their ranges
 abbrev pub IsProper : List ℕ → Raw → Type 0

@@ -80,7 +80,7 @@ pub enum Instruction {
         to: Register,
         source: Register,
     },
-    /// An array and another behind it.
+    /// An array and another after it.
     Cat {
         to: Register,
         left: Register,

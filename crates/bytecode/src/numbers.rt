@@ -9,7 +9,7 @@ use std::alloc::AllocError;
 #[derive(Clone, Copy)]
 pub(crate) struct Number(pub(crate) usize, pub(crate) u64);
 
-/// Writes a number behind a text.
+/// Writes a number after a text.
 fn push_number(text: &mut Vec<u8>, number: Number) -> Result<(), AllocError>
     ensures { OnOk result (text.new.items ≡ text.old.items ++ little number.0 number.1) }
 {
@@ -21,7 +21,7 @@ fn push_number(text: &mut Vec<u8>, number: Number) -> Result<(), AllocError>
     Ok(())
 }
 
-/// Writes numbers behind a text.
+/// Writes numbers after a text.
 pub(crate) fn push_numbers(text: &mut Vec<u8>, numbers: &[Number]) -> Result<(), AllocError>
     ensures { OnOk result (text.new.items ≡ text.old.items ++ bytes_of (numbers_in numbers.now)) }
 {

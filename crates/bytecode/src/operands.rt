@@ -16,7 +16,7 @@ use crate::tag::{Tag, tag_of};
 use crate::test::Test;
 use std::alloc::Global;
 
-/// What stands behind a tag; 0 where it has no such operand.
+/// What stands after a tag; 0 where it has no such operand.
 #[derive(Clone, Copy)]
 struct Operands {
     operator: u8,

@@ -129,7 +129,7 @@ fn push_call(
     Ok(())
 }
 
-/// Writes an instruction behind a text.
+/// Writes an instruction after a text.
 pub(crate) fn push_instruction(
     text: &mut Vec<u8>,
     instruction: &Instruction,

@@ -9,7 +9,7 @@ use Rattle.value_steps.specs.declared.halt.Halt.{Halt}
 use Rattle.value_steps.specs.Steps.{Does, itself}
 use Rattle.clear_eval.proofs.Runs.{carry-carry, stop_run}
 
--- what is left of a loop behind some of its turns: it has turns left for each charge that can still be made
+-- what is left of a loop after some of its turns: it has turns left for each charge that can still be made
 pub record Turns (condition : Frame → Effect Value) (step body : Frame → Effect Flow) (fr0 : Frame) (s0 : Stage) (fr : Frame) (s : Stage) : Type 0 where
   pub rest : ℕ
   pub enough : s.left ≤ rest
@@ -77,7 +77,7 @@ module _ {condition : Frame → Effect Value} {step body : Frame → Effect Flow
   left_behind_body b s2 s3 g out h is_true h' on =
       behind_the_body b s2 s3 g h is_true h' ∙ ap (λ (e : Effect Flow). e s3) (on (λ f u. carry (step f u) behind_step))
 
-  -- behind the body comes the step
+  -- after the body comes the step
   pub at_step : (b : Bool) (s2 s3 : Stage) (g : Flow) (f : Frame) → carry (condition fr s) tested ≡ Ok (b, s2) → b ≡ true → body fr s2 ≡ Ok (g, s3)
       → ((next : Frame → Effect Flow) → turned g next ≡ next f) → whole_turns condition step body fr0 s0 ≡ carry (step f s3) behind_step
   at_step b s2 s3 g f h is_true h' on =

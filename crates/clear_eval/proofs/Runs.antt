@@ -1,4 +1,4 @@
--- Runs of one effect behind another.
+-- Runs of one effect after another.
 use Rattle.std.proofs.Common.{◌≡◌, Result, Ok, Err, refl, sym, ap, ◌∙◌, subst}
 use Rattle.std.specs.Result.{IsErrAnd}
 use Rattle.language_model.specs.Effects.{Stage, Run, Effect, carry}

@@ -41,7 +41,7 @@ pub fn slots_of<'a>(at: &StatementContext<'a>, number: usize) -> &'a [Slot]
     &functions[number].slots
 }
 
-/// Puts an argument behind those before it.
+/// Puts an argument after those before it.
 #[inline(never)]
 pub fn add_argument(arguments: &mut Vec<Value>, argument: Value) -> Result<(), AllocError>
     ensures { IfOk result (λ _. arguments.new.items ≡ arguments.old.items ++ argument ∷ []) }

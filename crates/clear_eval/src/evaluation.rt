@@ -138,7 +138,7 @@ fn value_wanted(
     wanted(around.alloc, stage, private, value)
 }
 
-/// Evaluates an expression that joins two arrays, each classified right behind its evaluation.
+/// Evaluates an expression that joins two arrays, each classified right after its evaluation.
 #[tactic(auto, unfolding(language_model::specs::Evaluation::value))]
 #[inline(never)]
 #[cycle(evaluation)]
@@ -190,7 +190,7 @@ fn connected(
     }
 }
 
-/// Goes on behind a private left operand of a connective.
+/// Goes on after a private left operand of a connective.
 #[inline(never)]
 #[cycle(evaluation)]
 fn not_cut_short(
@@ -217,7 +217,7 @@ fn not_cut_short(
     operation(around.alloc, around.world, stage, step, left, right)
 }
 
-/// Goes on behind a public left operand of a connective.
+/// Goes on after a public left operand of a connective.
 #[inline(never)]
 #[cycle(evaluation)]
 fn cut_short(
@@ -537,7 +537,7 @@ fn turns(
     }
 }
 
-/// The body, again while the condition behind it is true.
+/// The body, again while the condition after it is true.
 #[inline(never)]
 #[cycle(evaluation)]
 fn repeats(

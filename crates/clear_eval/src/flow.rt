@@ -1,4 +1,4 @@
-// Where a function goes on behind a statement.
+// Where a function goes on after a statement.
 ghost use Rattle.std.specs.Prelude.{◌≡◌, IfOk, List};
 ghost use Rattle.language_model.specs.Evaluation.{result_of};
 ghost use Rattle.value_steps.specs.Views.{value_seen};
@@ -9,13 +9,13 @@ ghost use Rattle.clear_eval.specs.inner.Views.{flow_seen};
 use std::alloc::{AllocError, Global};
 use value_steps::Value;
 
-/// Where a function goes on behind a statement.
+/// Where a function goes on after a statement.
 pub enum Flow {
     /// With the next statement.
     Goes,
     /// Back in its caller, with a value.
     Returns(Value),
-    /// Behind the loop.
+    /// After the loop.
     Stops,
     /// With the loop's next turn.
     Skips,
@@ -41,7 +41,7 @@ impl Flow {
         }
     }
 
-    /// Where a function goes on behind a loop in which a statement left it so; nowhere where the loop goes on.
+    /// Where a function goes on after a loop in which a statement left it so; nowhere where the loop goes on.
     pub fn behind_loop(self) -> Option<Flow>
         ensures { (frame : List Kept) → LeavesLoop frame self result }
     {

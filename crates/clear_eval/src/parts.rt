@@ -22,7 +22,7 @@ pub enum Parts<'a> {
     One(&'a TypedExpression),
     /// Two operands, the left one first.
     Two(&'a TypedExpression, &'a TypedExpression),
-    /// Two arrays, each classified right behind its evaluation.
+    /// Two arrays, each classified right after its evaluation.
     Joined(Joined<'a>),
     /// The arguments of a call, with its line and the number of its function.
     Call(u32, usize, &'a Vec<TypedExpression>),
@@ -72,7 +72,7 @@ pub enum StatementParts<'a> {
     If(&'a TypedExpression, &'a TypedStatement, &'a TypedStatement),
     /// The condition, the step and the body of a loop.
     Loop(&'a TypedExpression, &'a TypedStatement, &'a TypedStatement),
-    /// The body of a loop, and the condition behind it.
+    /// The body of a loop, and the condition after it.
     DoWhile(&'a TypedStatement, &'a TypedExpression),
 }
 

@@ -31,7 +31,7 @@ pub registers-at : (vs : List held.Value) (k : ℕ) (d : held.Value) → k < len
 unfolding registers_seen
 registers-at vs k d h = get_or-map value_seen vs k d nothing h
 
--- registers that stand for these values, as far as there are so many, and for nothing behind them
+-- registers that stand for these values, as far as there are so many, and for nothing after them
 pub registers-are : (vs : List held.Value) (fr : Frame) → ((k : ℕ) → get_or (map value_seen vs) k nothing ≡ fr k) → registers_seen vs ≡ fr
 unfolding registers_seen
 registers-are vs fr h = fun_ext h

@@ -9,7 +9,7 @@ use Rattle.language_model.proofs.Walk as walk
 use Rattle.language_model.proofs.Onward.{Onward, Went, is_onward, onward_law, stage_of}
 use Rattle.verified_code.specs.Steps.{kind_shape, Step, Literal, Move, Store, Binary, Not, Cast, Classify, Fill, At, Put, Size, Cat, Sum, Bits, Declassify}
 use Rattle.verified_code.specs.Steps.{Argument, Publish, Assert, Branch, Jump, Call, Return, ReturnNone, Function}
-use Rattle.named_values.specs.Machine.{Caller, Machine, at, next, resume, same_bool, step}
+use Rattle.named_values.specs.Machine.{Caller, Machine, at, next, resume, same_truth, step}
 use Rattle.code_machine.specs.Marks.{HasGained, reached}
 
 module _ (w : World) (p : List Function) (m : Machine) where
@@ -51,7 +51,7 @@ module _ (w : World) (p : List Function) (m : Machine) where
   act (Some (Argument line k text d)) = sets d _ (walk.input_holds w w (is_onward w) law k.secret (kind_shape k) line text)
   act (Some (Publish text r)) = goes _ _ (walk.published_holds w w (is_onward w) law text (m.registers r))
   act (Some (Assert line r)) = goes _ _ (walk.asserted_holds w w (is_onward w) law line (m.registers r))
-  act (Some (Branch r b target)) = goes _ (λ t. at (either (same_bool t b) target (m.pc + 1)) m) (walk.tested_holds w w (is_onward w) law (m.registers r))
+  act (Some (Branch r b target)) = goes _ (λ t. at (either (same_truth t b) target (m.pc + 1)) m) (walk.tested_holds w w (is_onward w) law (m.registers r))
   act (Some (Jump target)) = law.on_done _
   act (Some (Call line g d args)) = law.bind (law.on_charge 1)
       (λ u. law.bind (law.on_test _ trap.Depth line) (λ u. law.bind (law.on_charge _) (λ u. law.on_done _)))

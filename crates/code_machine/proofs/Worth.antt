@@ -1,15 +1,11 @@
 -- How many steps code can have.
-use Rattle.std.proofs.Common.{◌≡◌, ℕ, zero, suc, ◌+◌, ◌*◌, max, List, ◌∷◌, length, drop, ap, ◌∙◌, arith}
+use Rattle.std.proofs.Common.{◌≡◌, ℕ, ◌+◌, max, List, ◌∷◌, length, drop, ap, ◌∙◌, arith}
 use Rattle.std.specs.Prelude.{map}
 use Rattle.std.proofs.lemmas.List.{length-map}
 use Rattle.bytecode.specs.declared.code.CodeFunction.{CodeFunction}
 use Rattle.bytecode.specs.InMemory.{raw_function, raw_instruction}
 use Rattle.verified_code.specs.Settled.{settle, settled_function}
-use Rattle.named_values.specs.Meaning.{worth, longest}
-
-pub worth_is : (l n : ℕ) → worth l n ≡ n * (l + 1)
-worth_is l zero = omega arith
-worth_is l (suc n) = ap (λ k. k + (l + 1)) (worth_is l n) ∙ omega arith
+use Rattle.named_values.specs.Meaning.{longest}
 
 abbrev pub longest_in : List (List ℕ) → List CodeFunction → ℕ
 longest_in names fs = longest (map (settled_function names) (map raw_function fs))

@@ -17,7 +17,7 @@ pub record IsMarkOf (mark : Mark) (s : Stage) : Type 0 where
   pub events : mark.events ≡ length s.events
   pub opened : mark.opened ≡ length s.opened
 
--- only more gates, events and opened words stand behind those of a stage
+-- only more gates, events and opened words stand after those of a stage
 pub record HasGained (s later : Stage) : Type 0 where
   pub gates : Begins s.gates later.gates
   pub events : Begins s.events later.events

@@ -5,7 +5,7 @@ use Rattle.language_model.specs.Effects.{Effect, ◌>>=◌, done, charge, test}
 use Rattle.language_model.specs.Values.{Value, size}
 use Rattle.language_model.specs.Operations as row
 use Rattle.language_model.specs.Evaluation.{array_elements, either}
-use Rattle.named_values.specs.Machine.{Machine, at, next, limit, same_bool}
+use Rattle.named_values.specs.Machine.{Machine, at, next, limit, same_truth}
 
 -- a value is stored in the register of a variable: this is charged
 abbrev pub stored : ℕ → Value → Machine → Effect Machine
@@ -29,4 +29,4 @@ into d m made = do
 abbrev pub branched : (condition : Value) → Bool → (target : ℕ) → Machine → Effect Machine
 branched v b target m = do
   t ← row.tested v
-  done (at (either (same_bool t b) target (m.pc + 1)) m)
+  done (at (either (same_truth t b) target (m.pc + 1)) m)

@@ -5,7 +5,7 @@ ghost use Rattle.named_values.specs.Machine.{Machine};
 ghost use Rattle.code_machine.specs.Marks.{OnlyGains};
 
 /// Law: a step, however it ends, takes no gate, no event and no opened word back. So a stage that was marked before a step is there
-/// again when it is rewound behind it.
+/// again when it is rewound after it.
 pub fn steps_only_gain()
     ensures { (w : World) (code : RawCode) (m : Machine) (s : Stage) → OnlyGains w code m s }
 {}

@@ -4,7 +4,7 @@ use bytecode::Register;
 use std::alloc::{AllocError, Global};
 use value_steps::Value;
 
-/// Where a call comes back to: the number of the function, the place of the step behind the call, the function's registers, and the
+/// Where a call comes back to: the number of the function, the place of the step after the call, the function's registers, and the
 /// register of the result, if one is wanted.
 pub struct Caller {
     pub(crate) function: usize,

@@ -32,7 +32,7 @@ pub fn marked(stage: &Stage<'_>) -> Mark
     }
 }
 
-/// Takes a stage back to a mark. One that has only gained behind the marked stage is again as this was; answers that were taken since
+/// Takes a stage back to a mark. One that has only gained after the marked stage is again as this was; answers that were taken since
 /// stay taken.
 pub fn rewind(stage: &mut Stage<'_>, mark: &Mark)
     ensures exactly { stage_seen stage.new ≡ rewound mark.now (stage_seen stage.old) }

@@ -88,7 +88,7 @@ pub(crate) fn element(
     )
 }
 
-/// An array and another behind it.
+/// An array and another after it.
 pub(crate) fn appended(
     alloc: Global,
     machine: &Machine,

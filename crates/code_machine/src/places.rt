@@ -2,7 +2,7 @@
 ghost use Rattle.std.specs.Prelude.{◌≡◌, ◌+◌, ◌<◌, ◌^◌, IfOk};
 ghost use Rattle.language_model.specs.Operations as row;
 ghost use Rattle.bytecode.specs.Raw.{RawCode};
-ghost use Rattle.named_values.specs.Machine.{same_bool};
+ghost use Rattle.named_values.specs.Machine.{same_truth};
 ghost use Rattle.value_steps.specs.Steps.{Does, itself};
 ghost use Rattle.value_steps.specs.Views.{stage_seen};
 ghost use Rattle.code_machine.specs.Changes.{HasEnough, IsSafe, changed, goes_on_at};
@@ -39,7 +39,7 @@ pub(crate) fn assert_at(
 }
 
 fn same(left: bool, right: bool) -> bool
-    ensures { result ≡ same_bool left right }
+    ensures { result ≡ same_truth left right }
 {
     left == right
 }

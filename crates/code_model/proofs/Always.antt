@@ -67,7 +67,7 @@ yields_less {inside = inside} always always' {c = c} l h = record { from = λ s.
     go (Ok x) h = flow x.0 h
     go (Err e) h = tt
 
--- behind the body of a loop
+-- after the body of a loop
 yields_loop : {inside : Bool} (g : Flow) (f : Frame → Effect Flow) → ((fr : Frame) → Yields inside false (f fr)) → Yields inside false (turned g f)
 yields_loop (goes fr) f h = h fr
 yields_loop (skips fr) f h = h fr

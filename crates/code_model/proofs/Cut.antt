@@ -15,16 +15,17 @@ use Rattle.blind_evaluation.specs.Words.{truth_word}
 use Rattle.blind_evaluation.specs.Operations.{classified, wanted}
 use Rattle.blind_evaluation.specs.Evaluation.{Frame, Calls, gives_private, connective, decides, truth_value, either, cut_short, not_cut_short, value}
 use Rattle.verified_code.specs.Steps.{Step, Literal, Move, Classify, Branch, Jump, Function}
-use Rattle.code_model.specs.Machine.{Machine, at, next, step, same_bool}
+use Rattle.code_model.specs.Machine.{Machine, at, next, step, same_truth}
 use Rattle.code_model.specs.Kinds.{kind_in, truth_kind, in_row}
 use Rattle.code_model.specs.Expressions.{Numbers, own_at, stands_at, next_row, deciding, settling, cut_code}
 use Rattle.code_model.proofs.Places.{HasAt, has_front, has_back, put_same, put_other}
 use Rattle.code_model.proofs.Gives.{IsSecret, class_gives}
 use Rattle.code_model.proofs.Follows.{Runs, runs_bind, runs_more, runs_first, instruct, silent}
-use Rattle.code_model.proofs.Near.{Near, near_on, near_less, near_set, row_from, Landed, Read, Ready, ready_front, ready_back, ready_step, ready_at, branch_runs}
+use Rattle.code_model.proofs.Near.{Near, near_on, near_less, near_set, row_from, Landed, Read, Ready, ready_front, ready_back, ready_step, ready_at}
+use Rattle.code_model.proofs.Near.{branch_runs}
 use Rattle.code_model.proofs.Operands.{private_joined, code, both_code, Evaluates, binary_runs}
 
-decides_same : (c : Connective) (o : Bool) → same_bool o (deciding c) ≡ decides c o
+decides_same : (c : Connective) (o : Bool) → same_truth o (deciding c) ≡ decides c o
 decides_same AndAlso true = refl
 decides_same AndAlso false = refl
 decides_same OrElse true = refl

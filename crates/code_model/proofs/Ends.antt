@@ -1,6 +1,6 @@
 -- Each run of code whose jumps go forward ends within its fuel.
-use Rattle.std.proofs.Common.{◌≡◌, ℕ, zero, suc, ◌+◌, ◌-◌, ◌<◌, ◌≤◌, List, [], ◌∷◌, length, Option, Some, None, Ok, Err, Bool, true, false, cond, refl, sym}
-use Rattle.std.proofs.Common.{ap, ◌∙◌, subst, arith, ◌⊎◌, inl, inr}
+use Rattle.std.proofs.Common.{◌≡◌, ℕ, zero, suc, ◌+◌, ◌*◌, ◌-◌, ◌<◌, ◌≤◌, List, [], ◌∷◌, length, Option, Some, None, Ok, Err, Bool, true, false, cond, refl}
+use Rattle.std.proofs.Common.{sym, ap, ◌∙◌, subst, arith, ◌⊎◌, inl, inr}
 use Rattle.std.specs.Prelude.{slice_get, nat_lt, nat_le, map, sum}
 use Rattle.std.proofs.lemmas.Bool.{cases_lt, leb-true}
 use Rattle.std.proofs.lemmas.Option.{slice_get_past, none-some}
@@ -13,14 +13,22 @@ use Rattle.blind_evaluation.specs.Evaluation.{nothing, array_elements, either, a
 use Rattle.blind_evaluation.proofs.Onward.{onward_charge}
 use Rattle.verified_code.specs.Steps.{kind_shape, Step, Literal, Move, Store, Binary, Not, Cast, Classify, Fill, At, Put, Size, Cat, Sum, Bits, Declassify}
 use Rattle.verified_code.specs.Steps.{Argument, Publish, Assert, Branch, Jump, Call, Return, ReturnNone, Function}
-use Rattle.code_model.specs.Machine.{Caller, Machine, at, next, values_at, steps_of, entering, limit, resume, same_bool, step, further, exec, start}
-use Rattle.code_model.specs.Meaning.{longest, worth, fuel, stopped_or, IsForward, AreForward}
+use Rattle.code_model.specs.Machine.{Caller, Machine, at, next, values_at, steps_of, entering, limit, resume, same_truth, step, further, exec, start}
+use Rattle.code_model.specs.Meaning.{longest, fuel, stopped_or, IsForward, AreForward}
 use Rattle.code_model.proofs.Gives.{GivesAt, Gives, Any, gives_done, gives_any, charge_gives, class_gives, declassified_gives, operated_gives, negated_gives}
 use Rattle.code_model.proofs.Gives.{cast_gives, summed_gives, bits_gives, concatenated_gives, element_gives, with_element_gives, filled_gives, size_gives}
 use Rattle.code_model.proofs.Gives.{asked_gives, published_gives, asserted_gives}
 use Rattle.code_model.proofs.Loops.{test_paid}
 
 -- ---- WHAT A BUDGET IS WORTH
+
+abbrev worth : (longest budget : ℕ) → ℕ
+worth l zero = 0
+worth l (suc n) = worth l n + (l + 1)
+
+worth_is : (l n : ℕ) → worth l n ≡ n * (l + 1)
+worth_is l zero = omega arith
+worth_is l (suc n) = ap (λ k. k + (l + 1)) (worth_is l n) ∙ omega arith
 
 worth_le : (l a b : ℕ) → a ≤ b → worth l a ≤ worth l b
 worth_le l zero b h = omega arith
@@ -48,7 +56,7 @@ steps_forward p fine g = go (slice_get p g) refl
 
 -- ---- THE POTENTIAL
 
--- callers go on behind their calls
+-- callers go on after their calls
 abbrev waiting : ℕ → List Caller → ℕ
 waiting l [] = 0
 waiting l (c ∷ cs) = (l - c.pc) + waiting l cs
@@ -177,9 +185,9 @@ module _ (w : World) (p : List Function) (fine : AreForward p) where
       act (Assert line r) e b = along (row.asserted line (m.registers r)) (λ u. at (m.pc + 1) m) (asserted_gives w line (m.registers r)) b
           (λ u. moved (m.pc + 1)) (λ u. omega arith) (λ u. refl)
       act (Branch r v target) e b =
-          onward k (row.tested (m.registers r) s) (λ o. at (either (same_bool o v) target (m.pc + 1)) m) (λ o s1 q.
+          onward k (row.tested (m.registers r) s) (λ o. at (either (same_truth o v) target (m.pc + 1)) m) (λ o s1 q.
           let less = worth_less L s1.left s.left (test_paid (m.registers r) s o s1 q) in
-          ih (at (either (same_bool o v) target (m.pc + 1)) m) s1 (moved _) (omega (arith, l, less, b, g.short)))
+          ih (at (either (same_truth o v) target (m.pc + 1)) m) s1 (moved _) (omega (arith, l, less, b, g.short)))
       act (Jump target) e b = along (done (tt {0})) (λ u. at target m) (gives_done {Q = Any {A = Unit {0}}} tt) b (λ u. moved target)
           (λ u. g.forward m.pc target e) (λ u. refl)
       act (Call line f d xs) e b = calls line (sum (map array_elements (values_at m.registers xs))) f d (values_at m.registers xs) b
@@ -197,7 +205,9 @@ module _ (w : World) (p : List Function) (fine : AreForward p) where
   ends (suc k) m s g l = after_one k m s g l (λ m' s' g' l'. ends k m' s' g' l')
 
   pub starts : (s : Stage) → Ends (fuel p s.left) (start p) s
-  starts s = ends (fuel p s.left) (start p) s (record { forward = steps_forward p fine 0; short = steps_longest p 0; callers = tt }) (omega arith)
+  starts s =
+      let paid = worth_is L s.left in
+      ends (fuel p s.left) (start p) s (record { forward = steps_forward p fine 0; short = steps_longest p 0; callers = tt }) (omega (arith, paid))
 
 module _ (w : World) (p : List Function) where
   more_fuel : (k j : ℕ) (m : Machine) (s : Stage) (x : RunStop × Stage) → k ≤ j → exec w p k m s ≡ Some x → exec w p j m s ≡ Some x

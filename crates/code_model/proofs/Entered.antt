@@ -63,7 +63,7 @@ default_at s rest = go s.element s.array
     go datatype.Bool false = refl
     go datatype.Bool true = refl
 
--- behind as many slots as there are
+-- after as many slots as there are
 filled_behind : (b : List BoundDomain) (ss : List Slot) (rest : List Kind) (xs : List Value) (k : ℕ) → ArgumentsFit b ss xs → filled_with
     (map (slot_kind b) ss ++ rest) xs (length ss + k) ≡ begun (slice_get rest k)
 filled_behind b [] rest [] k fit = let e : length {A = Slot} [] + k ≡ k = omega arith in ap (λ z. begun (slice_get rest z)) e

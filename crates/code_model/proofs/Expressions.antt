@@ -51,7 +51,7 @@ ArgumentsFit b ss [] = Unit {0}
 ArgumentsFit b [] (x ∷ xs) = ⊥
 ArgumentsFit b (s ∷ ss) (x ∷ xs) = IsSecret (next_is_private b (s ∷ ss)) x × ArgumentsFit b ss xs
 
--- behind a call: the result is in its register, all else as it was
+-- after a call: the result is in its register, all else as it was
 pub record Next (d : Option ℕ) (m : Machine) (secret : Bool) (v : Value) (m' : Machine) : Type 0 where
   pub steps : m'.steps ≡ m.steps
   pub stack : m'.stack ≡ m.stack

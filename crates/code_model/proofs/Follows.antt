@@ -7,7 +7,7 @@ use Rattle.code_model.specs.Machine.{Machine, step, further, exec}
 use Rattle.code_model.proofs.Gives.{GivesAt, Gives}
 
 module _ (w : World) (p : List Function) where
-  -- whatever comes behind, a run from the one place is one from the other
+  -- whatever comes after, a run from the one place is one from the other
   pub record Comes (m : Machine) (s : Stage) (m' : Machine) (s' : Stage) : Type 0 where
     pub by : (k : ℕ) → (j : ℕ) × (exec w p j m s ≡ exec w p k m' s')
 
@@ -15,7 +15,7 @@ module _ (w : World) (p : List Function) where
   Follows m s (Ok x) Post = (m' : Machine) × (x.1.left ≤ s.left) × Comes m s m' x.1 × Post x.0 m'
   Follows m s (Err x) Post = (j : ℕ) × (exec w p j m s ≡ Some x)
 
-  -- the machine follows the effect, and behind it this holds of the value and of the machine
+  -- the machine follows the effect, and after it this holds of the value and of the machine
   pub record Runs {A : Type 0} (m : Machine) (c : Effect A) (Post : A → Machine → Type 0) : Type 0 where
     pub from : (s : Stage) → Follows m s (c s) Post
 
@@ -44,7 +44,7 @@ module _ {w : World} {p : List Function} where
   pub runs_done : {A : Type 0} {m : Machine} {a : A} {P : A → Machine → Type 0} → P a m → Runs w p m (done a) P
   runs_done {m = m} h = record { from = λ s. (m, omega arith, comes_none w p m s, h) }
 
-  -- silent steps may come behind
+  -- silent steps may come after
   pub runs_more : {A : Type 0} {m : Machine} {c : Effect A} {P Q : A → Machine → Type 0} → Runs w p m c P
       → ((a : A) (m' : Machine) → P a m' → Runs w p m' (done a) Q) → Runs w p m c Q
   runs_more {A = A} {m = m} {c = c} {P = P} {Q = Q} h k = record { from = λ s. go s (c s) (h.from s) }

@@ -24,7 +24,8 @@ use Rattle.blind_evaluation.specs.Operations.{charged, no_traps, operator_traps,
 use Rattle.blind_evaluation.specs.Operations.{is_scalar_right, words_of_operator, classified_from, classified, made_private, wanted, opened_from, revealed}
 use Rattle.blind_evaluation.specs.Operations.{read_answer, declassified, private_result, product_with, combined_from, operated, negated_from, negated}
 use Rattle.blind_evaluation.specs.Operations.{size_told, element_from, element_of_array, position, words_for_bits, changed, cast_from, cast_to, summed_from}
-use Rattle.blind_evaluation.specs.Operations.{summed, not_too_large, bits_from, bits_extracted, concatenated_from, concatenated, with_element_from, with_element}
+use Rattle.blind_evaluation.specs.Operations.{summed, not_too_large, bits_from, bits_extracted, concatenated_from, concatenated, with_element_from}
+use Rattle.blind_evaluation.specs.Operations.{with_element}
 use Rattle.blind_evaluation.specs.Operations.{filled_from, filled, tested, published, asserted}
 use Rattle.blind_evaluation.specs.Evaluation.{given_value, asked_for, is_as_declared}
 use Rattle.blind_evaluation.proofs.Walk as walk

@@ -10,7 +10,7 @@ use Rattle.blind_evaluation.specs.Operations.{tested}
 use Rattle.blind_evaluation.specs.Evaluation.{Frame, Calls, StatementContext, gives_private, either, value, Flow, goes, returns, stops, skips, turned}
 use Rattle.blind_evaluation.specs.Evaluation.{turns, repeats}
 use Rattle.verified_code.specs.Steps.{Step, Branch, Function}
-use Rattle.code_model.specs.Machine.{Caller, Machine, limit, same_bool}
+use Rattle.code_model.specs.Machine.{Caller, Machine, limit, same_truth}
 use Rattle.code_model.specs.Expressions.{Numbers, stands_at}
 use Rattle.code_model.proofs.Places.{HasAt}
 use Rattle.code_model.proofs.Follows.{Follows, follow, comes_none, Runs}
@@ -41,11 +41,11 @@ module _ (w : World) (p : List Function) (number : Numbers) (calls : Calls) (d :
   abbrev test_code : (t pc : ℕ) → TypedTree → List Step
   test_code = here_code w p number calls d place code stack room
 
-  -- the test of a condition, and the branch behind it
+  -- the test of a condition, and the branch after it
   tests : (t pt target : ℕ) (e : TypedTree) (fr : Frame) (m : Machine) (s : Stage) (f : Bool → Effect Flow) (Q : Flow → Machine → Type 0) → Expressed w p
       number calls d place code stack room e → base w p number calls d place code stack room ≤ t
       → HasAt code pt (test_code t pt e) → slice_get code (pt + length (test_code t pt e)) ≡ Some (Branch (stands_at place.here e t) true target) → At pt fr m
-      → ((o : Bool) (m2 : Machine) (s2 : Stage) → s2.left < s.left → At (either (same_bool o true) target (pt + length (test_code t pt e) + 1)) fr m2
+      → ((o : Bool) (m2 : Machine) (s2 : Stage) → s2.left < s.left → At (either (same_truth o true) target (pt + length (test_code t pt e) + 1)) fr m2
       → Follows w p m2 s2 (f o s2) Q)
       → Follows w p m s ((value w calls place.here e fr >>= λ v. tested v >>= f) s) Q
   tests t pt target e fr m s f Q ev le has brn h k =
@@ -53,13 +53,13 @@ module _ (w : World) (p : List Function) (number : Numbers) (calls : Calls) (d :
       (pt + length (test_code t pt e)) fr (stands_at place.here e t) (gives_private place.here e)) Q
       ((evaluates w p number calls d place code stack room e t pt fr m ev le has h).from s)
       (λ v m1 s1 l1 e1 h1.
-      follow w p m1 s1 (tested v s1) f (λ o m'. Branched m1 (either (same_bool o true) target (m1.pc + 1)) m') Q
+      follow w p m1 s1 (tested v s1) f (λ o m'. Branched m1 (either (same_truth o true) target (m1.pc + 1)) m') Q
       ((branch_runs (stands_at place.here e t) true target v m1 h1.value' (next_step w p number calls d place code stack room h1.standing brn)).from s1)
       (λ o m2 s2 l2 e2 h2.
       let paid = test_paid v s1 o s2 e2 in
       k o m2 s2 (omega (arith, paid, l1)) (
         h2.steps ∙ h1.standing.0,
-        h2.pc ∙ ap (λ z. either (same_bool o true) target (z + 1)) h1.standing.1,
+        h2.pc ∙ ap (λ z. either (same_truth o true) target (z + 1)) h1.standing.1,
         h2.stack ∙ h1.standing.2,
         holds_kept
             (base w p number calls d place code stack room) (omega arith) h1.standing.3 (λ i l. h2.registers i),
@@ -107,7 +107,7 @@ module _ (w : World) (p : List Function) (number : Numbers) (calls : Calls) (d :
       behind_body (stops fr3) m3 s3 l h ih = (m3, omega arith, comes_none w p m3 s3, (h.0, h.1 ∙ ex, h.2, h.3))
       behind_body (returns v) m3 s3 l h ih = (m3, omega arith, comes_none w p m3 s3, h)
 
-      branch : (o : Bool) (m2 : Machine) (s2 : Stage) → s2.left < k → At (either (same_bool o true) (pc + 1) (pt + length (test_code t pt e) + 1)) fr m2
+      branch : (o : Bool) (m2 : Machine) (s2 : Stage) → s2.left < k → At (either (same_truth o true) (pc + 1) (pt + length (test_code t pt e) + 1)) fr m2
           → Again → Follows w p m2 s2 (either o (b fr >>= λ g. turned g (λ f. st f >>= λ h. turned h rest)) (done (goes fr)) s2) Q
       branch false m2 s2 l h ih = (m2, omega arith, comes_none w p m2 s2, h)
       branch true m2 s2 l h ih = follow w p m2 s2 (b fr s2) _ (Leads out over py) Q ((ib fr m2 h).from s2)
@@ -139,7 +139,7 @@ module _ (w : World) (p : List Function) (number : Numbers) (calls : Calls) (d :
       Again : Type 0
       Again = (fr3 : Frame) (m3 : Machine) (s3 : Stage) → s3.left < k → At pc fr3 m3 → Follows w p m3 s3 (rest fr3 s3) Q
 
-      branch : (o : Bool) (fr3 : Frame) (m2 : Machine) (s2 : Stage) → s2.left < k → At (either (same_bool o true) pc (pt + length (test_code t pt e) + 1))
+      branch : (o : Bool) (fr3 : Frame) (m2 : Machine) (s2 : Stage) → s2.left < k → At (either (same_truth o true) pc (pt + length (test_code t pt e) + 1))
           fr3 m2 → Again → Follows w p m2 s2 (either o (rest fr3) (done (goes fr3)) s2) Q
       branch false fr3 m2 s2 l h ih = (m2, omega arith, comes_none w p m2 s2, h)
       branch true fr3 m2 s2 l h ih = ih fr3 m2 s2 l h

@@ -13,7 +13,7 @@ use Rattle.blind_evaluation.specs.Operations.{classified, wanted, tested}
 use Rattle.blind_evaluation.specs.Evaluation.{Frame, slot_is_private, either}
 use Rattle.bytecode.specs.declared.kind.Kind.{Kind}
 use Rattle.verified_code.specs.Steps.{Step, Classify, Branch, Function}
-use Rattle.code_model.specs.Machine.{Machine, at, next, limit, same_bool}
+use Rattle.code_model.specs.Machine.{Machine, at, next, limit, same_truth}
 use Rattle.code_model.specs.Kinds.{kind_number, in_row}
 use Rattle.code_model.specs.Expressions.{classifying, picked, lacks}
 use Rattle.code_model.specs.Statements.{shape_number, first_free}
@@ -134,7 +134,7 @@ ready_front {pc = pc} {m = m} u a b l r = record {
       (arith, r.free);
 }
 
--- behind the first of them
+-- after the first of them
 pub ready_back : {d : ℕ} {here : Setting} {fr : Frame} {t pc : ℕ} {m m1 : Machine} (u v : ℕ) (a b : List Step) → t ≤ u → t ≤ v → Ready d here fr t pc
     (a ++ b) m → Near v m m1 → m1.pc ≡ pc + length a → Ready d here fr u (pc + length a) b m1
 ready_back {d = d} {pc = pc} {m = m} {m1 = m1} u v a b l k r n e = record {
@@ -170,10 +170,10 @@ pub record Branched (m : Machine) (to : ℕ) (m' : Machine) : Type 0 where
 
 module _ {w : World} {p : List Function} where
   pub branch_runs : (r : ℕ) (b : Bool) (target : ℕ) (v : Value) (m : Machine) → m.registers r ≡ v → slice_get m.steps m.pc ≡ Some (Branch r b target) → Runs
-      w p m (tested v) (λ o m'. Branched m (either (same_bool o b) target (m.pc + 1)) m')
+      w p m (tested v) (λ o m'. Branched m (either (same_truth o b) target (m.pc + 1)) m')
   branch_runs r b target v m e h =
-      instruct m (Branch r b target) (tested v) (λ o. at (either (same_bool o b) target (m.pc + 1)) m) (Any {A = Bool}) _ h
-      (λ s. ap (λ z. carry (tested z s) (λ o. done (at (either (same_bool o b) target (m.pc + 1)) m))) e) (tested_gives w v)
+      instruct m (Branch r b target) (tested v) (λ o. at (either (same_truth o b) target (m.pc + 1)) m) (Any {A = Bool}) _ h
+      (λ s. ap (λ z. carry (tested z s) (λ o. done (at (either (same_truth o b) target (m.pc + 1)) m))) e) (tested_gives w v)
       (λ o q. record { steps = refl; stack = refl; pc = refl; registers = λ i. refl })
 
 -- ---- CLASSIFICATION

@@ -56,7 +56,7 @@ put_agrees x i v v' fr fr' e f = go (nat_eq i x)
     go true = e
     go false = f
 
--- what holds of the stored value, and of all that stood there, holds of all behind a store
+-- what holds of the stored value, and of all that stood there, holds of all after a store
 pub put_all : (P : ℕ → Value → Type 0) (x : ℕ) (v : Value) (fr : Frame) → P x v → ((i : ℕ) → P i (fr i)) → (i : ℕ) → P i (put x v fr i)
 put_all P x v fr h k i = go (nat_eq i x) refl
   where

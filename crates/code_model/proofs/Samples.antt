@@ -144,7 +144,7 @@ counting_function n =
 no_number : Numbers
 no_number k b = 0
 
--- behind the slot and the four defaults there are two rows of eight, and the sum stands in the first, where its left operand might
+-- after the slot and the four defaults there are two rows of eight, and the sum stands in the first, where its left operand might
 counting_code : (function_code no_number [] (counting_function 1) []).steps
     ≡ Literal 13 Uint64 1 ∷ Binary 1 (Words word.Add) Scalars 5 0 13 ∷ Store 0 5 ∷ ReturnNone ∷ []
 unfolding counting_function counted counting

@@ -1,7 +1,7 @@
 -- The steps of verified code fit, so that its registers keep their kinds.
 use Rattle.std.proofs.Common.{◌≡◌, ℕ, zero, suc, ◌+◌, ◌<◌, ◌==◌, List, [], ◌∷◌, length, Option, Some, None, Bool, true, false, not, ◌&&◌, ◌||◌, refl, sym, ap}
 use Rattle.std.proofs.Common.{◌∙◌, subst, arith}
-use Rattle.std.specs.Prelude.{slice_get, map, take, nat_lt, nat_le, if◌then◌else◌}
+use Rattle.std.specs.Prelude.{slice_get, unwrap_or, map, take, nat_lt, nat_le, if◌then◌else◌}
 use Rattle.std.specs.List.{list_all}
 use Rattle.std.proofs.lemmas.Bool.{ltb-true, and_parts}
 use Rattle.std.proofs.lemmas.List.{length-map}
@@ -69,7 +69,7 @@ kinds_same k l h =
 has : (ks : List Kind) (r : ℕ) → fitting.is_there ks r ≡ true → HasKind ks r (fitting.kind_at ks r)
 has ks r h =
     let e = slice_get-get_or ks r (fitting.public_scalar Uint64) (ltb-true r (length ks) h) in
-    e ∙ ap Some (sym (ap fitting.kind_or e))
+    e ∙ ap Some (sym (ap (λ o. unwrap_or o (fitting.public_scalar Uint64)) e))
 
 has_as : (ks : List Kind) (r : ℕ) (k : Kind) → fitting.is_there ks r ≡ true → fitting.same_kind (fitting.kind_at ks r) k ≡ true → HasKind ks r k
 has_as ks r k h e = has ks r h ∙ ap Some (kinds_same (fitting.kind_at ks r) k e)

@@ -1,7 +1,7 @@
 -- Of which shape the values are that rows give, and that scalars have one element.
 use Rattle.std.proofs.Common.{◌≡◌, ℕ, ◌+◌, ◌-◌, ◌*◌, List, [], ◌∷◌, ◌++◌, length, Option, Some, None, Ok, Err, Bool, true, false, cond}
 use Rattle.std.proofs.Common.{refl, sym, ap, ◌∙◌, subst, arith, inl, inr}
-use Rattle.std.specs.Prelude.{map, nat_le, take, drop, nat_lt, bytes_eq, if◌then◌else◌, sum, replicate, set, ◌%◌, ◌^◌}
+use Rattle.std.specs.Prelude.{get_or, map, nat_le, take, drop, nat_lt, bytes_eq, if◌then◌else◌, sum, replicate, set, ◌%◌, ◌^◌}
 use Rattle.std.specs.List.{flat_map}
 use Rattle.std.proofs.lemmas.Bool.{leb-true, and_parts}
 use Rattle.std.proofs.lemmas.List.{length-map, length-take-le}
@@ -143,7 +143,7 @@ module _ (w : World) where
   element_makes line x i = makes_after (charge 1) _ (λ _. makes_after (test (nat_lt (row.position i) (size x)) trap.Index line) _ (λ _. go x.secrecy))
     where
       words : List ℕ
-      words = row.element_at x.words (row.position i) ∷ []
+      words = get_or x.words (row.position i) 0 ∷ []
 
       go : (a : Secrecy) → Makes (row.element_from a x (row.position i)) (IsShaped (shape_of x.shape.element false))
       go Plain = shown (shape_of x.shape.element false) words (λ e. refl)

@@ -1,4 +1,4 @@
--- Where the code of a statement leads: behind itself, to where breaks or continues lead, or to a step that returns.
+-- Where the code of a statement leads: after itself, to where breaks or continues lead, or to a step that returns.
 use Rattle.std.proofs.Common.{◌≡◌, ◌≢◌, ℕ, ◌+◌, ◌<◌, ◌≤◌, List, [], ◌∷◌, ◌++◌, length, Some, Bool, refl, sym, ap, ◌∙◌, subst, arith}
 use Rattle.std.proofs.Common.{length-append}
 use Rattle.std.specs.Prelude.{slice_get}

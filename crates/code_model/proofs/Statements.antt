@@ -21,9 +21,10 @@ use Rattle.blind_evaluation.specs.Evaluation.{Frame, put, Calls, StatementContex
 use Rattle.blind_evaluation.specs.Evaluation.{asked_for, input_named}
 use Rattle.blind_evaluation.specs.Evaluation.{either, value, Flow, goes, stops, skips, stored, execute, execute_all}
 use Rattle.verified_code.specs.Steps.{Step, Store, Fill, Put, Argument, Publish, Assert, Branch, Jump, Call, Return, Function}
-use Rattle.code_model.specs.Machine.{Caller, Machine, at, next, step, resume, received, limit, same_bool}
+use Rattle.code_model.specs.Machine.{Caller, Machine, at, next, step, resume, received, limit, same_truth}
 use Rattle.code_model.specs.Kinds.{kind_of, kind_in, private_kind_in, in_row}
-use Rattle.code_model.specs.Expressions.{Numbers, classifying, picked, lacks, own_at, classified_at, stands_at, next_row, arguments_code, arguments_places, given_at, result_at}
+use Rattle.code_model.specs.Expressions.{Numbers, classifying, picked, lacks, own_at, classified_at, stands_at, next_row, arguments_code, arguments_places}
+use Rattle.code_model.specs.Expressions.{given_at, result_at}
 use Rattle.code_model.specs.Expressions.{unread_code}
 use Rattle.code_model.specs.Statements.{shape_number, first_free, behind_classifying, statement_code, statements_code}
 use Rattle.code_model.specs.Fit.{MayStand, IsFit, IsFitStatement, AreFitStatements}
@@ -186,7 +187,7 @@ module _ (w : World) (p : List Function) (number : Numbers) (fs : List TypedFunc
 
   -- ---- CONTROL
 
-  choosing : (o : Bool) (x y pa pb ta tb to : ℕ) (fr : Frame) (m : Machine) (f g : Effect Flow) → At (either (same_bool o false) pb pa) fr m → slice_get code
+  choosing : (o : Bool) (x y pa pb ta tb to : ℕ) (fr : Frame) (m : Machine) (f g : Effect Flow) → At (either (same_truth o false) pb pa) fr m → slice_get code
       ta ≡ Some (Jump tb) → tb ≡ to
       → (At pa fr m → Runs w p m f (Leads x y ta)) → (At pb fr m → Runs w p m g (Leads x y tb)) → Runs w p m (either o f g) (Leads x y to)
   choosing true x y pa pb ta tb to fr m f g h jump len rx ry = standing.went_at w p number calls d place code stack room x y tb to len
@@ -223,9 +224,9 @@ module _ (w : World) (p : List Function) (number : Numbers) (fs : List TypedFunc
         let len : pb + length cb ≡ pc + length (ce ++ rest) = omega (arith, length-append ce rest, length-append ca rest2) in
         runs_bind (evaluates e t pc fr m fit.0 le (has_front code pc ce rest has) h) (λ v m1 h1.
         runs_bind (branch_runs r false pb v m1 h1.value' (standing.next_step w p number calls d place code stack room h1.standing has1.0)) (λ o m2 h2.
-        let at2 : At (either (same_bool o false) pb pa) fr m2 = (
+        let at2 : At (either (same_truth o false) pb pa) fr m2 = (
           h2.steps ∙ h1.standing.0,
-          h2.pc ∙ ap (λ z. either (same_bool o false) pb (z + 1))
+          h2.pc ∙ ap (λ z. either (same_truth o false) pb (z + 1))
               h1.standing.1,
           h2.stack ∙ h1.standing.2,
           holds_kept base (omega arith) h1.standing.3 (λ i l. h2.registers i),

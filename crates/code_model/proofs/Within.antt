@@ -12,7 +12,7 @@ use Rattle.bytecode.specs.declared.kind.Kind.{Kind}
 use Rattle.verified_code.specs.Steps.{kind_shape, Step, Literal, Move, Store, Binary, Not, Cast, Classify, Fill, At, Put, Size, Cat, Sum, Bits, Declassify}
 use Rattle.verified_code.specs.Steps.{Argument, Publish, Assert, Branch, Jump, Call, Return, ReturnNone, Function}
 use Rattle.code_model.specs.Machine.{Caller, Machine, at, next, values_at, begun, filled_with, kinds_of, steps_of, entering, limit, received, resume}
-use Rattle.code_model.specs.Machine.{same_bool, step, begin_at, start}
+use Rattle.code_model.specs.Machine.{same_truth, step, begin_at, start}
 use Rattle.code_model.specs.Kinded.{IsOf, AreSingle, public_scalar, HasKind, ArgumentsHave, ResultFits, StepFits, is_return, IsFitting, IsIn, RegistersFit}
 use Rattle.code_model.specs.Kinded.{AreWithin, IsWithin}
 use Rattle.code_model.proofs.Places.{put_all}
@@ -136,7 +136,7 @@ module _ (w : World) (p : List Function) (fits : (f : Function) → IsIn p f →
     act (Argument line k text d) f g = sets d k (asked_for k.secret (kind_shape k) line (input_named w text)) (g refl) f (asked_kind w k line text singles)
     act (Publish text r) f g = makes_after (row.published w text (m.registers r)) _ (λ u. makes_done (moving (m.pc + 1) (g refl)))
     act (Assert line r) f g = makes_after (row.asserted line (m.registers r)) _ (λ u. makes_done (moving (m.pc + 1) (g refl)))
-    act (Branch r b target) f g = makes_after (row.tested (m.registers r)) _ (λ o. makes_done (moving _ (chosen (same_bool o b) target (m.pc + 1) f (g refl))))
+    act (Branch r b target) f g = makes_after (row.tested (m.registers r)) _ (λ o. makes_done (moving _ (chosen (same_truth o b) target (m.pc + 1) f (g refl))))
     act (Jump target) f g = makes_done (moving target f)
     act (Call line k d args) f g =
         makes_after (charge 1) _ (λ u. makes_after (test (nat_lt (length m.stack) limit) trap.Depth line) _

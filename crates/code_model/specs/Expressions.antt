@@ -97,7 +97,7 @@ binary_code d m n v u pc line op ds ga gb ca cb =
     ca ++ (cb (pc + length ca) ++ (classifying l m v
     ++ (classifying r n u ++ Binary line op ds d (picked l m v) (picked r n u) ∷ [])))
 
--- each operand is classified right behind its code, where it lacks that
+-- each operand is classified right after its code, where it lacks that
 abbrev pub cat_code : (d m n v u pc line : ℕ) → (left right : Bool) → List Step → (ℕ → List Step) → List Step
 cat_code d m n v u pc line l r ca cb =
     let cl = classifying l m v in
@@ -170,7 +170,7 @@ module _ (number : Numbers) where
     expression_code here t pc (declassify_node e) =
         one_code (Declassify (own_at here (declassify_node e) t)) (stands_at here e t) (expression_code here t pc e)
 
-    -- each argument in a row of its own, classified right behind its code where its parameter is private
+    -- each argument in a row of its own, classified right after its code where its parameter is private
     pub arguments_code : Setting → List BoundDomain → List Slot → (t pc : ℕ) → TypedTrees → List Step
     arguments_code here b ss t pc Tree'.none = []
     arguments_code here b ss t pc (Tree'.also e es) =

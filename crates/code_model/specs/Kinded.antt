@@ -122,7 +122,7 @@ is_return (Return r) = true
 is_return ReturnNone = true
 is_return i = false
 
--- each step fits, and all but a return have a step behind them
+-- each step fits, and all but a return have a step after them
 pub record IsFitting (p : List Function) (f : Function) : Type 0 where
   pub some : 0 < length f.steps
   pub fits : (place : ℕ) (i : Step) → slice_get f.steps place ≡ Some i → StepFits p f i

@@ -1,11 +1,10 @@
 -- The registers of values on their way: how many, and of which kinds.
 --
 -- Such a value stands in a row of eight registers, one for each kind. An expression has the row where its code begins for its own value
--- and for that of its first operand, and the rows behind it for its further operands: so each row is used again and again. Where a value
+-- and for that of its first operand, and the rows after it for its further operands: so each row is used again and again. Where a value
 -- has to be classified, it is so within its row.
 use Rattle.std.specs.Prelude.{ℕ, zero, suc, ◌+◌, max, Bool, true, false, List, [], ◌∷◌, ◌++◌, Option, Some, None}
 use Rattle.std.specs.List.{slice_get}
-use Rattle.secrec_ast.specs.declared.expression.DataType.{DataType}
 use Rattle.secrec_ast.specs.declared.expression.DataType.TheVariants.{Uint64}
 use Rattle.secrec_ast.specs.declared.expression.DataType.TheVariants as datatype
 use Rattle.typed_tree.specs.declared.kinds.Shape.{Shape}
@@ -13,7 +12,7 @@ use Rattle.typed_tree.specs.declared.kinds.Slot.{Slot}
 use Rattle.typed_tree.specs.declared.function.Returned.{Returned}
 use Rattle.typed_tree.specs.declared.function.Returned.TheVariants as given
 use Rattle.typed_tree.specs.Shapes.{shape_of}
-use Rattle.typed_tree.specs.Tree.{TypedTree, TypedTrees, word_node, truth_node, slot_node, call_node, size_node, cat_node, sum_node, bits_node, element_node}
+use Rattle.typed_tree.specs.Tree.{TypedTree, TypedTrees, truth_node, slot_node, call_node, size_node, cat_node, sum_node, bits_node, element_node}
 use Rattle.typed_tree.specs.Tree.{not_node, cast_node, binary_node, cut_node, declassify_node}
 use Rattle.typed_tree.specs.Tree as Tree'
 use Rattle.typed_tree.specs.Programs.{TypedFunctionTree}
@@ -22,15 +21,13 @@ use Rattle.reached_instances.specs.Domains.{Setting, domain_under}
 use Rattle.blind_evaluation.specs.Operations.{result_shape, cast_shape}
 use Rattle.blind_evaluation.specs.Evaluation.{is_private, gives_private, slot_shape, either}
 use Rattle.bytecode.specs.declared.kind.Kind.{Kind}
+use Rattle.bytecode.specs.Kinds.{element_bit}
 
 -- ---- HOW MANY
 
 abbrev mutual
   -- how many rows the code of an expression has
   pub depth : TypedTree → ℕ
-  depth (word_node n) = 1
-  depth (truth_node b) = 1
-  depth (slot_node k) = 1
   depth (call_node line k es) = max (depths es) 1
   depth (size_node e) = depth e
   depth (cat_node line a b) = max (depth a) (1 + depth b)
@@ -42,6 +39,7 @@ abbrev mutual
   depth (binary_node line op ds a b) = max (depth a) (1 + depth b)
   depth (cut_node c a b) = max (depth a) (1 + depth b)
   depth (declassify_node e) = depth e
+  depth _ = 1
 
   -- each argument stands in a row of its own
   pub depths : TypedTrees → ℕ
@@ -63,13 +61,10 @@ called_shape (Some f) = returned_shape f.given
 
 -- the shape of what an expression gives; a function that gives nothing back has a number that nobody reads
 abbrev pub shape_in : Setting → TypedTree → Shape
-shape_in here (word_node n) = shape_of Uint64 false
 shape_in here (truth_node b) = shape_of datatype.Bool false
 shape_in here (slot_node k) = slot_shape here k
 shape_in here (call_node line k es) = called_shape (slice_get here.functions k)
-shape_in here (size_node e) = shape_of Uint64 false
 shape_in here (cat_node line a b) = shape_in here a
-shape_in here (sum_node e) = shape_of Uint64 false
 shape_in here (bits_node line e) = shape_of datatype.Bool true
 shape_in here (element_node line a i) = shape_of (shape_in here a).element false
 shape_in here (not_node e) = shape_in here e
@@ -77,6 +72,7 @@ shape_in here (cast_node c e) = cast_shape c (shape_in here e).array
 shape_in here (binary_node line op ds a b) = result_shape op ds
 shape_in here (cut_node c a b) = shape_of datatype.Bool false
 shape_in here (declassify_node e) = shape_in here e
+shape_in here _ = shape_of Uint64 false
 
 abbrev pub kind_in : Setting → TypedTree → Kind
 kind_in here e = kind_of (gives_private here e) (shape_in here e)
@@ -90,13 +86,9 @@ truth_kind secret = kind_of secret (shape_of datatype.Bool false)
 
 -- ---- ROWS
 
-abbrev pub element_number : DataType → ℕ
-element_number Uint64 = 0
-element_number datatype.Bool = 2
-
 -- the place of a kind in a row
 abbrev pub kind_number : Kind → ℕ
-kind_number k = either k.secret 4 0 + (element_number k.element + either k.array 1 0)
+kind_number k = either k.secret 4 0 + (element_bit k.element + either k.array 1 0)
 
 abbrev pub shape_kinds : (secret : Bool) → List Kind
 shape_kinds secret =

@@ -22,7 +22,7 @@ use Rattle.code_model.specs.Kinded.{AreSingle, IsFitting, IsIn, IsWithin}
 abbrev pub MeansTheProgram : TypedProgramTree → List Instance → World → (budget : ℕ) → (answers : List ℕ) → Type 0
 MeansTheProgram p is w budget answers = IsFitProgram p is → mean_in w (code_of p is) budget answers ≡ evaluated w p budget answers
 
--- told the words that the run in the clear opens, and any more behind them
+-- told the words that the run in the clear opens, and any more after them
 abbrev pub BlindTakesTheSameCourse : TypedProgramTree → List Instance → Offered → (budget : ℕ) → (more : List ℕ) → Type 0
 BlindTakesTheSameCourse p is o budget more =
     IsFitProgram p is → TakeSameCourse (mean (code_of p is) o budget) (blind_mean (code_of p is) o ((mean (code_of p is) o budget).opened ++ more) budget)

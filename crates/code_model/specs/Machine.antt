@@ -1,5 +1,5 @@
 -- What each step does: the effect of its row of the language, and then the next step.
-use Rattle.std.specs.Prelude.{ℕ, zero, suc, ◌+◌, Bool, true, false, List, [], ◌∷◌, length, map, sum, nat_lt, Option, Some, None, Ok, Err}
+use Rattle.std.specs.Prelude.{ℕ, zero, suc, ◌+◌, false, List, [], ◌∷◌, length, drop, map, sum, nat_lt, Option, Some, None, unwrap_or, Ok, Err}
 use Rattle.std.specs.List.{slice_get}
 use Rattle.sc_text.specs.declared.end.Ending.TheVariants as ending
 use Rattle.sc_text.specs.declared.end.TrapKind.TheVariants as trap
@@ -8,6 +8,7 @@ use Rattle.blind_evaluation.specs.Effects.{World, Stage, RunStop, Run, Effect, �
 use Rattle.blind_evaluation.specs.Values.{Value, plain, never_stored, size}
 use Rattle.blind_evaluation.specs.Operations as row
 use Rattle.blind_evaluation.specs.Evaluation.{Frame, put, nothing, array_elements, either, asked_for, input_named}
+pub use Rattle.blind_evaluation.specs.Evaluation.{same_truth}
 use Rattle.bytecode.specs.declared.kind.Kind.{Kind}
 use Rattle.verified_code.specs.Steps.{kind_shape, Step, Literal, Move, Store, Binary, Not, Cast, Classify, Fill, At, Put, Size, Cat, Sum, Bits, Declassify}
 use Rattle.verified_code.specs.Steps.{Argument, Publish, Assert, Branch, Jump, Call, Return, ReturnNone, Function}
@@ -33,6 +34,10 @@ at pc m = record m { pc = pc }
 abbrev pub next : ℕ → Value → Machine → Machine
 next d v m = record m { pc = m.pc + 1; registers = put d v m.registers }
 
+-- so does what an effect gives
+abbrev pub into : ℕ → Machine → Value → Effect Machine
+into d m v = done (next d v m)
+
 abbrev pub values_at : Frame → List ℕ → List Value
 values_at registers rs = map registers rs
 
@@ -44,8 +49,7 @@ begun None = nothing
 begun (Some k) = never_stored k.secret (kind_shape k)
 
 abbrev pub behind_first : {A : Type 0} → List A → List A
-behind_first [] = []
-behind_first (x ∷ xs) = xs
+behind_first = drop 1
 
 -- the registers of a called function: its arguments, and then what each begins as
 abbrev pub filled_with : List Kind → List Value → Frame
@@ -53,13 +57,15 @@ filled_with kinds [] k = begun (slice_get kinds k)
 filled_with kinds (x ∷ xs) zero = x
 filled_with kinds (x ∷ xs) (suc k) = filled_with (behind_first kinds) xs k
 
+-- the code of a function that isn't there
+abbrev pub nothing_code : Function
+nothing_code = record { parameters = 0; gives = None; kinds = []; steps = [] }
+
 abbrev pub kinds_of : Option Function → List Kind
-kinds_of None = []
-kinds_of (Some f) = f.kinds
+kinds_of f = (unwrap_or f nothing_code).kinds
 
 abbrev pub steps_of : Option Function → List Step
-steps_of None = []
-steps_of (Some f) = f.steps
+steps_of f = (unwrap_or f nothing_code).steps
 
 abbrev pub caller_of : Option ℕ → Machine → Caller
 caller_of d m = record { steps = m.steps; pc = m.pc + 1; registers = m.registers; result = d }
@@ -84,12 +90,7 @@ resume (c ∷ cs) v = done (record { steps = c.steps; pc = c.pc; registers = rec
 
 -- ---- ONE STEP
 
-abbrev pub same_bool : Bool → Bool → Bool
-same_bool true b = b
-same_bool false true = false
-same_bool false false = true
-
--- behind the last step, where verified code never comes, the run is done
+-- after the last step, where verified code never comes, the run is done
 abbrev pub step : World → List Function → Option Step → Machine → Effect Machine
 step w p None m = end ending.Done
 step w p (Some (Literal d element n)) m = done (next d (plain (shape_of element false) (n ∷ [])) m)
@@ -97,54 +98,26 @@ step w p (Some (Move d r)) m = done (next d (m.registers r) m)
 step w p (Some (Store d r)) m = do
   _ ← row.charged row.no_traps (size (m.registers r))
   done (next d (m.registers r) m)
-step w p (Some (Binary line op ds d a b)) m = do
-  v ← row.operated w line op ds (m.registers a) (m.registers b)
-  done (next d v m)
-step w p (Some (Not d r)) m = do
-  v ← row.negated (m.registers r)
-  done (next d v m)
-step w p (Some (Cast c d r)) m = do
-  v ← row.cast_to w c (m.registers r)
-  done (next d v m)
-step w p (Some (Classify d r)) m = do
-  v ← row.classified (m.registers r)
-  done (next d v m)
-step w p (Some (Fill line d n x)) m = do
-  v ← row.filled line (m.registers n) (m.registers x)
-  done (next d v m)
-step w p (Some (At line d a i)) m = do
-  v ← row.element_of_array line (m.registers a) (m.registers i)
-  done (next d v m)
-step w p (Some (Put line a i x)) m = do
-  v ← row.with_element line (m.registers a) (m.registers i) (m.registers x)
-  done (next a v m)
-step w p (Some (Size d r)) m = do
-  v ← row.size_told (m.registers r)
-  done (next d v m)
-step w p (Some (Cat line d a b)) m = do
-  v ← row.concatenated line (m.registers a) (m.registers b)
-  done (next d v m)
-step w p (Some (Sum d r)) m = do
-  v ← row.summed (m.registers r)
-  done (next d v m)
-step w p (Some (Bits line d r)) m = do
-  v ← row.bits_extracted w line (m.registers r)
-  done (next d v m)
-step w p (Some (Declassify d r)) m = do
-  v ← row.declassified w (m.registers r)
-  done (next d v m)
-step w p (Some (Argument line kind text d)) m = do
-  v ← asked_for kind.secret (kind_shape kind) line (input_named w text)
-  done (next d v m)
+step w p (Some (Binary line op ds d a b)) m = row.operated w line op ds (m.registers a) (m.registers b) >>= into d m
+step w p (Some (Not d r)) m = row.negated (m.registers r) >>= into d m
+step w p (Some (Cast c d r)) m = row.cast_to w c (m.registers r) >>= into d m
+step w p (Some (Classify d r)) m = row.classified (m.registers r) >>= into d m
+step w p (Some (Fill line d n x)) m = row.filled line (m.registers n) (m.registers x) >>= into d m
+step w p (Some (At line d a i)) m = row.element_of_array line (m.registers a) (m.registers i) >>= into d m
+step w p (Some (Put line a i x)) m = row.with_element line (m.registers a) (m.registers i) (m.registers x) >>= into a m
+step w p (Some (Size d r)) m = row.size_told (m.registers r) >>= into d m
+step w p (Some (Cat line d a b)) m = row.concatenated line (m.registers a) (m.registers b) >>= into d m
+step w p (Some (Sum d r)) m = row.summed (m.registers r) >>= into d m
+step w p (Some (Bits line d r)) m = row.bits_extracted w line (m.registers r) >>= into d m
+step w p (Some (Declassify d r)) m = row.declassified w (m.registers r) >>= into d m
+step w p (Some (Argument line kind text d)) m = asked_for kind.secret (kind_shape kind) line (input_named w text) >>= into d m
 step w p (Some (Publish text r)) m = do
   _ ← row.published w text (m.registers r)
   done (at (m.pc + 1) m)
 step w p (Some (Assert line r)) m = do
   _ ← row.asserted line (m.registers r)
   done (at (m.pc + 1) m)
-step w p (Some (Branch r b target)) m = do
-  t ← row.tested (m.registers r)
-  done (at (either (same_bool t b) target (m.pc + 1)) m)
+step w p (Some (Branch r b target)) m = row.tested (m.registers r) >>= λ t. done (at (either (same_truth t b) target (m.pc + 1)) m)
 step w p (Some (Jump target)) m = done (at target m)
 step w p (Some (Call line g d args)) m = do
   _ ← charge 1

@@ -1,5 +1,5 @@
 -- The meaning of code: the report of its run, in the clear or blind.
-use Rattle.std.specs.Prelude.{◌≡◌, ℕ, zero, suc, ◌+◌, ◌<◌, nat_le, if◌then◌else◌, max, length, List, [], ◌∷◌, Option, Some, None}
+use Rattle.std.specs.Prelude.{◌≡◌, ℕ, ◌+◌, ◌*◌, ◌<◌, nat_le, if◌then◌else◌, max, length, List, [], ◌∷◌, Option, Some, unwrap_or}
 use Rattle.std.specs.List.{slice_get}
 use Rattle.sc_text.specs.declared.end.Ending.TheVariants as ending
 use Rattle.blind_evaluation.specs.Effects.{World, Stage, RunStop, Ended, Clear, Answers}
@@ -11,22 +11,16 @@ abbrev pub longest : List Function → ℕ
 longest [] = 0
 longest (f ∷ fs) = max (length f.steps) (longest fs)
 
--- what each unit of the budget is worth, and then n
-abbrev pub worth : ℕ → ℕ → ℕ
-worth l zero = 0
-worth l (suc n) = worth l n + (l + 1)
-
 -- how many steps a run can have where jumps go forward: a branch and a call are charged, and a return answers a call
 abbrev pub fuel : List Function → ℕ → ℕ
-fuel p budget = worth (longest p) budget + longest p + 1
+fuel p budget = budget * (longest p + 1) + longest p + 1
 
 abbrev pub report_at : World → ℕ → RunStop × Stage → Report
 report_at w budget x = reported w budget x.0 x.1
 
 -- a run that had no end would be out of budget
 abbrev pub stopped_or : Stage → Option (RunStop × Stage) → RunStop × Stage
-stopped_or s None = (Ended ending.Budget, s)
-stopped_or s (Some x) = x
+stopped_or s stopped = unwrap_or stopped (Ended ending.Budget, s)
 
 abbrev pub mean_in : World → List Function → (budget : ℕ) → (answers : List ℕ) → Report
 mean_in w p budget answers =

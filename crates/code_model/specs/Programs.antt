@@ -1,5 +1,5 @@
 -- The code of a typed function under a binding, and of a program.
-use Rattle.std.specs.Prelude.{ℕ, ◌+◌, ◌*◌, List, [], ◌∷◌, ◌++◌, length, map, Option, Some, None, if◌then◌else◌}
+use Rattle.std.specs.Prelude.{ℕ, ◌+◌, ◌*◌, List, [], ◌∷◌, ◌++◌, length, map, Option, Some, None, option_to_list, if◌then◌else◌}
 use Rattle.std.specs.List.{slice_get}
 use Rattle.typed_tree.specs.declared.function.Returned.{Returned}
 use Rattle.typed_tree.specs.declared.function.Returned.TheVariants as given
@@ -9,6 +9,7 @@ use Rattle.reached_instances.specs.Instances.{Instance, same_instance}
 use Rattle.blind_evaluation.specs.Evaluation.{place_in}
 use Rattle.bytecode.specs.declared.kind.Kind.{Kind}
 use Rattle.verified_code.specs.Steps.{Step, Return, ReturnNone, Function}
+pub use Rattle.code_model.specs.Machine.{nothing_code}
 use Rattle.code_model.specs.Kinds.{slot_kind, rows_kinds}
 use Rattle.code_model.specs.Expressions.{Numbers}
 use Rattle.code_model.specs.Statements.{defaults_behind, first_free, statements_depth, statements_code}
@@ -20,8 +21,7 @@ given_kind b (given.Value s) = Some (slot_kind b s)
 -- a body that falls off its end gives nothing back. Where something is wanted it never does: its last step would return a register of
 -- this kind that no step writes, which is the last one
 abbrev pub last_kinds : List BoundDomain → Returned → List Kind
-last_kinds b given.Nothing = []
-last_kinds b (given.Value s) = slot_kind b s ∷ []
+last_kinds b g = option_to_list (given_kind b g)
 
 abbrev pub last_step : Returned → (r : ℕ) → Step
 last_step given.Nothing r = ReturnNone
@@ -32,7 +32,7 @@ module _ (number : Numbers) (fs : List TypedFunctionTree) where
   abbrev pub body_end : TypedFunctionTree → List BoundDomain → ℕ
   body_end f b = length (statements_code number (place_in fs f b) (first_free f.slots) 0 0 0 f.body)
 
-  -- its slots are the first registers; a break outside of a loop would lead behind the body
+  -- its slots are the first registers; a break outside of a loop would lead after the body
   abbrev pub function_code : TypedFunctionTree → List BoundDomain → Function
   function_code f b =
       record {
@@ -52,9 +52,6 @@ place_of i (j ∷ js) = if same_instance i j then 0 else place_of i js + 1
 
 abbrev pub numbers_in : List Instance → Numbers
 numbers_in is k b = place_of (record { function = k; binding = b }) is
-
-abbrev pub nothing_code : Function
-nothing_code = record { parameters = 0; gives = None; kinds = []; steps = [] }
 
 -- where the function isn't there, which is so for no reached instance, its code is empty
 abbrev pub code_of_found : Numbers → List TypedFunctionTree → List BoundDomain → Option TypedFunctionTree → Function

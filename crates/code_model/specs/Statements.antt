@@ -11,16 +11,17 @@ use Rattle.typed_tree.specs.Statements.{fill_statement, input_statement, element
 use Rattle.typed_tree.specs.Statements as Statements'
 use Rattle.blind_evaluation.specs.Evaluation.{StatementContext, gives_private, slot_is_private, slot_shape, either}
 use Rattle.bytecode.specs.declared.kind.Kind.{Kind}
+use Rattle.bytecode.specs.Kinds.{element_bit}
 use Rattle.verified_code.specs.Steps.{Step, Store, Fill, Put, Argument, Publish, Assert, Branch, Jump, Return, ReturnNone}
-use Rattle.code_model.specs.Kinds.{depth, kind_of, element_number, shape_kinds, in_row}
+use Rattle.code_model.specs.Kinds.{depth, kind_of, shape_kinds, in_row}
 use Rattle.code_model.specs.Expressions.{Numbers, classifying, picked, lacks, classified_at, stands_at, next_row, unread_code, expression_code}
 
 -- ---- DEFAULTS
 
--- Behind its slots a function that has any has one public register of each shape, which no step writes: a declaration
+-- After its slots a function that has any has one public register of each shape, which no step writes: a declaration
 -- without a value stores what it begins as.
 abbrev pub shape_number : Shape → ℕ
-shape_number s = element_number s.element + either s.array 1 0
+shape_number s = element_bit s.element + either s.array 1 0
 
 abbrev pub default_kinds : List Kind
 default_kinds = shape_kinds false
@@ -30,7 +31,7 @@ abbrev pub defaults_behind : {A : Type 0} → List A → List Kind
 defaults_behind [] = []
 defaults_behind (s ∷ ss) = default_kinds
 
--- the first register behind the slots and the defaults
+-- the first register after the slots and the defaults
 abbrev pub first_free : List Slot → ℕ
 first_free ss = length ss + length (defaults_behind ss)
 
@@ -39,14 +40,10 @@ first_free ss = length ss + length (defaults_behind ss)
 -- as many rows as the statement has that wants the most
 abbrev mutual
   pub statement_depth : TypedStatementTree → ℕ
-  statement_depth empty_statement = 0
   statement_depth (block_statement cs) = statements_depth cs
   statement_depth (if_statement e a b) = max (depth e) (max (statement_depth a) (statement_depth b))
   statement_depth (loop_statement e step body) = max (depth e) (max (statement_depth step) (statement_depth body))
   statement_depth (do_statement body e) = max (depth e) (statement_depth body)
-  statement_depth break_statement = 0
-  statement_depth continue_statement = 0
-  statement_depth (return_statement None) = 0
   statement_depth (return_statement (Some e)) = depth e
   statement_depth (assert_statement line e) = depth e
   statement_depth (store_statement k e) = depth e
@@ -56,6 +53,7 @@ abbrev mutual
   statement_depth (element_statement line k i e) = max (depth i) (1 + depth e)
   statement_depth (publish_statement text e) = depth e
   statement_depth (evaluate_statement e) = depth e
+  statement_depth _ = 0
 
   pub statements_depth : TypedStatementTrees → ℕ
   statements_depth Statements'.none = 0
@@ -69,7 +67,7 @@ if_code pc t test a b =
     let pb = pa + length (a pa) + 1 in
     test ++ (Branch t false pb ∷ (a pa ++ (Jump (pb + length (b pb)) ∷ b pb)))
 
--- the test stands behind the body and the step, so that each test is one branch
+-- the test stands after the body and the step, so that each test is one branch
 abbrev pub loop_code : (pc t : ℕ) → (test body step : ℕ → List Step) → List Step
 loop_code pc t test body step =
     let py = pc + 1 + length (body (pc + 1)) in

@@ -20,7 +20,7 @@ pub fn code_means_what_the_program_does()
     ensures reached { (p : TypedProgramTree) (is : List Instance) → FitsWhereReached p is }
 {}
 
-/// Law: a blind run of a program's code, told the words that the run in the clear opens and any more behind them, takes the course
+/// Law: a blind run of a program's code, told the words that the run in the clear opens and any more after them, takes the course
 /// of the run in the clear, and never wants an answer.
 pub fn blind_runs_of_code_take_the_same_course()
     ensures same { (p : TypedProgramTree) (is : List Instance) (o : Offered) (budget : ℕ) (more : List ℕ) →

@@ -12,7 +12,7 @@ use Rattle.language_model.specs.Reports.{Offered}
 use Rattle.verified_code.specs.Steps.{kind_shape, Step, Literal, Move, Store, Binary, Not, Cast, Classify, Fill, At, Put, Size, Cat, Sum, Bits}
 use Rattle.verified_code.specs.Steps.{Declassify}
 use Rattle.verified_code.specs.Steps.{Argument, Publish, Assert, Branch, Jump, Call, Return, ReturnNone, Function}
-use Rattle.gate_laws.specs.Machine.{Caller, Machine, limit, same_bool, resume, step}
+use Rattle.gate_laws.specs.Machine.{Caller, Machine, limit, same_truth, resume, step}
 use Rattle.blind_evaluation.proofs.Alike.{Alike, alike_bind, alike_done, same_bind, any_bind, end_alike, charge_alike, charge_equal, test_equal}
 use Rattle.blind_evaluation.proofs.AlikeValues.{LikeValues, plains}
 use Rattle.blind_evaluation.proofs.Rows.{clear, unseen, sized_alike, classified_alike, negated_alike, size_told_alike, summed_alike}
@@ -35,8 +35,8 @@ module _ (o : Offered) (c : List Function) {m m' : Machine} (l : LikeMachine m m
   abbrev in_register : (r : ℕ) → LikeValues (m.registers r) (m'.registers r)
   in_register r = like_at l.registers r
 
-  branch_alike : (t : Bool) (b : Bool) (target : ℕ) → either (same_bool t b) target (m.pc + 1) ≡ either (same_bool t b) target (m'.pc + 1)
-  branch_alike t b target = ap (λ n. either (same_bool t b) target (n + 1)) l.pc
+  branch_alike : (t : Bool) (b : Bool) (target : ℕ) → either (same_truth t b) target (m.pc + 1) ≡ either (same_truth t b) target (m'.pc + 1)
+  branch_alike t b target = ap (λ n. either (same_truth t b) target (n + 1)) l.pc
 
   pub step_alike : (i : Option Step) → Alike LikeMachine (step (clear o) c i m) (step (unseen o) c i m')
   step_alike None = end_alike ending.Done

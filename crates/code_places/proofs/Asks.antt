@@ -166,7 +166,7 @@ module _ (o : Offered) where
       wants s n events (x ∷ xs) e =
           (retold [] events s, ap (λ b. carry (none_taken (x ∷ xs) (retold [] events s) b) (telling shape)) (too_few x xs), refl)
 
-  -- behind the gate
+  -- after the gate
   gate_asks :
       (k : Option ℕ) (shape : Shape) (words words' : List ℕ) → length words ≡ length words' → (u u' : ℕ) → u ≡ u' →
       Asks (gate (Open (ring_for shape.element) u) >>= λ _. revealed (clear o) (private k shape words))

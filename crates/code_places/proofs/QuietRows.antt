@@ -1,6 +1,6 @@
 -- All operations but an opening are quiet.
 use Rattle.std.proofs.Common.{ℕ, ◌+◌, ◌*◌, ◌-◌, ◌%◌, ◌^◌, List, [], ◌∷◌, ◌++◌, Bool, true, false, Option, Some, None, length}
-use Rattle.std.specs.Prelude.{map, replicate, nat_lt, sum}
+use Rattle.std.specs.Prelude.{get_or, map, replicate, nat_lt, sum}
 use Rattle.std.specs.List.{flat_map}
 use Rattle.sc_text.specs.declared.end.Ending.TheVariants as ending
 use Rattle.sc_text.specs.declared.end.TrapKind.TheVariants as trap
@@ -28,13 +28,13 @@ use Rattle.language_model.specs.Values.{Secrecy, Plain, Private, Value, plain, h
 use Rattle.language_model.specs.Words as W
 use Rattle.language_model.specs.Operations.{charged, no_traps, not_too_large, number_from, number_of, made_private, classified_from}
 use Rattle.language_model.specs.Operations.{classified, stretched, is_scalar_left}
-use Rattle.language_model.specs.Operations.{is_scalar_right, flip, words_of_operator, equal_gates, less_gates, word_gates, or_gates}
-use Rattle.language_model.specs.Operations.{bool_gates, operator_gates}
+use Rattle.language_model.specs.Operations.{is_scalar_right, flip, words_of_operator, equal_gates, less_gates, or_gates}
+use Rattle.language_model.specs.Operations.{operator_gates}
 use Rattle.language_model.specs.Operations.{result_shape, private_result, product_with, combined_from, operator_traps, operated, negated_from}
 use Rattle.language_model.specs.Operations.{negated, words_of_cast}
 use Rattle.language_model.specs.Operations.{cast_shape, cast_gates, changed, cast_from, cast_to, scalar_word, size_told, summed_from, summed}
 use Rattle.language_model.specs.Operations.{words_for_bits, bits_from}
-use Rattle.language_model.specs.Operations.{bits_extracted, concatenated_from, concatenated, position, element_at, element_from, element_of_array}
+use Rattle.language_model.specs.Operations.{bits_extracted, concatenated_from, concatenated, position, element_from, element_of_array}
 use Rattle.language_model.specs.Operations.{with_element_from, with_element}
 use Rattle.language_model.specs.Operations.{filled_from, filled, handed_over, published, tested, asserted}
 use Rattle.language_model.specs.Evaluation.{is_as_declared, given_value, asked_for}
@@ -90,7 +90,7 @@ module _ (told : Bool) where
   less_quiet : (n u v : ℕ) → Quiet told (less_gates n u v)
   less_quiet n u v = quiet_planned told (λ first. less_plan first u v n)
 
-  word_quiet : (op : WordOperator) (n u v : ℕ) → Quiet told (word_gates op n u v)
+  word_quiet : (op : WordOperator) (n u v : ℕ) → Quiet told (operator_gates (binary.Words op) n u v)
   word_quiet word.Add n u v = quiet_gate told (Add u v)
   word_quiet word.Subtract n u v = quiet_gate told (Sub u v)
   word_quiet word.Multiply n u v = quiet_gate told (Mul u v)
@@ -106,7 +106,7 @@ module _ (told : Bool) where
   or_quiet u v =
       bind (quiet_gate told (And u v)) (λ both. bind (quiet_gate told (Xor u v)) (λ one. quiet_gate told (Xor one both)))
 
-  truth_quiet : (op : BoolOperator) (n u v : ℕ) → Quiet told (bool_gates op n u v)
+  truth_quiet : (op : BoolOperator) (n u v : ℕ) → Quiet told (operator_gates (binary.Bools op) n u v)
   truth_quiet truth.Xor n u v = quiet_gate told (Xor u v)
   truth_quiet truth.And n u v = quiet_gate told (And u v)
   truth_quiet truth.Or n u v = or_quiet u v
@@ -213,9 +213,9 @@ module _ (told : Bool) where
   concatenated_quiet line x y = bind (large_quiet line (size x + size y)) (λ _. concatenated_from_quiet x.secrecy y.secrecy x y)
 
   element_from_quiet : (x : Secrecy) (v : Value) (i : ℕ) → Quiet told (element_from x v i)
-  element_from_quiet Plain v i = quiet_done told (plain (shape_of v.shape.element false) (element_at v.words i ∷ []))
+  element_from_quiet Plain v i = quiet_done told (plain (shape_of v.shape.element false) (get_or v.words i 0 ∷ []))
   element_from_quiet (Private k) v i =
-      bind (number_quiet v) (λ u. bind (quiet_gate told (Part u i 1)) (λ r. made_quiet (shape_of v.shape.element false) (element_at v.words i ∷ []) r))
+      bind (number_quiet v) (λ u. bind (quiet_gate told (Part u i 1)) (λ r. made_quiet (shape_of v.shape.element false) (get_or v.words i 0 ∷ []) r))
 
   pub element_quiet : (line : ℕ) (v i : Value) → Quiet told (element_of_array line v i)
   element_quiet line v i =

@@ -38,7 +38,7 @@ offer =
       inputs = record { text = 120 ∷ []; secret = true; shape = shape_of Uint64 false; words = 7 ∷ [] } ∷ [];
     }
 
--- behind the input, in the clear and told
+-- after the input, in the clear and told
 abbrev known : Place
 known = place_of ((in_the_clear offer code).step (first_place code 100))
 

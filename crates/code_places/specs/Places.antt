@@ -28,11 +28,12 @@ pub record Place : Type 0 where
   pub stage : Stage
   pub ended : Option Ending
 
+abbrev pub place : Option Ending → Machine → Stage → Place
+place ended m s = record { machine = m; stage = record s { answers = [] }; ended = ended }
+
+-- a stage with these answers to come
 abbrev pub telling_stage : List ℕ → Stage → Stage
 telling_stage answers s = record s { answers = answers }
-
-abbrev pub place : Option Ending → Machine → Stage → Place
-place ended m s = record { machine = m; stage = telling_stage [] s; ended = ended }
 
 abbrev pub stopped : Machine → Stage → RunStop → Went Place
 stopped m s (Ended e) = Over (place (Some e) m s)
@@ -47,7 +48,7 @@ next_step m = slice_get m.steps m.pc
 
 -- the next step, told these words
 abbrev pub step_told : World → List Function → Place → (told : List ℕ) → Went Place
-step_told w c p told = went p.machine (step w c (next_step p.machine) p.machine (telling_stage told p.stage))
+step_told w c p told = went p.machine (step w c (next_step p.machine) p.machine (record p.stage { answers = told }))
 
 abbrev pub first_place : List Function → (budget : ℕ) → Place
 first_place c budget = place None (start c) (beginning budget [])
@@ -91,6 +92,6 @@ code_steps w c = record { step = step_told w c; gates = λ p. p.stage.gates; not
 abbrev pub when_told : Offered → List Function → Steps Place Gate
 when_told o c = code_steps (world_of Answers (public_part o)) c
 
--- gates behind others, on what is dealt
+-- gates after others, on what is dealt
 abbrev pub run_dealt : Dealt → ToRun Gate
 run_dealt d before more = run_gates d.shares (sizes_of d.inputs) (sizes_after (sizes_of d.inputs) [] before) more

@@ -16,7 +16,7 @@ pub fn code_has_twins()
 {}
 
 /// Law: in each world only a declassification opens words. A step that wants words has told no event, opened no word and taken no
-/// answer, and its gates come behind those that were there, so that it can be done again with these words.
+/// answer, and its gates come after those that were there, so that it can be done again with these words.
 pub fn steps_can_be_done_again()
     ensures opens { (w : World) (c : List Function) → OnlyDeclassifyOpens w c }
     ensures again { (w : World) (c : List Function) → WantsBeforeItTells w c }

@@ -1,6 +1,6 @@
 -- Rows of arrays: joined, element by element, filled.
 use Rattle.std.proofs.Common.{◌≡◌, ℕ, zero, suc, ◌+◌, ◌<◌, ◌≤◌, ◌^◌, List, [], ◌∷◌, ◌++◌, length, true, false, refl, sym, ap, subst, arith, length-append}
-use Rattle.std.specs.Prelude.{nat_le, nat_lt, replicate, set, take, drop}
+use Rattle.std.specs.Prelude.{get_or, nat_le, nat_lt, replicate, set, take, drop}
 use Rattle.std.proofs.lemmas.Bool.{leb-true, ltb-true}
 use Rattle.sc_text.specs.declared.end.TrapKind.TheVariants as trap
 use Rattle.secrec_ast.specs.declared.expression.DataType.{DataType}
@@ -10,7 +10,7 @@ use Rattle.gates.specs.Clear.{first_word}
 use Rattle.typed_tree.specs.Shapes.{shape_of}
 use Rattle.language_model.specs.Effects.{World, ◌>>=◌, test, gate}
 use Rattle.language_model.specs.Values.{Secrecy, Plain, Private, Value, size, visible_words, seen_of, ring_for}
-use Rattle.language_model.specs.Operations.{charged, largest, not_too_large, number_of, made_private, concatenated_from, concatenated, position, element_at}
+use Rattle.language_model.specs.Operations.{charged, largest, not_too_large, number_of, made_private, concatenated_from, concatenated, position}
 use Rattle.language_model.specs.Operations.{element_from, element_of_array}
 use Rattle.language_model.specs.Operations.{with_element_from, with_element, filled_from, filled}
 use Rattle.gate_laws.specs.Facts.{IsProper, none_of, Fact, facts_of, Suits}
@@ -24,12 +24,12 @@ use Rattle.gate_laws.proofs.Meanings.{some_bound}
 use Rattle.gate_laws.proofs.Operators.{in_terms}
 
 -- the element at an index as a part
-part_of_one : (xs : List ℕ) (i : ℕ) → i < length xs → take 1 (drop i xs) ≡ element_at xs i ∷ []
+part_of_one : (xs : List ℕ) (i : ℕ) → i < length xs → take 1 (drop i xs) ≡ get_or xs i 0 ∷ []
 part_of_one [] i h = absurd (omega (arith, h))
 part_of_one (x ∷ xs) zero h = refl
 part_of_one (x ∷ xs) (suc i) h = part_of_one xs i (omega (arith, h))
 
-element_below : (b i : ℕ) (xs : List ℕ) → 0 < b → Below b xs → element_at xs i < b
+element_below : (b i : ℕ) (xs : List ℕ) → 0 < b → Below b xs → get_or xs i 0 < b
 element_below b i [] some h = some
 element_below b zero (x ∷ xs) some h = below_head b x xs h
 element_below b (suc i) (x ∷ xs) some h = element_below b i xs some (below_tail b x xs h)
@@ -52,7 +52,7 @@ module _ (w : World) (d : Dealt) where
       (λ u. nat_lt i n ≡ true)
   inside_suits fs line i n = test_suits w d fs (nat_lt i n) trap.Index line
 
-  -- ---- one behind another
+  -- ---- one after another
 
   module _ (x y : Value) (p : IsProper x) (q : IsProper y) (same : y.shape.element ≡ x.shape.element) where
     abbrev both : List Fact
@@ -103,19 +103,19 @@ module _ (w : World) (d : Dealt) where
     abbrev ring : RingKind
     ring = ring_for v.shape.element
 
-    element_range : (i : ℕ) → InRange v.shape.element (element_at v.words i ∷ [])
+    element_range : (i : ℕ) → InRange v.shape.element (get_or v.words i 0 ∷ [])
     element_range i =
-        one_below (bound v.shape.element) (element_at v.words i) (element_below (bound v.shape.element) i v.words (some_bound v.shape.element) p.range)
+        one_below (bound v.shape.element) (get_or v.words i 0) (element_below (bound v.shape.element) i v.words (some_bound v.shape.element) p.range)
 
     element_from_suits : (a : Secrecy) (i : ℕ) → i < size v → Suits w d fs none_of (element_from a v i) none_of facts_of IsProper
-    element_from_suits Plain i inside = shown_suits w d fs (shape_of v.shape.element false) (element_at v.words i ∷ []) (element_range i) (omega arith)
+    element_from_suits Plain i inside = shown_suits w d fs (shape_of v.shape.element false) (get_or v.words i 0 ∷ []) (element_range i) (omega arith)
     element_from_suits (Private k) i inside =
         suits_bind w d (number_suits w d fs none_of v (tell_same fs) p.range) (λ u _.
         suits_bind w d
         (in_terms w d (part_of_one v.words i inside)
         (gate_suits w d (fact u ring v.words ∷ fs) none_of none_of none_of (gates.Part u i 1) ring (take 1 (drop i v.words)) (λ m. refl) refl
         (λ r good facts. part_gain r good u ring v.words facts.0 i 1 (omega (arith, inside))))) (λ r _.
-        given_suits w d _ (shape_of v.shape.element false) (element_at v.words i ∷ []) r (tell_first _ _) (element_range i) (omega arith)))
+        given_suits w d _ (shape_of v.shape.element false) (get_or v.words i 0 ∷ []) r (tell_first _ _) (element_range i) (omega arith)))
 
     pub element_suits : (line : ℕ) (i : Value) → Suits w d fs none_of (element_of_array line v i) none_of facts_of IsProper
     element_suits line i =

@@ -115,7 +115,7 @@ module _ (w : World) (d : Dealt) where
       → Suits w d fs before c after F R
   suits_from t h = record { from = λ kinds s at stands. h.from kinds s at (t.from (run_at w d kinds s) stands) }
 
-  -- what is known behind it tells less
+  -- what is known after it tells less
   pub suits_with :
       {A : Type 0} {fs : List Fact} {before after : Miner → ℕ} {c : Effect A} {F G : A → List Fact} {R S : A → Type 0} → Suits w d fs before c after F R
       → ((a : A) → R a → Tell (F a) (G a)) → ((a : A) → R a → S a) → Suits w d fs before c after G S

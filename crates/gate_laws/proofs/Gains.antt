@@ -1,4 +1,4 @@
--- Gates that an effect adds behind a run, and the fact of the value that they end with.
+-- Gates that an effect adds after a run, and the fact of the value that they end with.
 use Rattle.std.proofs.Common.{◌≡◌, ℕ, ◌+◌, ◌-◌, Some, List, [], ◌∷◌, ◌++◌, length, refl, sym, ap, ◌∙◌, subst, arith, append_assoc, append-nil}
 use Rattle.std.specs.Prelude.{slice_get}
 use Rattle.gates.specs.declared.ring_kind.RingKind.{RingKind}
@@ -49,7 +49,7 @@ abbrev pub fact : ℕ → RingKind → List ℕ → Fact
 fact k ring ws = record { number = k; ring = ring; words = ws }
 
 module _ (w : World) (d : Dealt) where
-  -- behind these gates
+  -- after these gates
   abbrev added : List Gate → Stage → Stage
   added gs s = record s { made = s.made + made_by_all gs; gates = s.gates ++ gs }
 

@@ -7,7 +7,7 @@ use Rattle.share_ring.specs.Rings.{add_ring, xor_ring}
 use Rattle.gates.specs.Clear.{each_two}
 use Rattle.gates.specs.WordTests.{zero_test, less_test}
 use Rattle.language_model.specs.Words.{truth_word, flipped}
-use Rattle.language_model.specs.Words.{word_meaning, truth_meaning, meaning}
+use Rattle.language_model.specs.Words.{meaning}
 use Rattle.secrec_ast.specs.declared.expression.DataType.{DataType}
 use Rattle.secrec_ast.specs.declared.expression.DataType.TheVariants.{Uint64}
 use Rattle.secrec_ast.specs.declared.expression.DataType.TheVariants as datatype
@@ -151,7 +151,7 @@ some_bound datatype.Bool = omega arith
 and_lt : (x y : ℕ) → x < 2 ^ 64 → bit_and x y < 2 ^ 64
 and_lt x y h = let e = and_le_l x y in omega (arith, e, h)
 
-pub word_range : (op : WordOperator) (x y : ℕ) → x < 2 ^ 64 → y < 2 ^ 64 → word_meaning op x y < bound (element_made (Words op))
+pub word_range : (op : WordOperator) (x y : ℕ) → x < 2 ^ 64 → y < 2 ^ 64 → meaning (Words op) x y < bound (element_made (Words op))
 word_range word.Add x y h k = add_ring_laws.add_word x y
 word_range word.Subtract x y h k = add_ring_laws.sub_word x y
 word_range word.Multiply x y h k = add_ring_laws.mul_word x y
@@ -167,7 +167,7 @@ word_range word.And x y h k = and_lt x y h
 word_range word.Or x y h k = or_lt 64 x y h k
 word_range word.Xor x y h k = xor_lt 64 x y h k
 
-pub truth_range : (op : BoolOperator) (x y : ℕ) → x < 2 → y < 2 → truth_meaning op x y < 2
+pub truth_range : (op : BoolOperator) (x y : ℕ) → x < 2 → y < 2 → meaning (Bools op) x y < 2
 truth_range truth.Equal x y h k = truth_below (nat_eq x y)
 truth_range truth.NotEqual x y h k = truth_below (not (nat_eq x y))
 truth_range truth.And x y h k = bits_low bit_and (omega arith) (omega arith) (omega arith) (omega arith) x y h k
@@ -176,6 +176,6 @@ truth_range truth.Xor x y h k = bits_low bit_xor (omega arith) (omega arith) (om
 
 pub operator_range : (op : BinaryOperator) (us vs : List ℕ) → Below (bound (element_taken op)) us → Below (bound (element_taken op)) vs
     → Below (bound (element_made op)) (each_two (meaning op) us vs)
-operator_range (Words op) us vs p q = two_below (2 ^ 64) (bound (element_made (Words op))) (word_meaning op) us vs (some_bound (element_made (Words op)))
+operator_range (Words op) us vs p q = two_below (2 ^ 64) (bound (element_made (Words op))) (meaning (Words op)) us vs (some_bound (element_made (Words op)))
     (word_range op) p q
-operator_range (Bools op) us vs p q = two_below 2 2 (truth_meaning op) us vs (omega arith) (truth_range op) p q
+operator_range (Bools op) us vs p q = two_below 2 2 (meaning (Bools op)) us vs (omega arith) (truth_range op) p q

@@ -1,4 +1,4 @@
--- An opening: behind it all know the words.
+-- An opening: after it all know the words.
 use Rattle.std.proofs.Common.{◌≡◌, ℕ, ◌+◌, ◌<◌, ◌≤◌, ◌^◌, ◌%◌, List, [], ◌∷◌, ◌++◌, length, map, take, drop, Ok, Err, Bool, true, false, cond, refl, sym}
 use Rattle.std.proofs.Common.{ap, ◌∙◌, subst, arith, append-nil, length-append}
 use Rattle.std.specs.Prelude.{nat_le}
@@ -117,11 +117,11 @@ module _ (w : World) (d : Dealt) (v : Value) (p : IsProper v) (u : ℕ) where
   abbrev ring : RingKind
   ring = ring_for element
 
-  -- behind the gate
+  -- after the gate
   abbrev behind : Stage → Stage
   behind s = record s { made = s.made + 1; gates = s.gates ++ Open ring u ∷ [] }
 
-  -- and behind what is told
+  -- and after what is told
   abbrev told : List ℕ → Stage → Stage
   told words s = record s { opened = s.opened ++ words; events = s.events ++ event.Open (elements_of (plain v.shape words)) ∷ [] }
 

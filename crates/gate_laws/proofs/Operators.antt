@@ -23,9 +23,9 @@ use Rattle.typed_tree.specs.declared.operators.BinaryOperator.TheVariants.{Words
 use Rattle.typed_tree.specs.Operators.{element_made}
 use Rattle.language_model.specs.Effects.{World, Effect, ◌>>=◌, gate, words_each}
 use Rattle.language_model.specs.Values.{ring_for}
-use Rattle.language_model.specs.Words.{flipped, word_meaning, truth_meaning, meaning}
-use Rattle.language_model.specs.Operations.{flip, words_for_equality, words_for_order, words_of_word_operator, words_of_bool_operator, words_of_operator}
-use Rattle.language_model.specs.Operations.{equal_gates, less_gates, word_gates, or_gates, bool_gates, operator_gates}
+use Rattle.language_model.specs.Words.{flipped, meaning}
+use Rattle.language_model.specs.Operations.{flip, words_for_equality, words_for_order, words_of_operator}
+use Rattle.language_model.specs.Operations.{equal_gates, less_gates, or_gates, operator_gates}
 use Rattle.gate_laws.specs.Facts.{none_of, Fact, Suits}
 use Rattle.gate_laws.specs.Dealt.{InRange, drawn_by, Dealt}
 use Rattle.gate_laws.specs.Rows.{element_taken, has_gates}
@@ -87,7 +87,7 @@ module _ (w : World) (d : Dealt) where
     -- ---- numbers
 
     module _ (t : Both fs u v Arithmetic us vs) (p : Below (2 ^ 64) us) (q : Below (2 ^ 64) vs) where
-      equal_suits : Suits w d fs (drawn_by (words_for_equality n)) (equal_gates u v) none_of (Numbered Boolean (each_two (word_meaning word.Equal) us vs))
+      equal_suits : Suits w d fs (drawn_by (words_for_equality n)) (equal_gates u v) none_of (Numbered Boolean (each_two (meaning (Words word.Equal)) us vs))
           (Any {A = ℕ})
       equal_suits =
           let ds = each_two add_ring.sub us vs in
@@ -97,29 +97,29 @@ module _ (w : World) (d : Dealt) where
           (λ m. omega arith) refl
           (λ r good facts. sub_gain r good u v us vs same (t.from r facts).0 (t.from r facts).1.0)) (λ k _.
           in_terms (map_two zero_test add_ring.sub us vs ∙ two_same (2 ^ 64) (λ x y. zero_test (add_ring.sub x y))
-          (word_meaning word.Equal) us vs equal_word p q)
+          (meaning (Words word.Equal)) us vs equal_word p q)
           (planned_suits w d (fact k Arithmetic ds ∷ fs) (drawn_by (words_for_equality n)) (λ m. equality.words_taken m (length ds)) none_of
           (λ first. eq_plan first k) zero_test_kinds
           16 Boolean (map zero_test ds) (λ m. let e = equality_words n m ∙ ap (equality.words_taken m) (sym size) in omega (arith, e)) (λ first. refl)
           (λ r good facts. zero_gain r good k ds facts.0)))
 
-      less_suits : Suits w d fs (drawn_by (words_for_order n)) (less_gates n u v) none_of (Numbered Boolean (each_two (word_meaning word.Less) us vs))
+      less_suits : Suits w d fs (drawn_by (words_for_order n)) (less_gates n u v) none_of (Numbered Boolean (each_two (meaning (Words word.Less)) us vs))
           (Any {A = ℕ})
       less_suits =
-          in_terms (two_ext less_test (word_meaning word.Less) us vs less_word)
+          in_terms (two_ext less_test (meaning (Words word.Less)) us vs less_word)
           (planned_suits w d fs (drawn_by (words_for_order n)) (λ m. compare.words_taken m n) none_of (λ first. less_plan first u v n) comparison_kinds
           109 Boolean (each_two less_test us vs) (λ m. let e = order_words n m in omega (arith, e)) (λ first. refl)
           (λ r good facts. less_gain r good n u v us vs (t.from r facts).0 (t.from r facts).1.0 left right))
 
       greater_suits : Suits w d fs (drawn_by (words_for_order n)) (less_gates n v u) none_of
-          (Numbered Boolean (each_two (word_meaning word.Greater) us vs)) (Any {A = ℕ})
+          (Numbered Boolean (each_two (meaning (Words word.Greater)) us vs)) (Any {A = ℕ})
       greater_suits =
-          in_terms (two_ext less_test (word_meaning word.Less) vs us less_word ∙ two_swapped (word_meaning word.Less) us vs)
+          in_terms (two_ext less_test (meaning (Words word.Less)) vs us less_word ∙ two_swapped (meaning (Words word.Less)) us vs)
           (planned_suits w d fs (drawn_by (words_for_order n)) (λ m. compare.words_taken m n) none_of (λ first. less_plan first v u n) comparison_kinds
           109 Boolean (each_two less_test vs us) (λ m. let e = order_words n m in omega (arith, e)) (λ first. refl)
           (λ r good facts. less_gain r good n v u vs us (t.from r facts).1.0 (t.from r facts).0 right left))
 
-      -- turned behind
+      -- turned after
       turned_suits : (before : Miner → ℕ) (c : Effect ℕ) (f g : ℕ → ℕ → ℕ) → Suits w d fs before c none_of (Numbered Boolean (each_two f us vs)) (Any {A = ℕ})
           → ((x y : ℕ) → f x y < 2) → ((x y : ℕ) → flipped (f x y) ≡ g x y)
           → Suits w d fs before (c >>= flip n) none_of (Numbered Boolean (each_two g us vs)) (Any {A = ℕ})
@@ -131,8 +131,8 @@ module _ (w : World) (d : Dealt) where
           (two_below (2 ^ 64) 2 f us vs (omega arith) (λ x y a b. low x y) p q)))
 
       word_suits : (op : WordOperator) → has_gates (Words op) ≡ true
-          → Suits w d fs (drawn_by (words_of_word_operator op n)) (word_gates op n u v) none_of
-          (Numbered (ring_for (element_made (Words op))) (each_two (word_meaning op) us vs)) (Any {A = ℕ})
+          → Suits w d fs (drawn_by (words_of_operator (Words op) n)) (operator_gates (Words op) n u v) none_of
+          (Numbered (ring_for (element_made (Words op))) (each_two (meaning (Words op)) us vs)) (Any {A = ℕ})
       word_suits word.Add h =
           gate_suits w d fs (drawn_by (words_each 0)) (λ m. 0 * length us) none_of (gates.Add u v) Arithmetic (each_two add_ring.add us vs)
           (λ m. let e = same_each 0 m in omega (arith, e)) refl (λ r good facts. add_gain r good u v us vs same (t.from r facts).0 (t.from r facts).1.0)
@@ -145,15 +145,15 @@ module _ (w : World) (d : Dealt) where
           (λ r good facts. mul_gain r good u v us vs same (t.from r facts).0 (t.from r facts).1.0)
       word_suits word.Equal h = equal_suits
       word_suits word.NotEqual h =
-          turned_suits (drawn_by (words_for_equality n)) (equal_gates u v) (word_meaning word.Equal) (word_meaning word.NotEqual) equal_suits
+          turned_suits (drawn_by (words_for_equality n)) (equal_gates u v) (meaning (Words word.Equal)) (meaning (Words word.NotEqual)) equal_suits
           (λ x y. truth_below (nat_eq x y)) (λ x y. flipped_truth (nat_eq x y))
       word_suits word.Less h = less_suits
       word_suits word.Greater h = greater_suits
       word_suits word.GreaterOrEqual h =
-          turned_suits (drawn_by (words_for_order n)) (less_gates n u v) (word_meaning word.Less) (word_meaning word.GreaterOrEqual) less_suits
+          turned_suits (drawn_by (words_for_order n)) (less_gates n u v) (meaning (Words word.Less)) (meaning (Words word.GreaterOrEqual)) less_suits
           (λ x y. truth_below (nat_lt x y)) at_most_word
       word_suits word.LessOrEqual h =
-          turned_suits (drawn_by (words_for_order n)) (less_gates n v u) (word_meaning word.Greater) (word_meaning word.LessOrEqual) greater_suits
+          turned_suits (drawn_by (words_for_order n)) (less_gates n v u) (meaning (Words word.Greater)) (meaning (Words word.LessOrEqual)) greater_suits
           (λ x y. truth_below (nat_lt y x)) (λ x y. at_most_word y x)
       word_suits word.Divide h = absurd (false_true h)
       word_suits word.Remainder h = absurd (false_true h)
@@ -177,14 +177,15 @@ module _ (w : World) (d : Dealt) where
           (λ r good facts. and_gain r good u v us vs same (t.from r facts).0 (t.from r facts).1.0)
 
       -- one of them is true, or both are
-      or_suits : Suits w d fs (drawn_by (words_each (3 * n))) (or_gates u v) none_of (Numbered Boolean (each_two (truth_meaning truth.Or) us vs)) (Any {A = ℕ})
+      or_suits : Suits w d fs (drawn_by (words_each (3 * n))) (or_gates u v) none_of
+          (Numbered Boolean (each_two (meaning (Bools truth.Or)) us vs)) (Any {A = ℕ})
       or_suits =
           let one_words = each_two xor_ring.add us vs in
           let both_words = each_two xor_ring.mul us vs in
           suits_bind w d and_suits (λ both _.
           suits_bind w d (xor_suits (fact both Boolean both_words ∷ fs) none_of none_of (record { from = λ r facts. t.from r facts.1 }) (λ m. refl)) (λ one _.
           in_terms (two_of_two xor_ring.add xor_ring.add xor_ring.mul us vs
-          ∙ two_same 2 (λ x y. xor_ring.add (xor_ring.add x y) (xor_ring.mul x y)) (truth_meaning truth.Or) us vs or_bits p q)
+          ∙ two_same 2 (λ x y. xor_ring.add (xor_ring.add x y) (xor_ring.mul x y)) (meaning (Bools truth.Or)) us vs or_bits p q)
           (gate_suits w d (fact one Boolean one_words ∷ (fact both Boolean both_words ∷ fs)) none_of (λ m. 0 * length one_words) none_of
           (gates.Xor one both) Boolean
           (each_two xor_ring.add one_words both_words) (λ m. omega arith) refl
@@ -196,18 +197,19 @@ module _ (w : World) (d : Dealt) where
       none_each m = same_each 0 m
 
       bool_suits : (op : BoolOperator)
-          → Suits w d fs (drawn_by (words_of_bool_operator op n)) (bool_gates op n u v) none_of (Numbered Boolean (each_two (truth_meaning op) us vs))
+          → Suits w d fs (drawn_by (words_of_operator (Bools op) n)) (operator_gates (Bools op) n u v) none_of
+          (Numbered Boolean (each_two (meaning (Bools op)) us vs))
           (Any {A = ℕ})
-      bool_suits truth.Xor = in_terms (two_same 2 xor_ring.add (truth_meaning truth.Xor) us vs xor_bits p q)
+      bool_suits truth.Xor = in_terms (two_same 2 xor_ring.add (meaning (Bools truth.Xor)) us vs xor_bits p q)
           (xor_suits fs (drawn_by (words_each 0)) none_of t none_each)
       bool_suits truth.NotEqual =
-          in_terms (two_same 2 xor_ring.add (truth_meaning truth.NotEqual) us vs differ_bits p q) (xor_suits fs (drawn_by (words_each 0)) none_of t none_each)
-      bool_suits truth.And = in_terms (two_same 2 xor_ring.mul (truth_meaning truth.And) us vs and_bits p q) and_suits
+          in_terms (two_same 2 xor_ring.add (meaning (Bools truth.NotEqual)) us vs differ_bits p q) (xor_suits fs (drawn_by (words_each 0)) none_of t none_each)
+      bool_suits truth.And = in_terms (two_same 2 xor_ring.mul (meaning (Bools truth.And)) us vs and_bits p q) and_suits
       bool_suits truth.Or = or_suits
       bool_suits truth.Equal =
           let xs = each_two xor_ring.add us vs in
           suits_bind w d (xor_suits fs (drawn_by (words_each 0)) none_of t none_each) (λ k _.
-          in_terms (map_two flipped xor_ring.add us vs ∙ two_same 2 (λ x y. flipped (xor_ring.add x y)) (truth_meaning truth.Equal) us vs equal_bits p q)
+          in_terms (map_two flipped xor_ring.add us vs ∙ two_same 2 (λ x y. flipped (xor_ring.add x y)) (meaning (Bools truth.Equal)) us vs equal_bits p q)
           (flip_suits (fact k Boolean xs ∷ fs) none_of n k xs (tell_first (fact k Boolean xs) fs) (length-each_two xor_ring.add us vs same ∙ left)
           (two_below 2 2 xor_ring.add us vs (omega arith) xor_low p q)))
 

@@ -21,7 +21,7 @@ use Rattle.bytecode.specs.declared.kind.Kind.{Kind}
 use Rattle.verified_code.specs.Steps.{kind_shape, Step, Literal, Move, Store, Binary, Not, Cast, Classify, Fill, At, Put, Size, Cat, Sum, Bits, Declassify}
 use Rattle.verified_code.specs.Steps.{Argument, Publish, Assert, Branch, Jump, Call, Return, ReturnNone, Function}
 use Rattle.code_model.specs.Machine.{Caller, Machine, at, next, values_at, begun, behind_first, filled_with, kinds_of, limit, received, resume}
-use Rattle.code_model.specs.Machine.{same_bool, step, begin_at}
+use Rattle.code_model.specs.Machine.{same_truth, step, begin_at}
 use Rattle.code_model.specs.Kinded.{IsWithin, HasKind, cast_source}
 use Rattle.code_model.proofs.Places.{put_all}
 use Rattle.gate_laws.specs.Facts.{IsProper, none_of, Fact, AllStand, facts_of, run_at, IsAt, Grows, ComesAt, Suits}
@@ -226,7 +226,7 @@ module _ (w : World) (d : Dealt) where
         (λ run st. tt)
     act (Publish text r) t = leads_bind (published_suits w d (m.registers r) (proper r) text) (own r) (λ _ _. moving (m.pc + 1) [])
     act (Assert line r) t = leads_bind (asserted_suits w d [] line (m.registers r)) (λ run st. tt) (λ _ _. moving (m.pc + 1) [])
-    act (Branch r b target) t = leads_bind (tested_suits w d [] (m.registers r)) (λ run st. tt) (λ o _. moving (either (same_bool o b) target (m.pc + 1)) [])
+    act (Branch r b target) t = leads_bind (tested_suits w d [] (m.registers r)) (λ run st. tt) (λ o _. moving (either (same_truth o b) target (m.pc + 1)) [])
     act (Jump target) t = moving target []
     act (Call line g to args) t =
         leads_bind (charge_suits w d [] 1) (λ run st. tt) (λ _ _. leads_bind (test_suits w d [] (nat_lt (length m.stack) limit) trap.Depth line)

@@ -30,7 +30,8 @@ use Rattle.reached_instances.specs.Connective.{Connective}
 use Rattle.reached_instances.specs.Tree.{TypedTree, TypedTrees, word_node, truth_node, slot_node, call_node, size_node, cat_node, sum_node, bits_node}
 use Rattle.reached_instances.specs.Tree.{element_node, not_node, cast_node, binary_node, cut_node, declassify_node}
 use Rattle.reached_instances.specs.Tree as Tree'
-use Rattle.reached_instances.specs.Statements.{TypedStatementTree, TypedStatementTrees, empty_statement, block_statement, if_statement, loop_statement, do_statement}
+use Rattle.reached_instances.specs.Statements.{TypedStatementTree, TypedStatementTrees, empty_statement, block_statement, if_statement, loop_statement}
+use Rattle.reached_instances.specs.Statements.{do_statement}
 use Rattle.reached_instances.specs.Statements.{break_statement, continue_statement, return_statement, assert_statement, store_statement, default_statement}
 use Rattle.reached_instances.specs.Statements.{fill_statement, input_statement, element_statement, publish_statement, evaluate_statement}
 use Rattle.reached_instances.specs.Statements as Statements'
@@ -44,7 +45,7 @@ use Rattle.language_model.specs.Values.{Secrecy, Plain, Private, Value, plain, h
 use Rattle.language_model.specs.Words.{flipped, result_size, result_words, are_alike, may_divide}
 use Rattle.language_model.specs.Operations.{charged, is_classified, words_of_operator, is_scalar_left, is_scalar_right, result_shape, made_private, read_answer}
 use Rattle.language_model.specs.Operations.{words_for_bits, number_from, number_of, classified_from, wanted, revealed, opened_from, declassified, stretched}
-use Rattle.language_model.specs.Operations.{flip, equal_gates, less_gates, word_gates, bool_gates, operator_gates, private_result, product_with, combined_from}
+use Rattle.language_model.specs.Operations.{flip, equal_gates, less_gates, operator_gates, private_result, product_with, combined_from}
 use Rattle.language_model.specs.Operations.{operator_traps, operated, operation, negated_from, negated, cast_gates, changed, cast_from, cast_to, size_told}
 use Rattle.language_model.specs.Operations.{summed_from, summed, bits_from, bits_extracted, concatenated_from, concatenated, element_from, element_of_array}
 use Rattle.language_model.specs.Operations.{with_element_from, with_element, filled_from, filled, handed_over, published, tested, asserted}
@@ -148,7 +149,7 @@ module _ (w w' : World) (P : (A : Type 0) → Effect A → Effect A → Type 0) 
   pub less_holds : (n u v : ℕ) → P _ (less_gates n u v) (less_gates n u v)
   less_holds n u v = planned_holds (λ first. less_plan first u v n)
 
-  pub word_gates_hold : (op : WordOperator) (n u v : ℕ) → P _ (word_gates op n u v) (word_gates op n u v)
+  pub word_gates_hold : (op : WordOperator) (n u v : ℕ) → P _ (operator_gates (binary.Words op) n u v) (operator_gates (binary.Words op) n u v)
   word_gates_hold word.Add n u v = law.on_gate _
   word_gates_hold word.Subtract n u v = law.on_gate _
   word_gates_hold word.Multiply n u v = law.on_gate _
@@ -160,7 +161,7 @@ module _ (w w' : World) (P : (A : Type 0) → Effect A → Effect A → Type 0) 
   word_gates_hold word.LessOrEqual n u v = law.bind (less_holds n v u) (flip_holds n)
   word_gates_hold op n u v = law.on_number
 
-  pub bool_gates_hold : (op : BoolOperator) (n u v : ℕ) → P _ (bool_gates op n u v) (bool_gates op n u v)
+  pub bool_gates_hold : (op : BoolOperator) (n u v : ℕ) → P _ (operator_gates (binary.Bools op) n u v) (operator_gates (binary.Bools op) n u v)
   bool_gates_hold truth.Xor n u v = law.on_gate _
   bool_gates_hold truth.And n u v = law.on_gate _
   bool_gates_hold truth.Or n u v = law.bind (law.on_gate (And u v)) (λ both. law.bind (law.on_gate (Xor u v)) (λ one. law.on_gate (Xor one both)))

@@ -25,8 +25,7 @@ pub record GivenInput : Type 0 where
 
 -- what an opened value is: the value itself, or the next of a list of answers
 pub data Source : Type 0 where
-  Clear : Source
-  Answers : Source
+  Clear Answers : Source
 
 -- what stays the same in a run: the lengths of the tapes, the dealer's beside the miners', and the inputs
 pub record World : Type 0 where

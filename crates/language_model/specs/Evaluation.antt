@@ -1,5 +1,5 @@
 -- Evaluation: what a typed program does, expression by expression and statement by statement.
-use Rattle.std.specs.Prelude.{ℕ, zero, suc, ◌+◌, Bool, true, false, not, ◌&&◌, nat_eq, if◌then◌else◌, List, [], ◌∷◌, length, map, sum, Option, Some}
+use Rattle.std.specs.Prelude.{ℕ, zero, suc, ◌+◌, Bool, true, false, not, ◌&&◌, nat_eq, if◌then◌else◌, List, [], ◌∷◌, length, drop, map, sum, Option, Some}
 use Rattle.std.specs.Prelude.{None, bytes_eq}
 use Rattle.std.specs.List.{slice_get}
 use Rattle.sc_text.specs.declared.end.Ending.TheVariants as ending
@@ -16,7 +16,8 @@ use Rattle.reached_instances.specs.Connective.TheVariants.{AndAlso, OrElse}
 use Rattle.reached_instances.specs.Tree.{TypedTree, TypedTrees, word_node, truth_node, slot_node, call_node, size_node, cat_node, sum_node, bits_node}
 use Rattle.reached_instances.specs.Tree.{element_node, not_node, cast_node, binary_node, cut_node, declassify_node}
 use Rattle.reached_instances.specs.Tree as Tree'
-use Rattle.reached_instances.specs.Statements.{TypedStatementTree, TypedStatementTrees, empty_statement, block_statement, if_statement, loop_statement, do_statement}
+use Rattle.reached_instances.specs.Statements.{TypedStatementTree, TypedStatementTrees, empty_statement, block_statement, if_statement, loop_statement}
+use Rattle.reached_instances.specs.Statements.{do_statement}
 use Rattle.reached_instances.specs.Statements.{break_statement, continue_statement, return_statement, assert_statement, store_statement, default_statement}
 use Rattle.reached_instances.specs.Statements.{fill_statement, input_statement, element_statement, publish_statement, evaluate_statement}
 use Rattle.reached_instances.specs.Statements as Statements'
@@ -111,8 +112,7 @@ bound_at (Some f) ds = binding_of f ds
 
 -- the parameters after the next one
 abbrev pub behind_next : List Slot → List Slot
-behind_next [] = []
-behind_next (s ∷ ss) = ss
+behind_next = drop 1
 
 -- ---- EXPRESSIONS
 
@@ -136,9 +136,7 @@ cut_short c secret x right = do
 
 -- the left operand is private, and both are evaluated
 abbrev pub not_cut_short : World → Connective → Value → Effect Value → Effect Value
-not_cut_short w c x right = do
-  y ← right
-  operation w 0 (binary.Bools (connective c)) Scalars x y
+not_cut_short w c x right = right >>= operation w 0 (binary.Bools (connective c)) Scalars x
 
 unfoldable mutual
   pub value : World → Calls → Setting → TypedTree → Frame → Effect Value
@@ -148,31 +146,21 @@ unfoldable mutual
   value w calls here (call_node line k es) fr = do
     xs ← arguments w calls here (bound_at (slice_get here.functions k) (domains here es)) (slots_of (slice_get here.functions k)) es fr
     calls line k (bound_at (slice_get here.functions k) (domains here es)) xs
-  value w calls here (size_node e) fr = do
-    x ← value w calls here e fr
-    size_told x
+  value w calls here (size_node e) fr = value w calls here e fr >>= size_told
   value w calls here (cat_node line a b) fr = do
     x ← value w calls here a fr
     u ← wanted (gives_private here (cat_node line a b)) x
     y ← value w calls here b fr
     v ← wanted (gives_private here (cat_node line a b)) y
     concatenated line u v
-  value w calls here (sum_node e) fr = do
-    x ← value w calls here e fr
-    summed x
-  value w calls here (bits_node line e) fr = do
-    x ← value w calls here e fr
-    bits_extracted w line x
+  value w calls here (sum_node e) fr = value w calls here e fr >>= summed
+  value w calls here (bits_node line e) fr = value w calls here e fr >>= bits_extracted w line
   value w calls here (element_node line a i) fr = do
     x ← value w calls here a fr
     j ← value w calls here i fr
     element_of_array line x j
-  value w calls here (not_node e) fr = do
-    x ← value w calls here e fr
-    negated x
-  value w calls here (cast_node c e) fr = do
-    x ← value w calls here e fr
-    cast_to w c x
+  value w calls here (not_node e) fr = value w calls here e fr >>= negated
+  value w calls here (cast_node c e) fr = value w calls here e fr >>= cast_to w c
   value w calls here (binary_node line op ds a b) fr = do
     x ← value w calls here a fr
     y ← value w calls here b fr
@@ -180,9 +168,7 @@ unfoldable mutual
   value w calls here (cut_node c a b) fr = do
     x ← value w calls here a fr
     either (gives_private here a) (not_cut_short w c x (value w calls here b fr)) (cut_short c (gives_private here b) x (value w calls here b fr))
-  value w calls here (declassify_node e) fr = do
-    x ← value w calls here e fr
-    declassified w x
+  value w calls here (declassify_node e) fr = value w calls here e fr >>= declassified w
 
   -- arguments, each classified right after its evaluation where its parameter is private
   pub arguments : World → Calls → Setting → List BoundDomain → List Slot → TypedTrees → Frame → Effect (List Value)
@@ -197,16 +183,12 @@ unfoldable mutual
 
 -- where a function goes on: after the statement, back to its caller, after the loop, or with the loop's next turn
 pub data Flow : Type 0 where
-  goes : Frame → Flow
+  goes stops skips : Frame → Flow
   returns : Value → Flow
-  stops : Frame → Flow
-  skips : Frame → Flow
 
 abbrev pub then_do : Flow → (Frame → Effect Flow) → Effect Flow
 then_do (goes fr) next = next fr
-then_do (returns v) next = done (returns v)
-then_do (stops fr) next = done (stops fr)
-then_do (skips fr) next = done (skips fr)
+then_do flow next = done flow
 
 -- after the body of a loop
 abbrev pub turned : Flow → (Frame → Effect Flow) → Effect Flow
@@ -311,10 +293,8 @@ entered b ss (x ∷ xs) zero = x
 entered b ss (x ∷ xs) (suc k) = entered b (behind_next ss) xs k
 
 abbrev pub result_of : Flow → Value
-result_of (goes fr) = nothing
 result_of (returns v) = v
-result_of (stops fr) = nothing
-result_of (skips fr) = nothing
+result_of _ = nothing
 
 abbrev pub place_in : List TypedFunctionTree → TypedFunctionTree → List BoundDomain → StatementContext
 place_in fs f b =

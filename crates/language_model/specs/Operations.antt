@@ -16,9 +16,7 @@ use Rattle.plans.specs.Equality.{eq_plan}
 use Rattle.plans.specs.BitExtract.{bits_plan}
 use Rattle.plans.specs.Compare.{less_plan}
 use Rattle.reached_instances.specs.Shape.{Shape}
-use Rattle.reached_instances.specs.WordOperator.{WordOperator}
 use Rattle.reached_instances.specs.WordOperator.TheVariants as word
-use Rattle.reached_instances.specs.BoolOperator.{BoolOperator}
 use Rattle.reached_instances.specs.BoolOperator.TheVariants as truth
 use Rattle.reached_instances.specs.BinaryOperator.{BinaryOperator}
 use Rattle.reached_instances.specs.BinaryOperator.TheVariants as binary
@@ -69,8 +67,7 @@ abbrev pub classified_from : Secrecy → Value → Effect Value
 classified_from (Private k) v = done v
 classified_from Plain v = do
   _ ← charged no_traps (size v)
-  k ← gate (Const v.words)
-  made_private v.shape v.words k
+  gate (Const v.words) >>= made_private v.shape v.words
 
 -- a public value becomes a private one
 abbrev pub classified : Value → Effect Value
@@ -141,24 +138,17 @@ abbrev pub words_for_conversion : ℕ → Words
 words_for_conversion n = record { first = 4 * n; second = n; third = n }
 
 -- the random words of an operator on private words; the operators that are left out have no private operands
-abbrev pub words_of_word_operator : WordOperator → ℕ → Words
-words_of_word_operator word.Multiply n = words_each (3 * n)
-words_of_word_operator word.Equal n = words_for_equality n
-words_of_word_operator word.NotEqual n = words_for_equality n
-words_of_word_operator word.Less n = words_for_order n
-words_of_word_operator word.LessOrEqual n = words_for_order n
-words_of_word_operator word.Greater n = words_for_order n
-words_of_word_operator word.GreaterOrEqual n = words_for_order n
-words_of_word_operator op n = words_each 0
-
-abbrev pub words_of_bool_operator : BoolOperator → ℕ → Words
-words_of_bool_operator truth.And n = words_each (3 * n)
-words_of_bool_operator truth.Or n = words_each (3 * n)
-words_of_bool_operator op n = words_each 0
-
 abbrev pub words_of_operator : BinaryOperator → ℕ → Words
-words_of_operator (binary.Words op) n = words_of_word_operator op n
-words_of_operator (binary.Bools op) n = words_of_bool_operator op n
+words_of_operator (binary.Words word.Multiply) n = words_each (3 * n)
+words_of_operator (binary.Words word.Equal) n = words_for_equality n
+words_of_operator (binary.Words word.NotEqual) n = words_for_equality n
+words_of_operator (binary.Words word.Less) n = words_for_order n
+words_of_operator (binary.Words word.LessOrEqual) n = words_for_order n
+words_of_operator (binary.Words word.Greater) n = words_for_order n
+words_of_operator (binary.Words word.GreaterOrEqual) n = words_for_order n
+words_of_operator (binary.Bools truth.And) n = words_each (3 * n)
+words_of_operator (binary.Bools truth.Or) n = words_each (3 * n)
+words_of_operator op n = words_each 0
 
 -- whether two numbers of n elements are equal
 abbrev pub equal_gates : ℕ → ℕ → Effect ℕ
@@ -169,18 +159,6 @@ equal_gates u v = do
 abbrev pub less_gates : ℕ → ℕ → ℕ → Effect ℕ
 less_gates n u v = planned (λ first. less_plan first u v n)
 
-abbrev pub word_gates : WordOperator → ℕ → (u v : ℕ) → Effect ℕ
-word_gates word.Add n u v = gate (Add u v)
-word_gates word.Subtract n u v = gate (Sub u v)
-word_gates word.Multiply n u v = gate (Mul u v)
-word_gates word.Equal n u v = equal_gates u v
-word_gates word.NotEqual n u v = equal_gates u v >>= flip n
-word_gates word.Less n u v = less_gates n u v
-word_gates word.Greater n u v = less_gates n v u
-word_gates word.GreaterOrEqual n u v = less_gates n u v >>= flip n
-word_gates word.LessOrEqual n u v = less_gates n v u >>= flip n
-word_gates op n u v = next_number
-
 -- either is true: one of them is, or both are
 abbrev pub or_gates : (u v : ℕ) → Effect ℕ
 or_gates u v = do
@@ -188,16 +166,22 @@ or_gates u v = do
   one ← gate (Xor u v)
   gate (Xor one both)
 
-abbrev pub bool_gates : BoolOperator → ℕ → (u v : ℕ) → Effect ℕ
-bool_gates truth.Xor n u v = gate (Xor u v)
-bool_gates truth.And n u v = gate (And u v)
-bool_gates truth.Or n u v = or_gates u v
-bool_gates truth.NotEqual n u v = gate (Xor u v)
-bool_gates truth.Equal n u v = gate (Xor u v) >>= flip n
-
 abbrev pub operator_gates : BinaryOperator → ℕ → (u v : ℕ) → Effect ℕ
-operator_gates (binary.Words op) = word_gates op
-operator_gates (binary.Bools op) = bool_gates op
+operator_gates (binary.Words word.Add) n u v = gate (Add u v)
+operator_gates (binary.Words word.Subtract) n u v = gate (Sub u v)
+operator_gates (binary.Words word.Multiply) n u v = gate (Mul u v)
+operator_gates (binary.Words word.Equal) n u v = equal_gates u v
+operator_gates (binary.Words word.NotEqual) n u v = equal_gates u v >>= flip n
+operator_gates (binary.Words word.Less) n u v = less_gates n u v
+operator_gates (binary.Words word.Greater) n u v = less_gates n v u
+operator_gates (binary.Words word.GreaterOrEqual) n u v = less_gates n u v >>= flip n
+operator_gates (binary.Words word.LessOrEqual) n u v = less_gates n v u >>= flip n
+operator_gates (binary.Bools truth.Xor) n u v = gate (Xor u v)
+operator_gates (binary.Bools truth.And) n u v = gate (And u v)
+operator_gates (binary.Bools truth.Or) n u v = or_gates u v
+operator_gates (binary.Bools truth.NotEqual) n u v = gate (Xor u v)
+operator_gates (binary.Bools truth.Equal) n u v = gate (Xor u v) >>= flip n
+operator_gates op n u v = next_number
 
 -- between two private operands
 abbrev pub private_result : World → BinaryOperator → Operands → Value → Value → Effect Value
@@ -207,16 +191,14 @@ private_result w op ds x y = do
   k ← number_of y
   u ← stretched (is_scalar_left ds) (W.result_size ds x y) j
   v ← stretched (is_scalar_right ds) (W.result_size ds x y) k
-  r ← operator_gates op (W.result_size ds x y) u v
-  made_private (result_shape op ds) (W.result_words op ds x y) r
+  operator_gates op (W.result_size ds x y) u v >>= made_private (result_shape op ds) (W.result_words op ds x y)
 
 -- a private operand and public words, in a product
 abbrev pub product_with : BinaryOperator → Operands → (scalar : Bool) → Value → List ℕ → List ℕ → Effect Value
 product_with op ds scalar x known words = do
   j ← number_of x
   u ← stretched scalar (length known) j
-  r ← gate (MulPub (ring_for x.shape.element) u known)
-  made_private (result_shape op ds) words r
+  gate (MulPub (ring_for x.shape.element) u known) >>= made_private (result_shape op ds) words
 
 abbrev pub combined_from : Secrecy → Secrecy → World → BinaryOperator → Operands → Value → Value → Effect Value
 combined_from Plain Plain w op ds x y = done (plain (result_shape op ds) (W.result_words op ds x y))
@@ -251,8 +233,7 @@ abbrev pub negated_from : Secrecy → Value → Effect Value
 negated_from Plain v = done (plain v.shape (map W.flipped v.words))
 negated_from (Private k) v = do
   u ← number_of v
-  r ← flip (size v) u
-  made_private v.shape (map W.flipped v.words) r
+  flip (size v) u >>= made_private v.shape (map W.flipped v.words)
 
 abbrev pub negated : Value → Effect Value
 negated v = do
@@ -274,8 +255,7 @@ abbrev pub changed : World → Cast → Value → Effect Value
 changed w c v = do
   _ ← draw w (words_of_cast c (size v))
   u ← number_of v
-  r ← cast_gates c (size v) u
-  made_private (cast_shape c v.shape.array) (map (W.cast_word c) v.words) r
+  cast_gates c (size v) u >>= made_private (cast_shape c v.shape.array) (map (W.cast_word c) v.words)
 
 -- a cast to the same type gives the value as it is
 abbrev pub cast_from : World → Secrecy → Cast → Value → Effect Value
@@ -301,8 +281,7 @@ abbrev pub summed_from : Secrecy → Value → Effect Value
 summed_from Plain v = done (scalar_word (sum v.words % 2 ^ 64))
 summed_from (Private k) v = do
   u ← number_of v
-  r ← gate (Sum u)
-  made_private (shape_of Uint64 false) (sum v.words % 2 ^ 64 ∷ []) r
+  gate (Sum u) >>= made_private (shape_of Uint64 false) (sum v.words % 2 ^ 64 ∷ [])
 
 abbrev pub summed : Value → Effect Value
 summed v = do
@@ -315,8 +294,7 @@ bits_from w (Private k) v = do
   _ ← draw w (words_for_bits (size v))
   u ← number_of v
   b ← planned (λ first. bits_plan first u (size v))
-  r ← gate (Spread b)
-  made_private (shape_of datatype.Bool true) (flat_map bits_of v.words) r
+  gate (Spread b) >>= made_private (shape_of datatype.Bool true) (flat_map bits_of v.words)
 
 abbrev pub bits_extracted : World → ℕ → Value → Effect Value
 bits_extracted w line v = do
@@ -330,8 +308,7 @@ concatenated_from Plain Plain x y = done (plain x.shape (x.words ++ y.words))
 concatenated_from a b x y = do
   u ← number_of x
   v ← number_of y
-  r ← gate (Cat u v)
-  made_private x.shape (x.words ++ y.words) r
+  gate (Cat u v) >>= made_private x.shape (x.words ++ y.words)
 
 -- of two arrays, both private or both public
 abbrev pub concatenated : ℕ → Value → Value → Effect Value
@@ -342,15 +319,11 @@ concatenated line x y = do
 abbrev pub position : Value → ℕ
 position i = first_word (visible_words i)
 
-abbrev pub element_at : List ℕ → ℕ → ℕ
-element_at words i = get_or words i 0
-
 abbrev pub element_from : Secrecy → Value → ℕ → Effect Value
-element_from Plain v i = done (plain (shape_of v.shape.element false) (element_at v.words i ∷ []))
+element_from Plain v i = done (plain (shape_of v.shape.element false) (get_or v.words i 0 ∷ []))
 element_from (Private k) v i = do
   u ← number_of v
-  r ← gate (Part u i 1)
-  made_private (shape_of v.shape.element false) (element_at v.words i ∷ []) r
+  gate (Part u i 1) >>= made_private (shape_of v.shape.element false) (get_or v.words i 0 ∷ [])
 
 abbrev pub element_of_array : ℕ → Value → Value → Effect Value
 element_of_array line v i = do
@@ -363,8 +336,7 @@ with_element_from Plain v i x = done (plain v.shape (set v.words i (first_word (
 with_element_from (Private k) v i x = do
   u ← number_of v
   e ← number_of x
-  r ← gate (Put u i e)
-  made_private v.shape (set v.words i (first_word x.words)) r
+  gate (Put u i e) >>= made_private v.shape (set v.words i (first_word x.words))
 
 -- an array with one element changed, which is as private as the array
 abbrev pub with_element : ℕ → Value → Value → Value → Effect Value
@@ -377,8 +349,7 @@ abbrev pub filled_from : Secrecy → ℕ → Value → Effect Value
 filled_from Plain n x = done (plain (shape_of x.shape.element true) (replicate n (first_word x.words)))
 filled_from (Private k) n x = do
   u ← number_of x
-  r ← gate (Rep u n)
-  made_private (shape_of x.shape.element true) (replicate n (first_word x.words)) r
+  gate (Rep u n) >>= made_private (shape_of x.shape.element true) (replicate n (first_word x.words))
 
 -- an array of equal elements
 abbrev pub filled : ℕ → Value → Value → Effect Value

@@ -1,5 +1,5 @@
 -- What a run of a program gives: evaluation in the clear, and without the private inputs.
-use Rattle.std.specs.Prelude.{ℕ, ◌-◌, ◌*◌, Bool, true, false, nat_le, if◌then◌else◌, List, [], length, map, sum, replicate, Ok, Err}
+use Rattle.std.specs.Prelude.{ℕ, ◌-◌, ◌*◌, nat_le, if◌then◌else◌, List, [], length, map, sum, replicate, Ok, Err}
 use Rattle.std.specs.List.{slice_get}
 use Rattle.sc_text.specs.declared.end.Ending.TheVariants as ending
 use Rattle.sc_text.specs.declared.end.TapeOwner.TheVariants.{Dealer}
@@ -72,12 +72,8 @@ abbrev pub eval : TypedProgramTree → Offered → (budget : ℕ) → Report
 eval p o budget = evaluated (world_of Clear o) p budget []
 
 -- an input as everybody may know it: zeros in the place of what is private
-abbrev pub zeros_for : Bool → List ℕ → List ℕ
-zeros_for true words = replicate (length words) 0
-zeros_for false words = words
-
 abbrev pub public_input : GivenInput → GivenInput
-public_input x = record x { words = zeros_for x.secret x.words }
+public_input x = record x { words = if x.secret then replicate (length x.words) 0 else x.words }
 
 abbrev pub public_part : Offered → Offered
 public_part o = record o { inputs = map public_input o.inputs }

@@ -24,7 +24,8 @@ use Rattle.reached_instances.specs.Connective.TheVariants.{AndAlso}
 use Rattle.reached_instances.specs.Cast.TheVariants.{WordToBool, BoolToWord}
 use Rattle.reached_instances.specs.Tree.{TypedTree, word_node, truth_node, slot_node, call_node, bits_node, element_node, cast_node, binary_node, cut_node}
 use Rattle.reached_instances.specs.Tree.{declassify_node, typed_trees_of}
-use Rattle.reached_instances.specs.Statements.{TypedStatementTree, typed_statements_of, empty_statement, block_statement, if_statement, loop_statement, do_statement}
+use Rattle.reached_instances.specs.Statements.{TypedStatementTree, typed_statements_of, empty_statement, block_statement, if_statement, loop_statement}
+use Rattle.reached_instances.specs.Statements.{do_statement}
 use Rattle.reached_instances.specs.Statements.{return_statement, continue_statement, assert_statement, store_statement, default_statement, fill_statement}
 use Rattle.reached_instances.specs.Statements.{input_statement, publish_statement}
 use Rattle.reached_instances.specs.Programs.{TypedFunctionTree, TypedProgramTree}

@@ -3,66 +3,55 @@ use Rattle.std.specs.Prelude.{ℕ, ◌/◌, ◌%◌, Bool, true, false, not, ◌
 use Rattle.std.specs.List.{list_any}
 use Rattle.plans.specs.Rings.{add_ring}
 use Rattle.plans.specs.Clear.{each_two, first_word}
-use Rattle.reached_instances.specs.WordOperator.{WordOperator}
 use Rattle.reached_instances.specs.WordOperator.TheVariants as word
-use Rattle.reached_instances.specs.BoolOperator.{BoolOperator}
 use Rattle.reached_instances.specs.BoolOperator.TheVariants as truth
 use Rattle.reached_instances.specs.BinaryOperator.{BinaryOperator}
 use Rattle.reached_instances.specs.BinaryOperator.TheVariants.{Words, Bools}
 use Rattle.reached_instances.specs.Operands.{Operands}
 use Rattle.reached_instances.specs.Operands.TheVariants.{Scalars, ArrayAndScalar, ScalarAndArray, Arrays}
 use Rattle.reached_instances.specs.Cast.{Cast}
-use Rattle.reached_instances.specs.Cast.TheVariants.{WordToWord, WordToBool, BoolToWord, BoolToBool}
+use Rattle.reached_instances.specs.Cast.TheVariants.{WordToBool}
 use Rattle.language_model.specs.Values.{Value, size}
 
 abbrev pub truth_word : Bool → ℕ
 truth_word true = 1
 truth_word false = 0
 
-abbrev pub word_meaning : WordOperator → ℕ → ℕ → ℕ
-word_meaning word.Add x y = add_ring.add x y
-word_meaning word.Subtract x y = add_ring.sub x y
-word_meaning word.Multiply x y = add_ring.mul x y
-word_meaning word.Divide x y = x / y
-word_meaning word.Remainder x y = x % y
-word_meaning word.Equal x y = truth_word (nat_eq x y)
-word_meaning word.NotEqual x y = truth_word (not (nat_eq x y))
-word_meaning word.Less x y = truth_word (nat_lt x y)
-word_meaning word.LessOrEqual x y = truth_word (nat_le x y)
-word_meaning word.Greater x y = truth_word (nat_lt y x)
-word_meaning word.GreaterOrEqual x y = truth_word (nat_le y x)
-word_meaning word.And x y = bit_and x y
-word_meaning word.Or x y = bit_or x y
-word_meaning word.Xor x y = bit_xor x y
-
-abbrev pub truth_meaning : BoolOperator → ℕ → ℕ → ℕ
-truth_meaning truth.Equal x y = truth_word (nat_eq x y)
-truth_meaning truth.NotEqual x y = truth_word (not (nat_eq x y))
-truth_meaning truth.And x y = bit_and x y
-truth_meaning truth.Or x y = bit_or x y
-truth_meaning truth.Xor x y = bit_xor x y
-
 abbrev pub meaning : BinaryOperator → ℕ → ℕ → ℕ
-meaning (Words op) = word_meaning op
-meaning (Bools op) = truth_meaning op
+meaning (Words word.Add) x y = add_ring.add x y
+meaning (Words word.Subtract) x y = add_ring.sub x y
+meaning (Words word.Multiply) x y = add_ring.mul x y
+meaning (Words word.Divide) x y = x / y
+meaning (Words word.Remainder) x y = x % y
+meaning (Words word.Equal) x y = truth_word (nat_eq x y)
+meaning (Words word.NotEqual) x y = truth_word (not (nat_eq x y))
+meaning (Words word.Less) x y = truth_word (nat_lt x y)
+meaning (Words word.LessOrEqual) x y = truth_word (nat_le x y)
+meaning (Words word.Greater) x y = truth_word (nat_lt y x)
+meaning (Words word.GreaterOrEqual) x y = truth_word (nat_le y x)
+meaning (Words word.And) x y = bit_and x y
+meaning (Words word.Or) x y = bit_or x y
+meaning (Words word.Xor) x y = bit_xor x y
+meaning (Bools truth.Equal) x y = truth_word (nat_eq x y)
+meaning (Bools truth.NotEqual) x y = truth_word (not (nat_eq x y))
+meaning (Bools truth.And) x y = bit_and x y
+meaning (Bools truth.Or) x y = bit_or x y
+meaning (Bools truth.Xor) x y = bit_xor x y
 
 -- a flip: true for false
 abbrev pub flipped : ℕ → ℕ
 flipped x = truth_word (x == 0)
 
 abbrev pub cast_word : Cast → ℕ → ℕ
-cast_word WordToWord x = x
 cast_word WordToBool x = truth_word (not (x == 0))
-cast_word BoolToWord x = x
-cast_word BoolToBool x = x
+cast_word c x = x
 
 -- ---- operands side by side: a scalar meets every element of an array
 
 abbrev pub result_size : Operands → Value → Value → ℕ
 result_size Scalars x y = 1
-result_size ArrayAndScalar x y = size x
 result_size ScalarAndArray x y = size y
-result_size Arrays x y = size x
+result_size ds x y = size x
 
 abbrev pub are_alike : Operands → Value → Value → Bool
 are_alike Arrays x y = nat_eq (size x) (size y)

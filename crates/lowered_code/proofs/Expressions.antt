@@ -28,7 +28,8 @@ use Rattle.verified_code.specs.Steps.{Step, Function, Not, Cast, Size, Sum, Bits
 use Rattle.raw_steps.specs.Fit.{IsFit, AreFit}
 use Rattle.raw_steps.specs.Kinds.{depth, depths, kind_of, slot_kind, shape_in, kind_in, private_kind_in, truth_kind, in_row}
 use Rattle.raw_steps.specs.Kinded.{HasKind, ResultFits, left_array, right_array}
-use Rattle.raw_steps.specs.Expressions.{Numbers, result_at, classifying, lacks, own_at, classified_at, stands_at, next_row, binary_code, cut_code, expression_code}
+use Rattle.raw_steps.specs.Expressions.{Numbers, result_at, classifying, lacks, own_at, classified_at, stands_at, next_row, binary_code, cut_code}
+use Rattle.raw_steps.specs.Expressions.{expression_code}
 use Rattle.raw_steps.specs.Expressions.{expression_code}
 use Rattle.raw_steps.specs.Expressions.{arguments_code, arguments_places, unread_code}
 use Rattle.raw_steps.specs.Programs.{code_of_found}

@@ -15,7 +15,7 @@ use Rattle.name_resolution.specs.Scopes.{Scope, variable_named}
 use Rattle.name_resolution.specs.Sizes.{nodes, nodes_all}
 use Rattle.name_resolution.specs.Values.{TypedValue, TypedCall, of_both, variable_value, element_value, negated, cast_value, declassified_value, operation_node}
 use Rattle.name_resolution.specs.Values.{operation_made, operation, gives_value, with_shape, value_given, shape_returned, tree_of_value, built_in_value, called}
-use Rattle.name_resolution.specs.Values.{and_values, value, values}
+use Rattle.name_resolution.specs.Values.{and_more, value, values}
 use Rattle.name_resolution.proofs.SoundValues.{mapped, both_there, then_there, some_is}
 use Rattle.raw_steps.proofs.Widths.{width, widths}
 
@@ -123,7 +123,7 @@ mutual
   pub values_width : (d : Declared) (s : Scope) (es : Trees) (vs : List TypedValue) → values d s es ≡ Some vs → all_widths vs ≤ nodes_all es + nodes_all es
   values_width d s Tree'.none vs h = subst (λ z. all_widths z ≤ 0) (some_is [] vs h) (omega arith)
   values_width d s (Tree'.also e es) vs h =
-      let m = both_there and_values (value d s e) (values d s es) vs h in
+      let m = both_there and_more (value d s e) (values d s es) vs h in
       let one = value_width d s e m.left m.left_there in
       let all = values_width d s es m.right m.right_there in
       let fine : 1 + width m.left.tree + all_widths m.right ≤ nodes e + nodes_all es + (nodes e + nodes_all es) = omega (arith, one, all) in

@@ -20,10 +20,10 @@ use Rattle.typed_tree.specs.Statements.{fill_statement, input_statement, element
 use Rattle.name_resolution.specs.Scopes.{FunctionScope, declaring, entering, behind_block}
 use Rattle.name_resolution.specs.Sizes.{nodes, nodes_all, optional_nodes, declaration_nodes, assignment_nodes, start_nodes, step_nodes, statement_nodes}
 use Rattle.name_resolution.specs.Sizes.{statements_nodes}
-use Rattle.name_resolution.specs.Values.{value, values, called, call_made}
-use Rattle.name_resolution.specs.Resolving.{Resolving, ◌>>=◌, carry, done, reading, next_slot, declare, closed, in_block, tree_in, resolved_value, expression}
+use Rattle.name_resolution.specs.Values.{TypedCall, value, values, called, call_made, tree_of_value}
+use Rattle.name_resolution.specs.Resolving.{Resolving, ◌>>=◌, carry, done, reading, next_slot, declare, closed, in_block, resolved_value, expression}
 use Rattle.name_resolution.specs.Resolving.{known_at, named}
-use Rattle.name_resolution.specs.Bodies.{tree_in_call, calling, evaluated, default_of, from_value, initial, declared, assigned_to, assigned, started, stepped}
+use Rattle.name_resolution.specs.Bodies.{calling, evaluated, default_of, from_value, initial, declared, assigned_to, assigned, started, stepped}
 use Rattle.name_resolution.specs.Bodies.{condition_of, returned, looped, resolved, resolved_all}
 use Rattle.name_resolution.proofs.SoundValues.{mapped, both_there}
 use Rattle.raw_steps.proofs.Widths.{width, statement_width, statements_width}
@@ -99,7 +99,7 @@ expression_takes d e = takes_reading behind (nodes e + nodes e) (resolved_value 
   where
     read : (s : FunctionScope) (t : TypedTree) → resolved_value d e s ≡ Some t → width t + 1 ≤ nodes e + nodes e
     read s t h =
-        let m = mapped tree_in (value d s.scope e) t h in
+        let m = mapped tree_of_value (value d s.scope e) t h in
         subst (λ z. width z + 1 ≤ nodes e + nodes e) m.is (value_width d s.scope e m.part m.there)
 
 calling_takes : (d : Declared) (line : ℕ) (x : List ℕ) (es : Trees) → Takes behind (2 + (nodes_all es + nodes_all es)) (reading (calling d line x es))
@@ -107,7 +107,7 @@ calling_takes d line x es = takes_reading behind (2 + (nodes_all es + nodes_all 
   where
     read : (s : FunctionScope) (t : TypedTree) → calling d line x es s ≡ Some t → width t + 1 ≤ 2 + (nodes_all es + nodes_all es)
     read s t h =
-        let m = mapped tree_in_call (call_made d s.scope line x es) t h in
+        let m = mapped (λ (c : TypedCall). c.tree) (call_made d s.scope line x es) t h in
         let b = both_there (called line) (callee d x) (values d s.scope es) m.part m.there in
         let one = called_width line b.left b.right m.part b.is in
         let all = values_width d s.scope es b.right b.right_there in

@@ -1,5 +1,6 @@
 -- The functions of a program within its limits have few registers.
-use Rattle.std.proofs.Common.{◌≡◌, ℕ, zero, suc, ◌+◌, ◌*◌, ◌<◌, ◌≤◌, List, [], ◌∷◌, ◌++◌, length, map, Option, Some, None, Bool, true, false, refl, sym, ap, ◌∙◌}
+use Rattle.std.proofs.Common.{◌≡◌, ℕ, zero, suc, ◌+◌, ◌*◌, ◌<◌, ◌≤◌, List, [], ◌∷◌, ◌++◌, length, map, Option, Some, None, Bool, true, false, refl, sym, ap}
+use Rattle.std.proofs.Common.{◌∙◌}
 use Rattle.std.proofs.Common.{subst, arith, length-append}
 use Rattle.std.specs.Prelude.{slice_get, nat_le}
 use Rattle.std.proofs.lemmas.Bool.{leb-true, leb-false}
@@ -12,8 +13,9 @@ use Rattle.typed_tree.specs.declared.kinds.Slot.{Slot}
 use Rattle.typed_tree.specs.declared.function.Returned.{Returned}
 use Rattle.typed_tree.specs.declared.function.Returned.TheVariants.{Nothing, Value}
 use Rattle.typed_tree.specs.Programs.{TypedFunctionTree, TypedProgramTree}
+use Rattle.name_resolution.specs.Values.{and_more}
 use Rattle.name_resolution.specs.Functions.{slots_written, given_back, with_parameters, function_made, function_from, function_behind, typed_function}
-use Rattle.name_resolution.specs.Functions.{and_functions, typed_functions, program_of, typed_of}
+use Rattle.name_resolution.specs.Functions.{typed_functions, program_of, typed_of}
 use Rattle.name_resolution.specs.Order.{reached}
 use Rattle.name_resolution.specs.Bodies.{resolved_all}
 use Rattle.name_resolution.specs.Scopes.{FunctionScope, no_place, declaring}
@@ -69,7 +71,7 @@ typed_at d [] ts e k t there = let n : [] ≡ ts = cc in nothing k (ap (λ z. sl
     nothing : (k : ℕ) → slice_get [] k ≡ Some t → (f : FunctionTree) × (typed_function d f ≡ Some t)
     nothing k h = cc
 typed_at d (f ∷ fs) ts e k t there =
-    let m = both_there and_functions (typed_function d f) (typed_functions d fs) ts e in
+    let m = both_there and_more (typed_function d f) (typed_functions d fs) ts e in
     let same : m.left ∷ m.right ≡ ts = some_is (m.left ∷ m.right) ts m.is in
     go m.left m.right m.left_there m.right_there k (ap (λ z. slice_get z k) same ∙ there) (λ us g j there. typed_at d fs us g j t there)
   where

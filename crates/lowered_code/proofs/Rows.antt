@@ -34,7 +34,7 @@ mixing_public op ga gb h = go (is_product op) ga gb h
     go false true true h = absurd (clash h)
     go false true false h = absurd (clash h)
 
--- a piece of code that begins another ends within it, and so does what is behind it
+-- a piece of code that begins another ends within it, and so does what is after it
 pub within_left : (count pc : ℕ) (a b : List Step) → pc + length (a ++ b) < count → pc + length a < count
 within_left count pc a b l = let n = length-append a b in omega (arith, l, n)
 

@@ -39,7 +39,7 @@ use Rattle.lowered_code.proofs.Expressions.{IsCallee, SlotsStand, ExpressionRigh
 use Rattle.lowered_code.proofs.Control.{if_right, loop_right, do_right, behind_right}
 
 module _ (number : Numbers) (c : List Function) (ks : List Kind) (count : ℕ) (here : Setting) where
-  -- behind the slots, one register of each shape
+  -- after the slots, one register of each shape
   abbrev pub DefaultsStand : Type 0
   DefaultsStand = (s : Shape) → 0 < length here.slots → HasKind ks (length here.slots + shape_number s) (kind_of false s)
 

@@ -22,9 +22,10 @@ use Rattle.reached_instances.specs.Reached.{IsReachedList}
 use Rattle.reached_instances.proofs.Listing.{same_instance-Decides}
 use Rattle.language_model.specs.Evaluation.{either, place_in, slots_of}
 use Rattle.bytecode.specs.declared.kind.Kind.{Kind}
+use Rattle.bytecode.specs.Kinds.{element_bit}
 use Rattle.verified_code.specs.Steps.{Step, Function, Jump}
 use Rattle.raw_steps.specs.Fit.{AreFitStatements, IsKnownIn, IsFitProgram, the_main}
-use Rattle.raw_steps.specs.Kinds.{kind_of, slot_kind, element_number, rows_kinds}
+use Rattle.raw_steps.specs.Kinds.{kind_of, slot_kind, rows_kinds}
 use Rattle.raw_steps.specs.Kinded.{HasKind, is_return, IsIn}
 use Rattle.raw_steps.specs.Expressions.{Numbers}
 use Rattle.raw_steps.specs.Statements.{shape_number, default_kinds, defaults_behind, first_free, statements_depth}
@@ -68,7 +69,7 @@ place_found {A = A} f i (j ∷ js) h = go (same_instance i j) refl h (place_foun
     go false e (inl same) rest = absurd (truths_apart ((same_instance-Decides i j).1 same) e)
     go false e (inr m) rest = let n : place_of i js + 1 ≡ suc (place_of i js) = omega arith in ap (slice_get (f j ∷ map f js)) n ∙ rest m
 
--- behind all but the last step there is one
+-- after all but the last step there is one
 last_returns : (code : List Step) (last : Step) → is_return last ≡ true → (place : ℕ) (i : Step) → slice_get (code ++ last ∷ []) place ≡ Some i
     → is_return i ≡ false
     → place + 1 < length (code ++ last ∷ [])
@@ -79,7 +80,7 @@ last_returns (j ∷ code) last r (suc k) i e f = let n = last_returns code last 
 
 -- ---- REGISTERS
 
-default_there : (e : DataType) (a : Bool) → slice_get default_kinds (element_number e + either a 1 0) ≡ Some (kind_of false (shape_of e a))
+default_there : (e : DataType) (a : Bool) → slice_get default_kinds (element_bit e + either a 1 0) ≡ Some (kind_of false (shape_of e a))
 default_there Uint64 true = refl
 default_there Uint64 false = refl
 default_there datatype.Bool true = refl

@@ -1,4 +1,4 @@
--- One part of a body's code behind another.
+-- One part of a body's code after another.
 use Rattle.std.proofs.Common.{◌≡◌, ℕ, ◌+◌, List, ◌++◌, length, sym, ap, ◌∙◌, append_assoc, length-append}
 use Rattle.std.specs.Prelude.{map}
 use Rattle.std.proofs.lemmas.List.{map-append, length-map}
@@ -26,6 +26,6 @@ two_parts b f g c rest e h =
     ∙ ap (λ (z : Built). with_steps z (rest (length b.pieces + length c))) e
     ∙ then_steps b c (rest (length b.pieces + length c))
 
--- steps behind a part
+-- steps after a part
 pub stepped : (f g h : Built) (c d : List Step) → g ≡ with_steps f c → h ≡ with_steps g d → h ≡ with_steps f (c ++ d)
 stepped f g h c d e i = i ∙ ap (λ (z : Built). with_steps z d) e ∙ then_steps f c d

@@ -9,7 +9,7 @@ use Rattle.lowered_expressions.specs.Built.{BodyPiece, whole, Built, with_step, 
 use Rattle.lowered_expressions.specs.Parts.{cut_end, cut_closed, cut_rest}
 use Rattle.lowered_expressions.proofs.Building.{body_of}
 
--- a piece that was held is set, once what stands behind it is known
+-- a piece that was held is set, once what stands after it is known
 pub set_behind : (ps : List BodyPiece) (x y : BodyPiece) (m e : List BodyPiece) → slice_set (((ps ++ x ∷ []) ++ m) ++ e) (length ps) y ≡ ps ++ y ∷ (m ++ e)
 set_behind ps x y m e =
     let flat : ((ps ++ x ∷ []) ++ m) ++ e ≡ ps ++ x ∷ (m ++ e) = simp append_assoc in

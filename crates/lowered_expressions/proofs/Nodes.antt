@@ -45,7 +45,7 @@ cat_made b f g h ca cb l r line to left right d m n v u first second last to_is 
     ∙ ap (with_steps b) (cat_same c1 cl (cb (length b.pieces + length c1 + length cl)) cr step)
 
 module _ (number : Numbers) (here : Setting) where
-  -- the code of an array and another behind it, where their values are wanted private or not
+  -- the code of an array and another after it, where their values are wanted private or not
   abbrev pub cat_of : (line : ℕ) → (x y : TypedTree) → (t pc : ℕ) → (wanted : Bool) → List Step
   cat_of line x y t pc g =
       cat_code (own_at here (cat_node line x y) t) (classified_at here x t) (classified_at here y (next_row t)) (stands_at here x t)

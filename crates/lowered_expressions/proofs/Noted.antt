@@ -34,7 +34,7 @@ module _ (here : Setting) where
   pub behind_is : (e : TypedTree) (l : List Note) → behind_part (notes_of here e ++ l) ≡ l
   behind_is e l = drop_at (notes_of here e) l (suc (length (operands_notes here e))) refl
 
-  -- of two operands behind their node
+  -- of two operands after their node
   pub left_found : (n : Note) (a b : TypedTree) (ns bs ls : List Note) → ns ≡ n ∷ (notes_of here a ++ notes_of here b) → bs ≡ behind_first ns
       → ls ≡ first_part bs → ls ≡ notes_of here a
   left_found n a b ns bs ls p q r = r ∙ ap first_part (q ∙ ap behind_first p) ∙ first_is a (notes_of here b)

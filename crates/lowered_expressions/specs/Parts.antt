@@ -43,7 +43,7 @@ binary_rest d m n v u p line op ds ga gb cb =
     let r = mixes op gb ga in
     cb p ++ (classifying l m v ++ (classifying r n u ++ Binary line op ds d (picked l m v) (picked r n u) ∷ []))
 
--- what stands behind the right operand, and ends at a place
+-- what stands after the right operand, and ends at a place
 abbrev pub cut_end : Connective → (secret : Bool) → (d q u end : ℕ) → List Step
 cut_end c secret d q u end =
     Move d u ∷ Jump end ∷ Literal q datatype.Bool (truth_word (deciding c)) ∷ settling secret d q ∷ []
@@ -52,7 +52,7 @@ abbrev pub cut_closed : Built → Connective → (secret : Bool) → (d q v u br
 cut_closed b c secret d q v u branch =
     with_step_at (with_steps b (cut_end c secret d q u (length b.pieces + 4))) branch (Branch v (deciding c) (length b.pieces + 2))
 
--- the branch at p, the right operand behind it
+-- the branch at p, the right operand after it
 abbrev pub cut_rest : (d q v u p : ℕ) → Connective → (secret : Bool) → (ℕ → List Step) → List Step
 cut_rest d q v u p c secret cb =
     let pb = p + 1 in

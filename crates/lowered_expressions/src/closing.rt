@@ -1,4 +1,4 @@
-// The steps behind the code of a node's operands.
+// The steps after the code of a node's operands.
 ghost use Rattle.std.specs.Prelude.{◌≡◌, ◌+◌, ◌<◌, [], ◌∷◌, ◌++◌, OnOk, length};
 ghost use Rattle.verified_code.specs.Steps as S;
 ghost use Rattle.code_model.specs.Expressions.{classifying, picked, settling};

@@ -14,7 +14,7 @@ use crate::noting::{arguments_notes, notes_of};
 use std::alloc::AllocError;
 use typed_tree::TypedExpression;
 
-/// Puts the code of an expression behind a body, with registers from a row on; the register where its value stands. That is one of this
+/// Puts the code of an expression after a body, with registers from a row on; the register where its value stands. That is one of this
 /// row, but a variable's is its slot, and it has no code. An error comes where memory runs short. The time grows with the size of the
 /// expression, here and in what follows.
 pub fn expression(
@@ -48,7 +48,7 @@ pub fn operand(
     expressions::operand(body, around, private, &notes, row, e)
 }
 
-/// Puts the code of a call's arguments and the call behind a body; what it gives goes to a register, if there is one. An error
+/// Puts the code of a call's arguments and the call after a body; what it gives goes to a register, if there is one. An error
 /// comes where memory runs short.
 pub fn call(
     body: &mut Body<'_>,

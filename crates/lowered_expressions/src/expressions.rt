@@ -1,5 +1,5 @@
 // The code of expressions. They call one another, so they stand together. A node has the row where its code begins for its value and for
-// its first operand, and the rows behind it for the others, but a variable's value stands in its slot. Kinds are read off the notes of the tree, of which each function takes those of its own expressions: the time
+// its first operand, and the rows after it for the others, but a variable's value stands in its slot. Kinds are read off the notes of the tree, of which each function takes those of its own expressions: the time
 // grows with the size of a tree.
 ghost use Rattle.std.specs.Prelude.{◌≡◌, ◌∷◌, [], IfOk, OnOk, false, length, map};
 ghost use Rattle.typed_tree.specs.Tree.{binary_node, call_node, cat_node, cut_node, element_node, typed_tree, typed_trees_of};
@@ -28,7 +28,7 @@ use secrec_ast::DataType;
 use std::alloc::AllocError;
 use typed_tree::{BinaryOperator, Connective, Operands, Operation, Shape, Slot, TypedExpression};
 
-/// Puts the code of an expression, of which these are the notes, behind a body, with registers from a row on; the register where its value
+/// Puts the code of an expression, of which these are the notes, after a body, with registers from a row on; the register where its value
 /// stands. That is one of this row, but a variable's is its slot, and it has no code. An error comes where memory runs short.
 #[cycle(expressions)]
 pub fn expression(
@@ -191,7 +191,7 @@ fn element(
     })
 }
 
-// An array and another behind it, each classified right behind its code.
+// An array and another after it, each classified right after its code.
 #[cycle(expressions)]
 fn cat(
     body: &mut Body<'_>,
@@ -389,7 +389,7 @@ fn read_call(
     call(body, around, head, behind_first(notes), row, list)
 }
 
-/// Puts the code of a call's arguments, of which these are the notes, and the call behind a body. An error comes where memory runs
+/// Puts the code of a call's arguments, of which these are the notes, and the call after a body. An error comes where memory runs
 /// short.
 #[cycle(expressions)]
 pub fn call(

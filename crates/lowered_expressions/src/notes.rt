@@ -80,7 +80,7 @@ pub fn behind_first(notes: &[Note]) -> &[Note]
     }
 }
 
-/// The notes of the first expression, and those behind them.
+/// The notes of the first expression, and those after them.
 pub fn parted(notes: &[Note]) -> (&[Note], &[Note])
     ensures first { result.0.now ≡ first_part notes.now }
     ensures behind { result.1.now ≡ behind_part notes.now }

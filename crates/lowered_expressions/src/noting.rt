@@ -56,7 +56,7 @@ fn one_given(one: One, operand: Given) -> Given
 enum Two {
     // An element of the left one.
     Element,
-    // The left one and the right one behind it.
+    // The left one and the right one after it.
     Cat,
     // A value of this shape.
     Of(Shape),

@@ -1,8 +1,9 @@
 // The registers of values on their way. They stand in rows of eight, one for each kind, which each statement uses again.
 ghost use Rattle.std.specs.Prelude.{◌≡◌, ◌+◌, IfOk, map, max};
 ghost use Rattle.typed_tree.specs.Tree.{typed_tree, typed_trees_of};
+ghost use Rattle.bytecode.specs.Kinds.{element_bit};
 ghost use Rattle.code_model.specs.Expressions.{next_row};
-ghost use Rattle.code_model.specs.Kinds.{depth, depths, element_number, in_row, kind_number};
+ghost use Rattle.code_model.specs.Kinds.{depth, depths, in_row, kind_number};
 
 use bytecode::Kind;
 use secrec_ast::DataType;
@@ -46,7 +47,7 @@ pub fn in_row(row: usize, kind: Kind) -> Result<usize, AllocError>
     sum(row, kind_number(kind))
 }
 
-/// Where the row behind one begins. An error comes where no memory could hold so many registers.
+/// Where the row after one begins. An error comes where no memory could hold so many registers.
 pub fn next_row(row: usize) -> Result<usize, AllocError>
     ensures { IfOk result (λ next. next ≡ next_row row) }
 {

@@ -119,7 +119,7 @@ pub enum Step<'p> {
     ReturnNone,
 }
 
-/// A piece of a body that is being made: a step, or a jump behind or to the loop around it, of which the place isn't known yet.
+/// A piece of a body that is being made: a step, or a jump after or to the loop around it, of which the place isn't known yet.
 #[derive(Drop)]
 pub enum BodyPiece<'p> {
     Whole(Step<'p>),

@@ -1,4 +1,4 @@
--- Pieces behind others.
+-- Pieces after others.
 use Rattle.std.proofs.Common.{◌≡◌, ℕ, ◌+◌, List, [], ◌∷◌, ◌++◌, length, sym, ap, ◌∙◌, arith, append_assoc, length-append}
 use Rattle.std.specs.Prelude.{slice_set}
 use Rattle.std.proofs.lemmas.List.{length_push, set_at}
@@ -10,7 +10,7 @@ use Rattle.lowering.specs.inner.Pieces.{with_pieces}
 pub then_pieces : (b : Built) (p q : List BodyPiece) → with_pieces (with_pieces b p) q ≡ with_pieces b (p ++ q)
 then_pieces b p q = ap body_of (append_assoc b.pieces p q)
 
--- where a body goes on behind pieces, and behind a step
+-- where a body goes on after pieces, and after a step
 pub places_behind : (b d : Built) (p : List BodyPiece) → d ≡ with_pieces b p → length d.pieces ≡ length b.pieces + length p
 places_behind b d p e = ap (λ (z : Built). length z.pieces) e ∙ length-append b.pieces p
 

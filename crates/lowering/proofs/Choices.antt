@@ -8,7 +8,7 @@ use Rattle.lowered_expressions.proofs.Building.{body_of}
 use Rattle.lowering.specs.inner.Pieces.{with_pieces, if_pieces}
 use Rattle.lowering.proofs.Behind.{places_behind, places_step, two_writes}
 
--- lists of pieces one behind another
+-- lists of pieces one after another
 behind_all : (b0 b1 b2 b3 b4 b5 : Built) (c : List Step) (a b : List BodyPiece) → b1 ≡ with_steps b0 c → b2 ≡ with_step b1 ReturnNone
     → b3 ≡ with_pieces b2 a → b4 ≡ with_step b3 ReturnNone → b5 ≡ with_pieces b4 b
     → b5 ≡ body_of (((((b0.pieces ++ map whole c) ++ whole ReturnNone ∷ []) ++ a) ++ whole ReturnNone ∷ []) ++ b)

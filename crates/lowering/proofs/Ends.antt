@@ -12,7 +12,7 @@ use Rattle.lowering.specs.declared.simple_statements.Pair.{Pair}
 use Rattle.lowering.specs.declared.simple_statements.Pair.TheVariants as pairs
 use Rattle.lowering.specs.inner.Leaves.{pair_step, pair_statement, with_leaf}
 
--- one step behind code and a classification, which reads the register where the value stands
+-- one step after code and a classification, which reads the register where the value stands
 pub pushed : (b f g : Built) (c d : List Step) (last : ℕ → Step) (r s : ℕ) → f ≡ with_steps b (c ++ d) → g ≡ with_step f (last r)
     → r ≡ s → g ≡ with_steps b (c ++ (d ++ last s ∷ []))
 pushed b f g c d last r s e h same =

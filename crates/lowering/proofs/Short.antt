@@ -149,7 +149,7 @@ just_of_some TooLarge fs i d l j =
     λ heads bodies. j (each_both (head_numbers (get_or fs i d)) (body_numbers (get_or fs i d)) (each_among head_numbers fs i d l heads)
     (each_among body_numbers fs i d l bodies))
 
--- what is behind the names of code
+-- what is after the names of code
 behind_names : (code : RawCode) → Each Fits (code_numbers code)
     → Each Fits (short (length code.functions) ∷ (flat_map head_numbers code.functions ++ flat_map body_numbers code.functions))
 behind_names code h =

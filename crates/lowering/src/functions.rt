@@ -90,7 +90,7 @@ fn slot_kinds(
     Ok(kinds)
 }
 
-// The registers in front of the rows: the slots, and behind them those of the defaults, which nothing writes, if there is a slot.
+// The registers in front of the rows: the slots, and after them those of the defaults, which nothing writes, if there is a slot.
 fn first_registers(
     alloc: Global,
     binding: &[BoundDomain],
@@ -150,7 +150,7 @@ fn all_placed<'p>(
     Ok(steps)
 }
 
-/// The code of a function under a binding: its slots are the first registers; a break outside of a loop would lead behind the body. An
+/// The code of a function under a binding: its slots are the first registers; a break outside of a loop would lead after the body. An
 /// error comes where memory runs short.
 pub fn function_steps<'p>(
     around: &Around<'_>,

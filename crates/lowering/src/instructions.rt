@@ -3,7 +3,8 @@ ghost use Rattle.std.specs.Prelude.{◌≡◌, ◌++◌, ◌&&◌, IfErr, IfOk, 
 ghost use Rattle.std.specs.List.{flat_map, list_all};
 ghost use Rattle.bytecode.specs.InMemory.{operator_byte, raw_function, raw_instruction, result_register};
 ghost use Rattle.bytecode.specs.Written.{body_numbers, head_numbers, instruction_numbers};
-ghost use Rattle.raw_steps.specs.Instructions.{instruction, operator_number, raw_function as raw_of, register_or_nowhere, truth_number, word_number};
+ghost use Rattle.typed_tree.specs.declared.operators.BinaryOperator.TheVariants.{Bools, Words};
+ghost use Rattle.raw_steps.specs.Instructions.{instruction, operator_number, raw_function as raw_of, register_or_nowhere};
 ghost use Rattle.lowered_expressions.specs.Views.{step_seen};
 ghost use Rattle.lowering.specs.inner.Naming.{texts};
 ghost use Rattle.lowering.specs.Narrow.{IsJust, are_short, capped, capped_instruction, is_short};
@@ -100,7 +101,7 @@ fn is_short_result(to: Option<usize>) -> bool
 // ---- Operators
 
 fn word_operator(operator: WordOperator) -> bytecode::BinaryOperator
-    ensures { operator_byte result ≡ word_number operator }
+    ensures { operator_byte result ≡ operator_number (Words operator) }
 {
     match operator {
         WordOperator::Add => bytecode::BinaryOperator::Add,
@@ -121,7 +122,7 @@ fn word_operator(operator: WordOperator) -> bytecode::BinaryOperator
 }
 
 fn bool_operator(operator: BoolOperator) -> bytecode::BinaryOperator
-    ensures { operator_byte result ≡ truth_number operator }
+    ensures { operator_byte result ≡ operator_number (Bools operator) }
 {
     match operator {
         BoolOperator::Equal => bytecode::BinaryOperator::Equal,

@@ -11,7 +11,7 @@ use reached_instances::Setting;
 use std::alloc::AllocError;
 use typed_tree::{TypedExpression, TypedStatement};
 
-/// Where the rows begin: behind the slots and the registers of the defaults, which are there if there is a slot.
+/// Where the rows begin: after the slots and the registers of the defaults, which are there if there is a slot.
 pub fn first_row(here: &Setting<'_>) -> usize
     ensures { result ≡ first_free (setting here.now).slots }
 {

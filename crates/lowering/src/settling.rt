@@ -6,7 +6,7 @@ ghost use Rattle.lowering.specs.inner.Pieces.{settled_part, with_piece, with_set
 use lowered_expressions::{Body, BodyPiece, Step};
 use std::alloc::AllocError;
 
-/// One more piece behind a body.
+/// One more piece after a body.
 pub fn push<'p>(body: &mut Body<'p>, piece: BodyPiece<'p>) -> Result<(), AllocError>
     ensures { OnOk result (built body.new ≡ with_piece (built body.old) (piece_seen piece.entry)) }
 {

@@ -17,7 +17,7 @@ use lowered_expressions::{Body, BodyPiece, Step, expression};
 use std::alloc::AllocError;
 use typed_tree::{TypedExpression, TypedStatement};
 
-/// Puts the code of a statement behind a body. An error comes where memory runs short.
+/// Puts the code of a statement after a body. An error comes where memory runs short.
 #[cycle(statements)]
 fn statement<'p>(
     body: &mut Body<'p>,
@@ -109,7 +109,7 @@ fn choice<'p>(
     Ok(())
 }
 
-// A loop: its test stands behind the body and the step.
+// A loop: its test stands after the body and the step.
 #[cycle(statements)]
 fn turns<'p>(
     body: &mut Body<'p>,
@@ -141,7 +141,7 @@ fn turns<'p>(
     Ok(())
 }
 
-// A loop whose test stands behind each turn.
+// A loop whose test stands after each turn.
 #[cycle(statements)]
 fn repeats<'p>(
     body: &mut Body<'p>,

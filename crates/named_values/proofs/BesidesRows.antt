@@ -1,6 +1,6 @@
 -- All operations do the same, whatever gates were made before.
 use Rattle.std.proofs.Common.{ℕ, ◌+◌, ◌*◌, ◌-◌, ◌%◌, ◌^◌, List, [], ◌∷◌, ◌++◌, Bool, true, false, Option, Some, None, length}
-use Rattle.std.specs.Prelude.{map, replicate, nat_lt, sum}
+use Rattle.std.specs.Prelude.{get_or, map, replicate, nat_lt, sum}
 use Rattle.std.specs.List.{flat_map}
 use Rattle.sc_text.specs.declared.end.Ending.TheVariants as ending
 use Rattle.sc_text.specs.declared.end.TrapKind.TheVariants as trap
@@ -29,13 +29,13 @@ use Rattle.language_model.specs.Words as W
 use Rattle.language_model.specs.Operations.{charged, no_traps, not_too_large, number_from, number_of, made_private, classified_from}
 use Rattle.language_model.specs.Operations.{read_answer, revealed, opened_from, declassified}
 use Rattle.language_model.specs.Operations.{classified, stretched, is_scalar_left}
-use Rattle.language_model.specs.Operations.{is_scalar_right, flip, words_of_operator, equal_gates, less_gates, word_gates, or_gates}
-use Rattle.language_model.specs.Operations.{bool_gates, operator_gates}
+use Rattle.language_model.specs.Operations.{is_scalar_right, flip, words_of_operator, equal_gates, less_gates, or_gates}
+use Rattle.language_model.specs.Operations.{operator_gates}
 use Rattle.language_model.specs.Operations.{result_shape, private_result, product_with, combined_from, operator_traps, operated, negated_from}
 use Rattle.language_model.specs.Operations.{negated, words_of_cast}
 use Rattle.language_model.specs.Operations.{cast_shape, cast_gates, changed, cast_from, cast_to, scalar_word, size_told, summed_from, summed}
 use Rattle.language_model.specs.Operations.{words_for_bits, bits_from}
-use Rattle.language_model.specs.Operations.{bits_extracted, concatenated_from, concatenated, position, element_at, element_from, element_of_array}
+use Rattle.language_model.specs.Operations.{bits_extracted, concatenated_from, concatenated, position, element_from, element_of_array}
 use Rattle.language_model.specs.Operations.{with_element_from, with_element}
 use Rattle.language_model.specs.Operations.{filled_from, filled, handed_over, published, tested, asserted}
 use Rattle.language_model.specs.Evaluation.{is_as_declared, given_value, asked_for}
@@ -104,7 +104,7 @@ equal_besides u v = besides_bind (besides_gate (Sub u v)) (λ d. besides_planned
 less_besides : (n u v : ℕ) → Besides (less_gates n u v)
 less_besides n u v = besides_planned (λ first. less_plan first u v n)
 
-word_besides : (op : WordOperator) (n u v : ℕ) → Besides (word_gates op n u v)
+word_besides : (op : WordOperator) (n u v : ℕ) → Besides (operator_gates (binary.Words op) n u v)
 word_besides word.Add n u v = besides_gate (Add u v)
 word_besides word.Subtract n u v = besides_gate (Sub u v)
 word_besides word.Multiply n u v = besides_gate (Mul u v)
@@ -120,7 +120,7 @@ or_besides : (u v : ℕ) → Besides (or_gates u v)
 or_besides u v =
     besides_bind (besides_gate (And u v)) (λ both. besides_bind (besides_gate (Xor u v)) (λ one. besides_gate (Xor one both)))
 
-truth_besides : (op : BoolOperator) (n u v : ℕ) → Besides (bool_gates op n u v)
+truth_besides : (op : BoolOperator) (n u v : ℕ) → Besides (operator_gates (binary.Bools op) n u v)
 truth_besides truth.Xor n u v = besides_gate (Xor u v)
 truth_besides truth.And n u v = besides_gate (And u v)
 truth_besides truth.Or n u v = or_besides u v
@@ -228,10 +228,10 @@ pub concatenated_besides : (line : ℕ) (x y : Value) → Besides (concatenated 
 concatenated_besides line x y = besides_bind (large_besides line (size x + size y)) (λ _. concatenated_from_besides x.secrecy y.secrecy x y)
 
 element_from_besides : (x : Secrecy) (v : Value) (i : ℕ) → Besides (element_from x v i)
-element_from_besides Plain v i = besides_done (plain (shape_of v.shape.element false) (element_at v.words i ∷ []))
+element_from_besides Plain v i = besides_done (plain (shape_of v.shape.element false) (get_or v.words i 0 ∷ []))
 element_from_besides (Private k) v i =
     besides_bind (number_besides v) (λ u. besides_bind (besides_gate (Part u i 1)) (λ r.
-    made_besides (shape_of v.shape.element false) (element_at v.words i ∷ []) r))
+    made_besides (shape_of v.shape.element false) (get_or v.words i 0 ∷ []) r))
 
 pub element_besides : (line : ℕ) (v i : Value) → Besides (element_of_array line v i)
 element_besides line v i =

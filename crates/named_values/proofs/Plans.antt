@@ -5,7 +5,6 @@ use Rattle.plans.specs.Equality.{joining, shifts, eq_plan}
 use Rattle.plans.specs.BitExtract.{carry_step, carrying, bits_plan}
 use Rattle.plans.specs.BitExtract as bits
 use Rattle.plans.specs.Compare.{order_start, order_step, comparing, less_plan}
-use Rattle.plans.specs.Compare as compare
 use Rattle.named_values.specs.Named.{Numbers, AllTake}
 use Rattle.named_values.proofs.Effects.{HasFrom, all_take}
 
@@ -70,11 +69,11 @@ module _ (N : Numbers) where
   less_takes first u v n new a b =
       let x = λ (i : ℕ). new (first + i) (omega arith) in (
         (a, (b, tt)),
-        all_take N (bits_plan (first + 1) first (2 * n)) (order_start first n ++ comparing n (first + 61) (first + 58) (first + 60) compare.widths)
+        all_take N (bits_plan (first + 1) first (2 * n)) (order_start first n ++ comparing n (first + 61) (first + 58) (first + 60) bits.widths)
             (bits_takes (first + 1) first (2 * n) (λ k le. new k (omega (arith, le))) (new first (omega arith)))
-            (all_take N (order_start first n) (comparing n (first + 61) (first + 58) (first + 60) compare.widths)
+            (all_take N (order_start first n) (comparing n (first + 61) (first + 58) (first + 60) bits.widths)
             ((x 54, tt), ((x 54, tt), ((x 55, tt), ((x 56, (x 57, tt)), ((x 55, (x 56, tt)), ((x 59, tt), tt))))))
-            (comparing_takes n (first + 61) (first + 58) (first + 60) compare.widths (λ k le. new k (omega (arith, le))) (x 58) (x 60))),
+            (comparing_takes n (first + 61) (first + 58) (first + 60) bits.widths (λ k le. new k (omega (arith, le))) (x 58) (x 60))),
       )
 
 pub eq_some : (first d : ℕ) → 1 ≤ made_by_all (eq_plan first d)

@@ -1,6 +1,6 @@
 -- The rows of the language take values that their operands name, and give values that name no others, but for those that they make.
 use Rattle.std.proofs.Common.{◌≡◌, ℕ, ◌+◌, ◌-◌, ◌*◌, ◌%◌, ◌^◌, List, [], ◌∷◌, ◌++◌, length, map, Some, None, Bool, true, false, Option, refl, subst}
-use Rattle.std.specs.Prelude.{nat_le, nat_lt, replicate, set, sum}
+use Rattle.std.specs.Prelude.{get_or, nat_le, nat_lt, replicate, set, sum}
 use Rattle.std.specs.List.{flat_map}
 use Rattle.sc_text.specs.declared.end.Ending.TheVariants as ending
 use Rattle.sc_text.specs.declared.end.TrapKind.TheVariants as trap
@@ -136,7 +136,7 @@ module _ (N : Numbers) where
     flipped_naming : {c : Effect ℕ} → Naming N c N → Naming N (c >>= row.flip n) N
     flipped_naming h = naming_bind h (λ k m. flip_naming n k m)
 
-    word_naming : (op : WordOperator) → Naming N (row.word_gates op n u v) N
+    word_naming : (op : WordOperator) → Naming N (row.operator_gates (binary.Words op) n u v) N
     word_naming word.Add = gate_naming (gates.Add u v) refl (a, (b, tt))
     word_naming word.Subtract = gate_naming (gates.Sub u v) refl (a, (b, tt))
     word_naming word.Multiply = gate_naming (gates.Mul u v) refl (a, (b, tt))
@@ -153,7 +153,7 @@ module _ (N : Numbers) where
         naming_bind (gate_naming (gates.And u v) refl (a, (b, tt))) (λ both h. naming_bind (gate_naming (gates.Xor u v) refl (a, (b, tt))) (λ one k.
         gate_naming (gates.Xor one both) refl (k, (h, tt))))
 
-    bool_naming : (op : BoolOperator) → Naming N (row.bool_gates op n u v) N
+    bool_naming : (op : BoolOperator) → Naming N (row.operator_gates (binary.Bools op) n u v) N
     bool_naming truth.Xor = gate_naming (gates.Xor u v) refl (a, (b, tt))
     bool_naming truth.And = gate_naming (gates.And u v) refl (a, (b, tt))
     bool_naming truth.Or = or_naming
@@ -252,10 +252,10 @@ module _ (N : Numbers) where
     inside_naming line i n = test_naming (nat_lt i n) trap.Index line
 
     element_from_naming : (a : Secrecy) (i : ℕ) → Naming N (row.element_from a v i) (Names N)
-    element_from_naming Plain i = shown_naming (shape_of v.shape.element false) (row.element_at v.words i ∷ [])
+    element_from_naming Plain i = shown_naming (shape_of v.shape.element false) (get_or v.words i 0 ∷ [])
     element_from_naming (Private k) i =
         naming_bind (number_naming v h) (λ u n. naming_bind (gate_naming (gates.Part u i 1) refl (n, tt)) (λ r m.
-        made_naming (shape_of v.shape.element false) (row.element_at v.words i ∷ []) r m))
+        made_naming (shape_of v.shape.element false) (get_or v.words i 0 ∷ []) r m))
 
     pub element_naming : (line : ℕ) (i : Value) → Naming N (row.element_of_array line v i) (Names N)
     element_naming line i =

@@ -1,4 +1,4 @@
--- A step of code takes values that its machine names, and names no others behind it, but for those that it makes.
+-- A step of code takes values that its machine names, and names no others after it, but for those that it makes.
 use Rattle.std.proofs.Common.{ℕ, zero, suc, ◌+◌, inl, inr, List, [], ◌∷◌, length, Option, Some, None, Ok, Err, false, arith}
 use Rattle.std.specs.Prelude.{slice_get, map, sum, nat_lt}
 use Rattle.sc_text.specs.declared.end.Ending.TheVariants as ending
@@ -12,7 +12,7 @@ use Rattle.language_model.specs.Evaluation.{Frame, put, nothing, array_elements,
 use Rattle.verified_code.specs.Steps.{kind_shape, Step, Literal, Move, Store, Binary, Not, Cast, Classify, Fill, At, Put, Size, Cat, Sum, Bits, Declassify}
 use Rattle.verified_code.specs.Steps.{Argument, Publish, Assert, Branch, Jump, Call, Return, ReturnNone, Function}
 use Rattle.code_model.specs.Machine.{Caller, Machine, at, next, values_at, begun, behind_first, filled_with, kinds_of, limit, received, resume}
-use Rattle.code_model.specs.Machine.{same_bool, step, further, exec}
+use Rattle.code_model.specs.Machine.{same_truth, step, further, exec}
 use Rattle.code_model.proofs.Places.{put_all}
 use Rattle.named_values.specs.Named.{Numbers, or_from, CallersName, MachineNames, AreAmong}
 use Rattle.named_values.specs.Laws.{Grows, Arrives, StepTakesWhatIsNamed, Ends, RunTakesWhatIsNamed}
@@ -103,7 +103,7 @@ module _ (N : Numbers) where
     act w p (Some (Argument line kind text d)) = setting d (asked_naming N kind.secret (kind_shape kind) line (input_named w text))
     act w p (Some (Publish text r)) = naming_bind (published_naming N (m.registers r) (own r) w text) (λ _ _. moving (m.pc + 1))
     act w p (Some (Assert line r)) = naming_bind (asserted_naming N line (m.registers r)) (λ _ _. moving (m.pc + 1))
-    act w p (Some (Branch r b target)) = naming_bind (tested_naming N (m.registers r)) (λ t _. moving (either (same_bool t b) target (m.pc + 1)))
+    act w p (Some (Branch r b target)) = naming_bind (tested_naming N (m.registers r)) (λ t _. moving (either (same_truth t b) target (m.pc + 1)))
     act w p (Some (Jump target)) = moving target
     act w p (Some (Call line g d args)) =
         naming_bind (charge_naming 1) (λ _ _. naming_bind (test_naming (nat_lt (length m.stack) limit) trap.Depth line) (λ _ _.

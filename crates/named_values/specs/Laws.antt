@@ -32,7 +32,7 @@ abbrev pub Arrives : Numbers → Stage → Run Machine → Type 0
 Arrives N s (Ok x) = Grows N s x.1 × AreAmong (MachineNames x.0) N
 Arrives N s (Err e) = Grows N s e.1
 
--- a step takes values that the machine names, or that it makes itself; behind it the machine names no others
+-- a step takes values that the machine names, or that it makes itself; after it the machine names no others
 abbrev pub StepTakesWhatIsNamed : World → List Function → Machine → Stage → Type 0
 StepTakesWhatIsNamed w c m s = Arrives (or_from (MachineNames m) s.made) s (step w c (slice_get m.steps m.pc) m s)
 
@@ -40,6 +40,6 @@ abbrev pub Ends : Numbers → Stage → Option (RunStop × Stage) → Type 0
 Ends N s None = Unit {0}
 Ends N s (Some x) = Grows N s x.1
 
--- and so do all steps behind it
+-- and so do all steps after it
 abbrev pub RunTakesWhatIsNamed : World → List Function → ℕ → Machine → Stage → Type 0
 RunTakesWhatIsNamed w c k m s = Ends (or_from (MachineNames m) s.made) s (exec w c k m s)

@@ -7,7 +7,7 @@ ghost use Rattle.code_model.specs.Machine.{Machine};
 ghost use Rattle.named_values.specs.Besides.{EarlierGatesChangeNothing};
 
 /// Law: a step of code does the same, whatever gates were made before it: it comes to the same machine or stops for the same reason, and
-/// makes the same gates behind those that are there.
+/// makes the same gates after those that are there.
 pub fn earlier_gates_change_no_step()
     ensures { (w : World) (c : List Function) (m : Machine) (s : Stage) (before : List Gate) → EarlierGatesChangeNothing w c m s before }
 {}

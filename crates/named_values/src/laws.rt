@@ -12,7 +12,7 @@ pub fn gates_fit_by_what_they_take()
     ensures { (inputs xs ys : Values) (next : ℕ) (gates : List Gate) → FitByWhatTheyTake inputs xs ys next gates }
 {}
 
-/// Law: a step of code takes values that its machine names, or that it has made itself; behind it the machine names no others.
+/// Law: a step of code takes values that its machine names, or that it has made itself; after it the machine names no others.
 pub fn steps_take_what_is_named()
     ensures { (w : World) (c : List Function) (m : Machine) (s : Stage) → StepTakesWhatIsNamed w c m s }
 {}

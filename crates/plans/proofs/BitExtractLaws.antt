@@ -150,7 +150,7 @@ gives_bits_from first number n gates e = subst (GivesBits first number n) (sym e
 pub takes_words_from : (first word n : ℕ) (gates : List Gate) → gates ≡ bits_plan first word n → TakesWords first word n gates
 takes_words_from first number n gates e = subst (TakesWords first number n) (sym e) (takes_words first number n)
 
--- gates pushed one behind another are a list behind those that were there
+-- gates pushed one after another are a list after those that were there
 pub ruleset pushes = (append_assoc)
 
 pub carrying_more : (items one plan : List Gate) (n h next g p i d : ℕ) → i < 6

@@ -16,10 +16,10 @@ use Rattle.gates.proofs.Columns.{word, Column, TwoColumns, stands, Column-of, Co
 use Rattle.gates.proofs.Columns.{TwoColumns-same, TwoColumns-append, TwoColumns-each_two, first_part, second_part}
 use Rattle.gates.proofs.Carries.{carry, carry-lt, SpansDown, down_generate, down_propagate, down_step}
 use Rattle.gates.proofs.Orders.{down_start, less_by_carries}
-use Rattle.plans.specs.BitExtract.{bits_plan}
+use Rattle.plans.specs.BitExtract.{widths, bits_plan}
 use Rattle.plans.specs.BitExtractLaw as bits
 use Rattle.plans.proofs.BitExtractLaws as extracted
-use Rattle.plans.specs.Compare.{order_start, order_step, comparing, widths, less_plan}
+use Rattle.plans.specs.Compare.{order_start, order_step, comparing, less_plan}
 use Rattle.plans.specs.CompareLaw.{TellsLess, TakesWords, words_taken}
 
 -- each width is twice the one before, up to half of 64
@@ -206,7 +206,7 @@ tells_less_from first u v n gates e = subst (TellsLess first u v n) (sym e) (tel
 pub takes_words_from : (first u v n : ℕ) (gates : List Gate) → gates ≡ less_plan first u v n → TakesWords first u v n gates
 takes_words_from first u v n gates e = subst (TakesWords first u v n) (sym e) (takes_words first u v n)
 
--- ---- gates pushed one behind another
+-- ---- gates pushed one after another
 
 pub ruleset pushes = (append_assoc)
 

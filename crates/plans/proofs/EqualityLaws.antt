@@ -114,7 +114,7 @@ tests_for_zero_from first difference gates e = subst (TestsForZero first differe
 pub takes_words_from : (first difference n : ℕ) (gates : List Gate) → gates ≡ eq_plan first difference → TakesWords first difference n gates
 takes_words_from first difference n gates e = subst (TakesWords first difference n) (sym e) (takes_words first difference n)
 
--- ---- the gates of one shift, behind those so far
+-- ---- the gates of one shift, after those so far
 
 pub joining_more : (items one two plan : List Gate) (same i d : ℕ) → i < 6
     → items ++ joining same (drop i shifts) ≡ plan

@@ -2,7 +2,7 @@
 use Rattle.std.specs.Prelude.{ℕ, ◌+◌, ◌*◌, List, [], ◌∷◌, ◌++◌}
 use Rattle.gates.specs.declared.gate.Gate.{Gate}
 use Rattle.gates.specs.declared.gate.Gate.TheVariants.{Xor, And, Not, Shr, Low, Cat, Part}
-use Rattle.plans.specs.BitExtract.{bits_plan}
+use Rattle.plans.specs.BitExtract.{widths, bits_plan}
 
 -- of the bits of all numbers, value first + 54: the first ones a, the second ones b; then b and not a, value first + 58,
 -- for each bit that is less in a; and not (a xor b), value first + 60, for each that is the same
@@ -31,9 +31,6 @@ order_step n next g p width =
 abbrev pub comparing : ℕ → ℕ → ℕ → ℕ → List ℕ → List Gate
 comparing n next g p [] = Low g ∷ []
 comparing n next g p (width ∷ widths) = order_step n next g p width ++ comparing n (next + 8) (next + 6) (next + 7) widths
-
-abbrev pub widths : List ℕ
-widths = 1 ∷ 2 ∷ 4 ∷ 8 ∷ 16 ∷ 32 ∷ []
 
 abbrev pub less_plan : ℕ → ℕ → ℕ → ℕ → List Gate
 less_plan first u v n =

@@ -1,5 +1,6 @@
 -- Kinds as tests see them, and operators as their bytes.
 use Rattle.std.proofs.Common.{◌≡◌, ℕ, ◌==◌, List, length, Bool, true, false, ◌&&◌, ◌||◌, refl, sym, ap, ◌∙◌}
+use Rattle.std.specs.Prelude.{unwrap_or}
 use Rattle.std.proofs.lemmas.Bool.{lt-ltb}
 use Rattle.std.proofs.lemmas.Option.{slice_get_within}
 use Rattle.secrec_ast.specs.declared.expression.DataType.{DataType}
@@ -16,11 +17,12 @@ use Rattle.typed_tree.specs.declared.operators.BinaryOperator.TheVariants.{Words
 use Rattle.typed_tree.specs.Operators.{operands_of, cast_between}
 use Rattle.code_model.specs.Operations.{result_shape}
 use Rattle.bytecode.specs.declared.kind.Kind.{Kind}
-use Rattle.verified_code.specs.Fitting.{same_truth, same_element, same_kind, kind_at, kind_or, is_there, operator_at}
+use Rattle.verified_code.specs.Fitting.{same_truth, same_element, same_kind, kind_at, public_scalar, is_there, operator_at}
 use Rattle.verified_code.specs.Fitting.{operator_exists, secrecy_fits, result_kind, binary_fits}
+use Rattle.code_model.specs.Words.{truth_word}
 use Rattle.code_model.specs.Kinds.{kind_of}
 use Rattle.code_model.specs.Kinded.{HasKind, left_array, right_array, cast_source, cast_target}
-use Rattle.raw_steps.specs.Instructions.{operator_number, bit}
+use Rattle.raw_steps.specs.Instructions.{operator_number}
 use Rattle.raw_steps.specs.Right.{kind, operand_element}
 
 pub both : {a b : Bool} → a ≡ true → b ≡ true → (a && b) ≡ true
@@ -47,7 +49,7 @@ kind_self k = all_three (truth_self k.secret) (element_self k.element) (truth_se
 -- ---- REGISTERS
 
 pub its_kind : (ks : List Kind) (r : ℕ) (k : Kind) → HasKind ks r k → kind_at ks r ≡ k
-its_kind ks r k h = ap kind_or h
+its_kind ks r k h = ap (λ o. unwrap_or o (public_scalar Uint64)) h
 
 pub there : (ks : List Kind) (r : ℕ) (k : Kind) → HasKind ks r k → is_there ks r ≡ true
 there ks r k h = lt-ltb r (length ks) (slice_get_within ks r k h)
@@ -117,7 +119,7 @@ cast_back WordToBool = refl
 cast_back BoolToWord = refl
 cast_back BoolToBool = refl
 
-pub bit_back : (b : Bool) → (bit b == 1) ≡ b
+pub bit_back : (b : Bool) → (truth_word b == 1) ≡ b
 bit_back true = refl
 bit_back false = refl
 

@@ -1,12 +1,13 @@
 -- The instruction of a step that is right settles to it again.
-use Rattle.std.proofs.Common.{◌≡◌, ℕ, ◌<◌, ◌≤◌, List, length, Option, Some, None, cond, refl, ap, ap₂, ◌∙◌, arith, inl}
+use Rattle.std.proofs.Common.{◌≡◌, ℕ, ◌<◌, ◌≤◌, List, [], length, Option, Some, None, cond, refl, ap, ap₂, ◌∙◌, arith, inl}
+use Rattle.std.specs.Prelude.{unwrap_or}
 use Rattle.std.proofs.lemmas.Bool.{ne_eqb}
 use Rattle.std.proofs.lemmas.Option.{slice_get_within}
 use Rattle.sc_text.specs.Lists.{Among}
 use Rattle.typed_tree.specs.Operators.{operands_of, cast_between}
 use Rattle.bytecode.specs.declared.kind.Kind.{Kind}
 use Rattle.verified_code.specs.Fitting.{kind_at}
-use Rattle.verified_code.specs.Settled.{name_or, result_at, binary_step, settle}
+use Rattle.verified_code.specs.Settled.{result_at, binary_step, settle}
 use Rattle.verified_code.specs.Steps.{Step, Function, Literal, Move, Store, Binary, Not, Cast, Classify, Fill, At, Put, Size, Cat, Sum, Bits, Declassify}
 use Rattle.verified_code.specs.Steps.{Argument, Publish, Assert, Branch, Jump, Call, Return, ReturnNone}
 use Rattle.code_model.specs.Kinded.{ResultFits, left_array, right_array}
@@ -47,8 +48,8 @@ module _ (names : List (List ℕ)) (c : List Function) (ks : List Kind) (gives :
   settles (Bits line d r) h m = refl
   settles (Declassify d r) h m = refl
   settles (Argument line k text d) h m =
-      ap₂ (λ z t. Argument line z (name_or t) d) (its_kind ks d k h) (name_found text names (m text (inl refl)))
-  settles (Publish text r) h m = ap (λ t. Publish (name_or t) r) (name_found text names (m text (inl refl)))
+      ap₂ (λ z t. Argument line z (unwrap_or t []) d) (its_kind ks d k h) (name_found text names (m text (inl refl)))
+  settles (Publish text r) h m = ap (λ t. Publish (unwrap_or t []) r) (name_found text names (m text (inl refl)))
   settles (Assert line r) h m = refl
   settles (Branch r b target) h m = ap (λ z. Branch r z target) (bit_back b)
   settles (Jump target) h m = refl

@@ -1,10 +1,8 @@
 -- The instruction that a step is, and the raw code of functions.
-use Rattle.std.specs.Prelude.{ℕ, ◌+◌, Bool, true, false, List, [], ◌∷◌, ◌++◌, map, Option, Some, None, if◌then◌else◌}
+use Rattle.std.specs.Prelude.{ℕ, ◌+◌, List, [], ◌∷◌, ◌++◌, fold, map, Option, Some, None, if◌then◌else◌}
 use Rattle.std.specs.List.{flat_map, list_any}
 use Rattle.std.specs.Str.{bytes_eq}
-use Rattle.typed_tree.specs.declared.operators.WordOperator.{WordOperator}
 use Rattle.typed_tree.specs.declared.operators.WordOperator.TheVariants as word
-use Rattle.typed_tree.specs.declared.operators.BoolOperator.{BoolOperator}
 use Rattle.typed_tree.specs.declared.operators.BoolOperator.TheVariants as truth
 use Rattle.typed_tree.specs.declared.operators.BinaryOperator.{BinaryOperator}
 use Rattle.typed_tree.specs.declared.operators.BinaryOperator.TheVariants.{Words, Bools}
@@ -12,40 +10,31 @@ use Rattle.bytecode.specs.Raw.{Raw, RawFunction, RawCode}
 use Rattle.bytecode.specs.Raw as raw
 use Rattle.verified_code.specs.Steps.{Step, Function, Literal, Move, Store, Binary, Not, Cast, Classify, Fill, At, Put, Size, Cat, Sum, Bits, Declassify}
 use Rattle.verified_code.specs.Steps.{Argument, Publish, Assert, Branch, Jump, Call, Return, ReturnNone}
+use Rattle.code_model.specs.Words.{truth_word}
 
 -- ---- NUMBERS
 
-abbrev pub word_number : WordOperator → ℕ
-word_number word.Add = 0
-word_number word.Subtract = 1
-word_number word.Multiply = 2
-word_number word.Divide = 3
-word_number word.Remainder = 4
-word_number word.Equal = 5
-word_number word.NotEqual = 6
-word_number word.Less = 7
-word_number word.LessOrEqual = 8
-word_number word.Greater = 9
-word_number word.GreaterOrEqual = 10
-word_number word.And = 11
-word_number word.Or = 12
-word_number word.Xor = 13
-
-abbrev pub truth_number : BoolOperator → ℕ
-truth_number truth.Equal = 5
-truth_number truth.NotEqual = 6
-truth_number truth.And = 11
-truth_number truth.Or = 12
-truth_number truth.Xor = 13
-
 -- an operator's byte; words and bools have the same for the same sign
 abbrev pub operator_number : BinaryOperator → ℕ
-operator_number (Words op) = word_number op
-operator_number (Bools op) = truth_number op
-
-abbrev pub bit : Bool → ℕ
-bit true = 1
-bit false = 0
+operator_number (Words word.Add) = 0
+operator_number (Words word.Subtract) = 1
+operator_number (Words word.Multiply) = 2
+operator_number (Words word.Divide) = 3
+operator_number (Words word.Remainder) = 4
+operator_number (Words word.Equal) = 5
+operator_number (Words word.NotEqual) = 6
+operator_number (Words word.Less) = 7
+operator_number (Words word.LessOrEqual) = 8
+operator_number (Words word.Greater) = 9
+operator_number (Words word.GreaterOrEqual) = 10
+operator_number (Words word.And) = 11
+operator_number (Words word.Or) = 12
+operator_number (Words word.Xor) = 13
+operator_number (Bools truth.Equal) = 5
+operator_number (Bools truth.NotEqual) = 6
+operator_number (Bools truth.And) = 11
+operator_number (Bools truth.Or) = 12
+operator_number (Bools truth.Xor) = 13
 
 -- the number that stands for no register
 abbrev pub nowhere : ℕ
@@ -83,7 +72,7 @@ module _ (names : List (List ℕ)) where
   instruction (Argument line k text d) = raw.Argument d (place_among text names) line
   instruction (Publish text r) = raw.Publish (place_among text names) r
   instruction (Assert line r) = raw.Assert r line
-  instruction (Branch r b target) = raw.Branch r (bit b) target
+  instruction (Branch r b target) = raw.Branch r (truth_word b) target
   instruction (Jump target) = raw.Jump target
   instruction (Call line g d arguments) = raw.Call g (register_or_nowhere d) arguments line
   instruction (Return r) = raw.Return r
@@ -102,13 +91,12 @@ step_names _ = []
 abbrev pub function_names : Function → List (List ℕ)
 function_names f = flat_map step_names f.steps
 
--- one more behind names, unless it is there
+-- one more after names, unless it is there
 abbrev pub naming : List (List ℕ) → List ℕ → List (List ℕ)
 naming names text = if list_any (bytes_eq text) names then names else names ++ text ∷ []
 
 abbrev pub naming_all : List (List ℕ) → List (List ℕ) → List (List ℕ)
-naming_all names [] = names
-naming_all names (text ∷ texts) = naming_all (naming names text) texts
+naming_all = fold naming
 
 -- each once, in the order of first use in the code
 abbrev pub names_of : List Function → List (List ℕ)

@@ -63,7 +63,7 @@ module _ (c : List Function) (kinds : List Kind) (gives : Option Kind) (count : 
   IsRight (Return r) = (k : Kind) × (gives ≡ Some k) × HasKind kinds r k
   IsRight ReturnNone = gives ≡ None
 
--- its registers have numbers, its parameters are registers, and each step is right; only a return has no step behind it
+-- its registers have numbers, its parameters are registers, and each step is right; only a return has no step after it
 pub record IsRightFunction (c : List Function) (f : Function) : Type 0 where
   pub registers : length f.kinds ≤ nowhere
   pub parameters : f.parameters ≤ length f.kinds

@@ -18,7 +18,7 @@ use Rattle.shared_plans.specs.Plans.{zero_test_kinds, equality_kinds, bits_kinds
 known_is_shared : {P : Type 0} (ring : RingKind) → Known ≡ Shared ring → P
 known_is_shared ring e = cc
 
--- more kinds behind change none that are shared
+-- more kinds after change none that are shared
 pub shared-grown : (kinds more : List Kind) (k : ℕ) (ring : RingKind) → kind_at kinds k ≡ Shared ring → kind_at (kinds ++ more) k ≡ Shared ring
 shared-grown [] more k ring e = known_is_shared ring e
 shared-grown (kind ∷ kinds) more zero ring e = e
@@ -287,13 +287,13 @@ comparison-kinded dealt kinds first u v n count number_u number_v =
     (boolean-behind (kinds ++ Shared Arithmetic ∷ []) 109 (first + 1) (first + 110) longer to) in
     let here : length kinds + 0 ≡ first = omega arith in
     let both : kind_at all first ≡ Shared Arithmetic = subst (λ k. kind_at all k ≡ Shared Arithmetic) here (kind-behind kinds own 0) in
-    let joins = compare.comparing n (first + 61) (first + 58) (first + 60) compare.widths in
+    let joins = compare.comparing n (first + 61) (first + 58) (first + 60) bits.widths in
     let behind : first + 55 ≡ first + 1 + 54 = omega arith in (
       (Arithmetic, (shared-grown kinds own u Arithmetic number_u, (shared-grown kinds own v Arithmetic number_v, (both, tt)))),
       kinded-append dealt all (first + 1) (bits.bits_plan (first + 1) first (2 * n)) (compare.order_start first n ++ joins)
           (bits-kinded-in dealt all (first + 1) (first + 110) b (first + 1) first (2 * n) (omega arith) (omega arith) both)
           (subst (λ k. AllKinded dealt all k (compare.order_start first n ++ joins)) behind
           (start-kinded dealt all (first + 1) (first + 110) b first n joins (omega arith) (omega arith)
-          (comparing-kinded dealt all (first + 1) (first + 110) b n compare.widths (first + 61) (first + 58) (first + 60) (omega arith) (omega arith)
+          (comparing-kinded dealt all (first + 1) (first + 110) b n bits.widths (first + 61) (first + 58) (first + 60) (omega arith) (omega arith)
           (omega arith) (omega arith) (omega arith)))),
     )

@@ -1,4 +1,4 @@
--- Each plan behind a run: it suits, and its last value is shared.
+-- Each plan after a run: it suits, and its last value is shared.
 use Rattle.std.proofs.Common.{◌≡◌, ℕ, ◌+◌, ◌<◌, ◌^◌, Some, List, ◌∷◌, length, map, refl, sym, ◌∙◌, ap, subst, inl, inr, arith}
 use Rattle.std.specs.Prelude.{slice_get}
 use Rattle.std.proofs.lemmas.Bool.{cases_lt}

@@ -23,7 +23,7 @@ at-grown sizes more u n a =
     let below : u < length sizes = a.below in
     record { below = omega arith; size = get_or_append_left sizes more 0 u below ∙ a.size }
 
--- the value of number k is the one of number j behind these
+-- the value of number k is the one of number j after these
 pub at-behind :
     (sizes more : List ℕ) (next j k n : ℕ) → length sizes ≡ next → next + j ≡ k → j < length more → size_of more j ≡ n →
     At (sizes ++ more) k n
@@ -41,7 +41,7 @@ pair-of sizes u v n a b = record { first = a.below; second = b.below; same_size 
 alone : (k n : ℕ) → k ≡ n → k ∷ [] ≡ n ∷ []
 alone k n e = ap (λ j. j ∷ []) e
 
--- ---- one gate, and those behind it
+-- ---- one gate, and those after it
 
 -- kept closed, since it computes to all that is asked of every gate of a plan
 pub Suited : (dealt sizes : List ℕ) → List Gate → Type 0
@@ -55,7 +55,7 @@ none-suited : (dealt sizes : List ℕ) → Suited dealt sizes []
 unfolding Suited
 none-suited dealt sizes = tt
 
--- a gate that makes values of these sizes, behind those of some others
+-- a gate that makes values of these sizes, after those of some others
 gate-suited :
     (dealt sizes more made : List ℕ) (gate : Gate) (gates : List Gate) → SizesSuit dealt (sizes ++ more) gate →
     sizes_made dealt (sizes ++ more) gate ≡ made → Suited dealt (sizes ++ (more ++ made)) gates →
@@ -125,7 +125,7 @@ equality-suited dealt sizes first u v n count at_u at_v =
 
 -- ---- bit extraction
 
--- what a step that joins blocks leaves to the gates behind it
+-- what a step that joins blocks leaves to the gates after it
 abbrev GoesOn : (dealt sizes : List ℕ) (n next : ℕ) → List Gate → Type 0
 GoesOn dealt sizes n next rest =
     (more : List ℕ) → length more ≡ 8 → At (sizes ++ more) (next + 6) n → At (sizes ++ more) (next + 7) n → Suited dealt (sizes ++ more) rest
@@ -287,7 +287,7 @@ comparing-suited dealt n (width ∷ widths) sizes next g p count at_g at_p =
 -- the bits of all words stand before
 start-suited :
     (dealt sizes : List ℕ) (first n : ℕ) → length sizes ≡ first + 55 → At sizes (first + 54) (2 * n) →
-    Suited dealt sizes (compare.order_start first n ++ compare.comparing n (first + 61) (first + 58) (first + 60) compare.widths)
+    Suited dealt sizes (compare.order_start first n ++ compare.comparing n (first + 61) (first + 58) (first + 60) bits.widths)
 start-suited dealt sizes first n count all_bits =
     let next = first + 55 in
     let s1 : List ℕ = n ∷ [] in
@@ -306,7 +306,7 @@ start-suited dealt sizes first n count all_bits =
     let differ = at-behind sizes s5 next 4 (first + 59) n count (omega arith) (omega arith) refl in
     let less = at-behind sizes s6 next 3 (first + 58) n count (omega arith) (omega arith) refl in
     let same = at-behind sizes s6 next 5 (first + 60) n count (omega arith) (omega arith) refl in
-    let joins = compare.comparing n (first + 61) (first + 58) (first + 60) compare.widths in
+    let joins = compare.comparing n (first + 61) (first + 58) (first + 60) bits.widths in
     behind-nothing dealt sizes (compare.order_start first n ++ joins)
     (gate-suited dealt sizes [] s1 (Part (first + 54) 0 n) _ (bits0.below, omega (arith, bits0.size)) refl
     (gate-suited dealt sizes s1 (n ∷ []) (Part (first + 54) n n) _ (bits1.below, omega (arith, bits1.size)) refl
@@ -314,7 +314,7 @@ start-suited dealt sizes first n count all_bits =
     (gate-suited dealt sizes s3 (n ∷ []) (And (first + 56) (first + 57)) _ (pair-of _ (first + 56) (first + 57) n b3 turned) (alone _ n b3.size)
     (gate-suited dealt sizes s4 (n ∷ []) (Xor (first + 55) (first + 56)) _ (pair-of _ (first + 55) (first + 56) n a4 b4) (alone _ n a4.size)
     (gate-suited dealt sizes s5 (n ∷ []) (Not (first + 59)) joins differ.below (alone _ n differ.size)
-    (comparing-suited dealt n compare.widths (sizes ++ s6) (first + 61) (first + 58) (first + 60) (omega (arith, length-append sizes s6)) less same)))))))
+    (comparing-suited dealt n bits.widths (sizes ++ s6) (first + 61) (first + 58) (first + 60) (omega (arith, length-append sizes s6)) less same)))))))
 
 pub comparison-suited :
     (dealt sizes : List ℕ) (first u v n : ℕ) → length sizes ≡ first → At sizes u n → At sizes v n →
@@ -326,7 +326,7 @@ comparison-suited dealt sizes first u v n count at_u at_v =
     let v0 = at-grown sizes [] v n at_v in
     let of_both : size_of (sizes ++ []) u + size_of (sizes ++ []) v ≡ m = omega (arith, u0.size, v0.size) in
     let longer : length (sizes ++ one) ≡ first + 1 = omega (arith, length-append sizes one) in
-    let rest = compare.order_start first n ++ compare.comparing n (first + 61) (first + 58) (first + 60) compare.widths in
+    let rest = compare.order_start first n ++ compare.comparing n (first + 61) (first + 58) (first + 60) bits.widths in
     behind-nothing dealt sizes (compare.less_plan first u v n)
     (gate-suited dealt sizes [] one (Cat u v) (bits.bits_plan (first + 1) first m ++ rest) (u0.below, v0.below) (alone _ m of_both)
     (bits-suited-then dealt (sizes ++ one) (first + 1) first m rest longer (at-behind sizes one first 0 first m count (omega arith) (omega arith) refl)

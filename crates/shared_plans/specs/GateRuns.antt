@@ -75,7 +75,7 @@ pub record IsNumber (r : GateRun) (n u : ℕ) : Type 0 where
   pub kind : kind_at r.kinds u ≡ Shared Arithmetic
   pub size : size_of (value_sizes r) u ≡ n
 
--- tapes of words that are long enough for the gates and for so many words behind them
+-- tapes of words that are long enough for the gates and for so many words after them
 pub record Reach (r : GateRun) (more : Miner → ℕ) (tapes : Tapes) : Type 0 where
   pub words : (i : Number) → AreWords (tapes i)
   pub long : (i : Number) → words_drawn r i + more (miner_of i) ≤ length (tapes i)

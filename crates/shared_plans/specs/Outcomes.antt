@@ -1,4 +1,4 @@
--- What a run of gates comes to with more gates behind it.
+-- What a run of gates comes to with more gates after it.
 use Rattle.std.specs.Prelude.{◌≡◌, ℕ, ◌<◌, List, [], ◌∷◌, ◌++◌, length, map}
 use Rattle.proto_core.specs.declared.party.Number.{Number}
 use Rattle.protocol_model.specs.Runs.{Tapes, Ready}

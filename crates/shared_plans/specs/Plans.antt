@@ -1,4 +1,4 @@
--- The plans of equality, bit extraction and comparison behind a run of gates, over values of n elements.
+-- The plans of equality, bit extraction and comparison after a run of gates, over values of n elements.
 use Rattle.std.specs.Prelude.{ℕ, ◌+◌, List, ◌∷◌, replicate, ◌==◌, if◌then◌else◌}
 use Rattle.gates.specs.declared.ring_kind.RingKind.TheVariants.{Arithmetic, Boolean}
 use Rattle.gates.specs.declared.gate.Gate.TheVariants.{Sub}
@@ -22,11 +22,11 @@ equality_kinds = Shared Arithmetic ∷ replicate 17 (Shared Boolean)
 unfoldable pub bits_kinds : List Kind
 bits_kinds = replicate 54 (Shared Boolean)
 
--- all numbers, one behind another; their bits; and what is made of these
+-- all numbers, one after another; their bits; and what is made of these
 unfoldable pub comparison_kinds : List Kind
 comparison_kinds = Shared Arithmetic ∷ replicate 109 (Shared Boolean)
 
--- ---- behind a run
+-- ---- after a run
 
 abbrev pub then_zero_test : GateRun → ℕ → GateRun
 then_zero_test r word = then_gates r (eq_plan (value_count r) word) zero_test_kinds

@@ -21,7 +21,7 @@ ghost use Rattle.shared_plans.specs.Outcomes.{Follows, Outcome};
 ghost use Rattle.shared_plans.specs.Plans.{zero_test_kinds, bits_kinds, comparison_kinds, then_zero_test, then_equality, then_bits, then_comparison};
 ghost use Rattle.shared_plans.specs.Plans.{equal_test};
 
-/// Law: gates behind any well-formed run whose values they suit, and that open none. The longer run is well formed and draws as
+/// Law: gates after any well-formed run whose values they suit, and that open none. The longer run is well formed and draws as
 /// many words more as they take. On any tapes that are long enough the three miners come to its end with shares of values that
 /// fit its gates; they keep the shares that they had, and no word more is opened.
 pub fn gates_behind_runs()
@@ -31,7 +31,7 @@ pub fn gates_behind_runs()
         IsWellFormed r → Follows r gates kinds words → Reach r words tapes → Outcome r (then_gates r gates kinds) tapes }
 {}
 
-/// Law: behind any values the plan of equality, which tests for zero, takes a number shared by sums and makes values shared by
+/// Law: after any values the plan of equality, which tests for zero, takes a number shared by sums and makes values shared by
 /// xor; its gates suit the sizes of the values before them.
 pub fn zero_test_suits()
     ensures kinds { (dealt kinds : List Kind) (first word : ℕ) → length kinds ≡ first →
@@ -56,7 +56,7 @@ pub fn comparison_suits()
         size_of sizes u ≡ n → size_of sizes v ≡ n → AllSizesSuit dealt sizes (less_plan first u v n) }
 {}
 
-/// Law: the plan of equality, which tests for zero, behind any well-formed run, over a value of `n` numbers that is shared by
+/// Law: the plan of equality, which tests for zero, after any well-formed run, over a value of `n` numbers that is shared by
 /// sums. On any tapes that are long enough the three miners come to the end, and no word more is opened. By xor their shares of
 /// the last value add up to 1 exactly where the number is 0 that their shares of the operand add up to, else 0.
 pub fn zero_test_on_shares()

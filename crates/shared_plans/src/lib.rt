@@ -1,4 +1,4 @@
-//! What three miners come to with the plans of `equality`, `bit_extract` and `compare` behind any gates.
+//! What three miners come to with the plans of `equality`, `bit_extract` and `compare` after any gates.
 //!
 //! There is nothing to run here: definitions in `specs/`, and the laws that follow from them.
 #![tactic(auto)]

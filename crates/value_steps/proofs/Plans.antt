@@ -1,4 +1,4 @@
--- A plan's gates, put behind those that are there.
+-- A plan's gates, put after those that are there.
 use Rattle.std.proofs.Common.{◌≡◌, ℕ, List, Ok, Err, sym, ◌∙◌, ap}
 use Rattle.std.specs.Prelude.{Result}
 use Rattle.gates.specs.declared.gate.Gate.{Gate}

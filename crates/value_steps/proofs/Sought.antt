@@ -20,7 +20,7 @@ input_here k text inputs i x h e t =
     from_here k text inputs i x h e
     ∙ ap (λ b. cond b (Some (given_seen x, k)) (input_from (behind (given_seen x) k) text (map given_seen (drop (i + 1) inputs)))) t
 
--- behind another input n private ones stand before the next
+-- after another input n private ones stand before the next
 pub input_later : (k n : ℕ) (text : List ℕ) (inputs : List GivenInput) (i : ℕ) (x : GivenInput) → i < length inputs → x ≡ get_or inputs i x
     → bytes_eq text x.name ≡ false → n ≡ behind (given_seen x) k
     → input_from n text (map given_seen (drop (i + 1) inputs)) ≡ input_from k text (map given_seen (drop i inputs))

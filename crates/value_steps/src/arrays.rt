@@ -15,7 +15,7 @@ use sc_text::TrapKind;
 use std::alloc::{AllocError, Global};
 use typed_tree::Shape;
 
-/// Words with more behind them.
+/// Words with more after them.
 fn extended(mut words: Vec<u64>, more: &[u64]) -> Result<Vec<u64>, AllocError>
     ensures { IfOk result (λ all. all.items ≡ words.items ++ more.now) }
 {
@@ -23,7 +23,7 @@ fn extended(mut words: Vec<u64>, more: &[u64]) -> Result<Vec<u64>, AllocError>
     Ok(words)
 }
 
-/// An array, and the elements of another behind it; both are private or both are public.
+/// An array, and the elements of another after it; both are private or both are public.
 pub fn concatenated(
     alloc: Global,
     stage: &mut Stage<'_>,

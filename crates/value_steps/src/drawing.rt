@@ -1,8 +1,9 @@
 // The random words of the miners' tapes.
 ghost use Rattle.std.specs.Prelude.{◌≡◌, ◌+◌, ◌≤◌, IfOk};
 ghost use Rattle.language_model.specs.Effects.{fits, draw, words_each};
-ghost use Rattle.language_model.specs.Operations.{words_for_equality, words_for_bits, words_for_order, words_for_conversion, words_of_word_operator};
-ghost use Rattle.language_model.specs.Operations.{words_of_bool_operator, words_of_operator, words_of_cast};
+ghost use Rattle.typed_tree.specs.declared.operators.BinaryOperator.TheVariants.{Bools as OnBools, Words as OnWords};
+ghost use Rattle.language_model.specs.Operations.{words_for_equality, words_for_bits, words_for_order, words_for_conversion};
+ghost use Rattle.language_model.specs.Operations.{words_of_operator, words_of_cast};
 ghost use Rattle.value_steps.specs.Steps.{Does, itself, nothing};
 ghost use Rattle.value_steps.specs.Views.{stage_seen, world_seen, drawn_seen};
 
@@ -128,7 +129,7 @@ fn words_for_conversion(n: u64) -> Drawn
 /// The words of an operator on `n` private numbers; operators that have no private operands draw none.
 fn words_of_word_operator(op: WordOperator, n: u64) -> Drawn
     requires { n ≤ 1048576 }
-    ensures { drawn_seen result ≡ words_of_word_operator op n }
+    ensures { drawn_seen result ≡ words_of_operator (OnWords op) n }
 {
     match op {
         WordOperator::Multiply => words_each(3 * n),
@@ -150,7 +151,7 @@ fn words_of_word_operator(op: WordOperator, n: u64) -> Drawn
 /// The words of an operator on `n` private truth values.
 fn words_of_bool_operator(op: BoolOperator, n: u64) -> Drawn
     requires { n ≤ 1048576 }
-    ensures { drawn_seen result ≡ words_of_bool_operator op n }
+    ensures { drawn_seen result ≡ words_of_operator (OnBools op) n }
 {
     match op {
         BoolOperator::And | BoolOperator::Or => words_each(3 * n),

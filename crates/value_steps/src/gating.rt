@@ -57,7 +57,7 @@ fn values_made(gates: &[Gate]) -> Option<u64>
     Some(made)
 }
 
-/// Moves these gates behind those that were made, and tells the number of the last value that they make.
+/// Moves these gates after those that were made, and tells the number of the last value that they make.
 pub(crate) fn put_gates(stage: &mut Stage<'_>, gates: &mut Vec<Gate>) -> Result<u64, Halt>
     ensures step { Does itself (put_gates gates.old.items) (stage_seen stage.old) result (stage_seen stage.new) }
     ensures spends { stage.new.left ≤ stage.old.left }

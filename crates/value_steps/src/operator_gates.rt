@@ -1,6 +1,7 @@
 // The gates of operators on private values.
 ghost use Rattle.std.specs.Prelude.{◌≤◌};
-ghost use Rattle.language_model.specs.Operations.{stretched, flip, equal_gates, word_gates, or_gates, bool_gates, operator_gates, cast_gates};
+ghost use Rattle.typed_tree.specs.declared.operators.BinaryOperator.TheVariants.{Bools as OnBools, Words as OnWords};
+ghost use Rattle.language_model.specs.Operations.{stretched, flip, equal_gates, or_gates, operator_gates, cast_gates};
 ghost use Rattle.value_steps.specs.Steps.{Does, itself};
 ghost use Rattle.value_steps.specs.Views.{stage_seen};
 
@@ -70,7 +71,7 @@ fn word_gates(
     right: u64,
 ) -> Result<u64, Halt>
     requires { n ≤ 1048576 }
-    ensures step { Does itself (word_gates op n left right) (stage_seen stage.old) result (stage_seen stage.new) }
+    ensures step { Does itself (operator_gates (OnWords op) n left right) (stage_seen stage.old) result (stage_seen stage.new) }
     ensures spends { stage.new.left ≤ stage.old.left }
 {
     match op {
@@ -125,7 +126,7 @@ fn bool_gates(
     left: u64,
     right: u64,
 ) -> Result<u64, Halt>
-    ensures step { Does itself (bool_gates op n left right) (stage_seen stage.old) result (stage_seen stage.new) }
+    ensures step { Does itself (operator_gates (OnBools op) n left right) (stage_seen stage.old) result (stage_seen stage.new) }
     ensures spends { stage.new.left ≤ stage.old.left }
 {
     match op {

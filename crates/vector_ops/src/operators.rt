@@ -1,6 +1,7 @@
 // Operators between two words.
 ghost use Rattle.std.specs.Prelude.{◌≡◌, ◌/◌, ◌%◌};
-ghost use Rattle.language_model.specs.Words.{truth_word, word_meaning, truth_meaning, meaning};
+ghost use Rattle.typed_tree.specs.declared.operators.BinaryOperator.TheVariants.{Bools, Words};
+ghost use Rattle.language_model.specs.Words.{truth_word, meaning};
 
 use typed_tree::{BinaryOperator, BoolOperator, WordOperator};
 
@@ -28,7 +29,7 @@ pub(crate) fn truth(holds: bool) -> u64
 /// The result of an operator on words. Sums, differences and products wrap at 2^64, and a comparison gives 1 or 0. A divisor of 0
 /// gives the quotient 0 and leaves the dividend as the remainder: `may_divide` tells whether there is one.
 pub fn word_operation(op: WordOperator, x: u64, y: u64) -> u64
-    ensures { result ≡ word_meaning op x y }
+    ensures { result ≡ meaning (Words op) x y }
 {
     match op {
         WordOperator::Add => x.wrapping_add(y),
@@ -50,7 +51,7 @@ pub fn word_operation(op: WordOperator, x: u64, y: u64) -> u64
 
 /// The result of an operator on truth values. Other words count by their bits.
 pub fn truth_operation(op: BoolOperator, x: u64, y: u64) -> u64
-    ensures { result ≡ truth_meaning op x y }
+    ensures { result ≡ meaning (Bools op) x y }
 {
     match op {
         BoolOperator::Equal => truth(x == y),

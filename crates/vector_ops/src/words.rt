@@ -50,7 +50,7 @@ pub fn wrapping_sum(xs: &[u64]) -> u64
     total
 }
 
-/// Puts the 64 bits of a word behind what is there, bit 0 first.
+/// Puts the 64 bits of a word after what is there, bit 0 first.
 #[tactic(auto, using(gates::proofs::WordSteps::bit_steps))]
 fn push_bits(words: &mut Vec<u64>, x: u64) -> Result<(), AllocError>
     ensures { OnOk result (words.new.items ≡ words.old.items ++ bits_of x) }

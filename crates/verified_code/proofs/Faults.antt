@@ -2,6 +2,7 @@
 use Rattle.std.proofs.Common.{◌≡◌, ℕ, zero, suc, ◌+◌, ◌<◌, ◌≤◌, List, [], ◌∷◌, length, map, drop, get_or, Bool, true, false, ◌&&◌, Option, Some, None}
 use Rattle.std.proofs.Common.{refl, sym, ap, ◌∙◌, arith}
 use Rattle.std.specs.List.{list_all}
+use Rattle.std.specs.Option.{option_or}
 use Rattle.std.proofs.Math.Seq.{drop-cons, drop-nil}
 use Rattle.std.proofs.lemmas.List.{drop-map}
 use Rattle.bytecode.specs.declared.kind.Kind.{Kind}
@@ -9,7 +10,7 @@ use Rattle.bytecode.specs.Raw.{Raw, RawFunction, RawCode}
 use Rattle.verified_code.specs.declared.fault.CodeProblem.{CodeProblem}
 use Rattle.verified_code.specs.declared.fault.VerifyErr.{VerifyErr}
 use Rattle.verified_code.specs.Fitting.{same_kind, kind_at, arguments_fit}
-use Rattle.verified_code.specs.Verified.{problem_at, here, fault_if_any, body_fault, or_later, function_fault, functions_fault}
+use Rattle.verified_code.specs.Verified.{problem_at, here, fault_if_any, body_fault, function_fault, functions_fault}
 
 -- ---- lists
 
@@ -58,13 +59,13 @@ body_done c n f g xs k r l h = h ∙ ap (body_fault c n f k) (drop_mapped g xs k
 pub functions_more : {A : Type 0} (c : RawCode) (g : A → RawFunction) (xs : List A) (k : ℕ) (x : A) (r : Option VerifyErr) → x ≡ get_or xs k x → k < length xs
     → function_fault c k (g x) ≡ None → r ≡ functions_fault c k (drop k (map g xs)) → r ≡ functions_fault c (k + 1) (drop (k + 1) (map g xs))
 functions_more c g xs k x r e l p h =
-    h ∙ ap (functions_fault c k) (next_mapped g xs k x e l) ∙ ap (λ o. or_later o (functions_fault c (k + 1) (drop (k + 1) (map g xs)))) p
+    h ∙ ap (functions_fault c k) (next_mapped g xs k x e l) ∙ ap (λ o. option_or o (functions_fault c (k + 1) (drop (k + 1) (map g xs)))) p
 
 pub functions_found : {A : Type 0} (c : RawCode) (g : A → RawFunction) (xs : List A) (k : ℕ) (x : A) (r : Option VerifyErr) (q : VerifyErr)
     → x ≡ get_or xs k x → k < length xs
     → function_fault c k (g x) ≡ Some q → r ≡ functions_fault c k (drop k (map g xs)) → r ≡ Some q
 functions_found c g xs k x r q e l p h =
-    h ∙ ap (functions_fault c k) (next_mapped g xs k x e l) ∙ ap (λ o. or_later o (functions_fault c (k + 1) (drop (k + 1) (map g xs)))) p
+    h ∙ ap (functions_fault c k) (next_mapped g xs k x e l) ∙ ap (λ o. option_or o (functions_fault c (k + 1) (drop (k + 1) (map g xs)))) p
 
 pub functions_done : {A : Type 0} (c : RawCode) (g : A → RawFunction) (xs : List A) (k : ℕ) (r : Option VerifyErr) → length xs ≤ k
     → r ≡ functions_fault c k (drop k (map g xs)) → r ≡ None

@@ -1,15 +1,21 @@
 -- Code is verified where each instruction passes, and only there.
 use Rattle.std.proofs.Common.{◌≡◌, ℕ, zero, suc, ◌+◌, ◌==◌, ◌<◌, List, [], ◌∷◌, length, Bool, true, false, not, ◌&&◌, ◌||◌, Option, Some, None}
 use Rattle.std.proofs.Common.{slice_get, IsTrue, refl, sym, ap, ◌∙◌, subst, arith}
+use Rattle.std.specs.Prelude.{if◌then◌else◌}
+use Rattle.std.specs.Option.{option_or}
 use Rattle.bytecode.specs.Raw.{Raw, RawFunction, RawCode}
 use Rattle.verified_code.specs.declared.fault.CodeProblem.{CodeProblem}
+use Rattle.verified_code.specs.declared.fault.CodeProblem.TheVariants.{BadRegister, BadKind, BadJump}
 use Rattle.verified_code.specs.declared.fault.VerifyErr.{VerifyErr}
 use Rattle.verified_code.specs.Fitting.{names_there, operands_fit, target_fits, goes_on}
-use Rattle.verified_code.specs.Verified.{problem_of, problem_at, head_fits, here, fault_if_any, body_fault, or_later, function_problem}
+use Rattle.verified_code.specs.Verified.{problem_at, head_fits, here, fault_if_any, body_fault, function_problem}
 use Rattle.verified_code.specs.Verified.{function_fault, functions_fault, main_problem, IsVerified}
 use Rattle.verified_code.specs.Sound.{passes, IsSoundFunction, IsSound}
 
 -- ---- one instruction
+
+abbrev problem_of : (there fit leads : Bool) → Option CodeProblem
+problem_of there fit leads = if not there then Some BadRegister else if not fit then Some BadKind else if not leads then Some BadJump else None
 
 bools_none : (a b d t g : Bool) → problem_of a (b && d) (t && g) ≡ None → ((a && b && t && g) ≡ true) × (d ≡ true)
 bools_none false b d t g h = cc
@@ -46,7 +52,7 @@ fault_none : (n k : ℕ) (o : Option CodeProblem) (later : Option VerifyErr) →
 fault_none n k None later h = (refl, h)
 fault_none n k (Some p) later h = cc
 
-later_none : (o later : Option VerifyErr) → or_later o later ≡ None → (o ≡ None) × (later ≡ None)
+later_none : (o later : Option VerifyErr) → option_or o later ≡ None → (o ≡ None) × (later ≡ None)
 later_none None later h = (refl, h)
 later_none (Some e) later h = cc
 
@@ -91,7 +97,7 @@ functions_back : (c : RawCode) (fs : List RawFunction) (k : ℕ)
     → ((j : ℕ) (f : RawFunction) → slice_get fs j ≡ Some f → function_fault c (k + j) f ≡ None) → functions_fault c k fs ≡ None
 functions_back c [] k all = refl
 functions_back c (x ∷ fs) k all =
-    ap (λ o. or_later o (functions_fault c (k + 1) fs)) (subst (λ z. function_fault c z x ≡ None) (sym (at_first k)) (all zero x refl))
+    ap (λ o. option_or o (functions_fault c (k + 1) fs)) (subst (λ z. function_fault c z x ≡ None) (sym (at_first k)) (all zero x refl))
     ∙ functions_back c fs (k + 1) (λ j f g. subst (λ z. function_fault c z f ≡ None) (sym (at_next k j)) (all (suc j) f g))
 
 -- ---- one function

@@ -1,6 +1,6 @@
 -- What an instruction asks of its place: what it names is there, its operands are of the kinds that it wants, its target may be led to.
 use Rattle.std.specs.Prelude.{ℕ, ◌+◌, Bool, true, false, not, ◌&&◌, ◌||◌, ◌==◌, nat_lt, nat_le, List, [], ◌∷◌, length, take, Option, Some, None}
-use Rattle.std.specs.Prelude.{slice_get, if◌then◌else◌}
+use Rattle.std.specs.Prelude.{slice_get, unwrap_or, if◌then◌else◌}
 use Rattle.std.specs.List.{list_all}
 use Rattle.secrec_ast.specs.declared.expression.DataType.{DataType}
 use Rattle.secrec_ast.specs.declared.expression.DataType.TheVariants as types
@@ -57,13 +57,9 @@ array_of k = record { secret = k.secret; element = k.element; array = true }
 abbrev pub bits_of : Kind → Kind
 bits_of k = record { secret = k.secret; element = types.Bool; array = true }
 
--- a kind that no test looks at, where a register isn't there
-abbrev pub kind_or : Option Kind → Kind
-kind_or None = public_scalar types.Uint64
-kind_or (Some k) = k
-
+-- a register's kind; where it isn't there, one that no test looks at
 abbrev pub kind_at : List Kind → ℕ → Kind
-kind_at kinds r = kind_or (slice_get kinds r)
+kind_at kinds r = unwrap_or (slice_get kinds r) (public_scalar types.Uint64)
 
 -- ---- what it names is there
 
@@ -224,14 +220,12 @@ operands_fit h (Cat d a b line) = cat_fits (kind_at h.own.registers d) (kind_at 
 operands_fit h (Sum d r) = sum_fits (kind_at h.own.registers d) (kind_at h.own.registers r)
 operands_fit h (Bits d r line) = bits_fit (kind_at h.own.registers d) (kind_at h.own.registers r)
 operands_fit h (Declassify d r) = same_kind (kind_at h.own.registers d) (public_as (kind_at h.own.registers r))
-operands_fit h (Argument d name line) = true
-operands_fit h (Publish name r) = true
 operands_fit h (Assert r line) = is_condition (kind_at h.own.registers r)
 operands_fit h (Branch r v target) = is_condition (kind_at h.own.registers r)
-operands_fit h (Jump target) = true
 operands_fit h (Call f d arguments line) = call_fits h.own.registers (slice_get h.code.functions f) d arguments
 operands_fit h (Return r) = gives_fits h.own.gives (kind_at h.own.registers r)
 operands_fit h ReturnNone = gives_none h.own.gives
+operands_fit h _ = true
 
 -- ---- its target may be led to
 

@@ -1,5 +1,5 @@
 -- The steps of verified code.
-use Rattle.std.specs.Prelude.{ℕ, ◌==◌, List, [], map, Option, Some, None, slice_get, if◌then◌else◌}
+use Rattle.std.specs.Prelude.{ℕ, ◌==◌, List, [], map, Option, Some, None, slice_get, unwrap_or, if◌then◌else◌}
 use Rattle.typed_tree.specs.Operators.{operands_of, cast_between}
 use Rattle.bytecode.specs.declared.kind.Kind.{Kind}
 use Rattle.bytecode.specs.Raw.{Raw, RawFunction, RawCode}
@@ -8,12 +8,8 @@ use Rattle.verified_code.specs.Steps.{Step, Function, Literal, Move, Store, Bina
 use Rattle.verified_code.specs.Steps.{Declassify, Argument, Publish, Assert, Branch, Jump, Call, Return, ReturnNone}
 use Rattle.verified_code.specs.Fitting.{kind_at, is_none, operator_at}
 
-abbrev pub name_or : Option (List ℕ) → List ℕ
-name_or None = []
-name_or (Some name) = name
-
 abbrev pub name_at : List (List ℕ) → ℕ → List ℕ
-name_at names k = name_or (slice_get names k)
+name_at names k = unwrap_or (slice_get names k) []
 
 abbrev pub result_at : ℕ → Option ℕ
 result_at d = if is_none d then None else Some d

@@ -16,20 +16,14 @@ kind_shape kind = shape_of kind.element kind.array
 pub data Step : Type 0 where
   -- a public scalar; a truth value is 1 or 0
   Literal : (to : ℕ) → DataType → (word : ℕ) → Step
-  Move : (to source : ℕ) → Step
-  Store : (to source : ℕ) → Step
+  Move Store Not Classify Size Sum Declassify : (to source : ℕ) → Step
   Binary : (line : ℕ) → BinaryOperator → Operands → (to left right : ℕ) → Step
-  Not : (to source : ℕ) → Step
   Cast : casts.Cast → (to source : ℕ) → Step
-  Classify : (to source : ℕ) → Step
   Fill : (line to size value : ℕ) → Step
   At : (line to array index : ℕ) → Step
   Put : (line array index value : ℕ) → Step
-  Size : (to source : ℕ) → Step
   Cat : (line to left right : ℕ) → Step
-  Sum : (to source : ℕ) → Step
   Bits : (line to source : ℕ) → Step
-  Declassify : (to source : ℕ) → Step
   -- the input of a name, where one of this kind is wanted
   Argument : (line : ℕ) → Kind → (text : List ℕ) → (to : ℕ) → Step
   Publish : (text : List ℕ) → (source : ℕ) → Step

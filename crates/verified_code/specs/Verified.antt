@@ -1,6 +1,7 @@
 -- Which code is verified, and the first fault of other code.
-use Rattle.std.specs.Prelude.{◌≡◌, ℕ, ◌+◌, Bool, true, false, not, ◌&&◌, ◌||◌, ◌==◌, nat_le, List, [], ◌∷◌, length, Option, Some, None, Result, Ok}
+use Rattle.std.specs.Prelude.{◌≡◌, ℕ, ◌+◌, Bool, not, ◌&&◌, ◌||◌, ◌==◌, nat_le, List, [], ◌∷◌, length, Option, Some, None, Result, Ok}
 use Rattle.std.specs.Prelude.{Err, if◌then◌else◌}
+use Rattle.std.specs.Option.{option_or}
 use Rattle.bytecode.specs.declared.code.Code.{Code}
 use Rattle.bytecode.specs.InMemory.{raw_code}
 use Rattle.bytecode.specs.Raw.{Raw, RawFunction, RawCode}
@@ -16,18 +17,13 @@ is_main_head f = f.parameters == 0 && gives_none f.gives
 abbrev pub head_fits : (number : ℕ) → RawFunction → Bool
 head_fits number f = nat_le f.parameters (length f.registers) && (is_main_head f || not (number == 0))
 
-abbrev pub problem_of : (there fit leads : Bool) → Option CodeProblem
-problem_of false fit leads = Some BadRegister
-problem_of true false leads = Some BadKind
-problem_of true true false = Some BadJump
-problem_of true true true = None
-
 -- the problem of the least number at an instruction; one of the function's head counts at its first instruction
 abbrev pub problem_at : (number : ℕ) → Here → Raw → Option CodeProblem
 problem_at number h i =
-    problem_of (names_there h i)
-    (operands_fit h i && (head_fits number h.own || not (h.place == 0)))
-    (target_fits h i && goes_on h i)
+    if not (names_there h i) then Some BadRegister
+    else if not (operands_fit h i && (head_fits number h.own || not (h.place == 0))) then Some BadKind
+    else if not (target_fits h i && goes_on h i) then Some BadJump
+    else None
 
 abbrev pub here : RawCode → RawFunction → ℕ → Here
 here code f place = record { code = code; own = f; place = place }
@@ -50,13 +46,9 @@ function_problem number f (i ∷ is) = None
 abbrev pub function_fault : RawCode → (number : ℕ) → RawFunction → Option VerifyErr
 function_fault code number f = fault_if_any number 0 (function_problem number f f.body) (body_fault code number f 0 f.body)
 
-abbrev pub or_later : Option VerifyErr → Option VerifyErr → Option VerifyErr
-or_later None later = later
-or_later (Some e) later = Some e
-
 abbrev pub functions_fault : RawCode → (number : ℕ) → List RawFunction → Option VerifyErr
 functions_fault code number [] = None
-functions_fault code number (f ∷ fs) = or_later (function_fault code number f) (functions_fault code (number + 1) fs)
+functions_fault code number (f ∷ fs) = option_or (function_fault code number f) (functions_fault code (number + 1) fs)
 
 abbrev pub main_problem : List RawFunction → Option CodeProblem
 main_problem [] = Some BadRegister

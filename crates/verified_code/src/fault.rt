@@ -5,7 +5,7 @@ pub enum CodeProblem {
     BadRegister,
     /// A register, an operand or the function's head is of another kind than is wanted.
     BadKind,
-    /// A target isn't there, a jump doesn't go forward, or a function goes on behind its last instruction.
+    /// A target isn't there, a jump doesn't go forward, or a function goes on after its last instruction.
     BadJump,
 }
 

@@ -290,7 +290,7 @@ pub(crate) fn target_fits(here: Here<'_>, instruction: &Instruction) -> bool
     }
 }
 
-/// The instruction returns, or another one stands behind it.
+/// The instruction returns, or another one stands after it.
 pub(crate) fn goes_on(here: Here<'_>, instruction: &Instruction) -> bool
     requires { here.place < length (raw_function here.own.now).body }
     ensures { result ≡ goes_on (here_in here.entry) (raw_instruction instruction.now) }

@@ -1,6 +1,7 @@
 -- A file of openings is read as their words.
 use Rattle.std.proofs.Common.{◌≡◌, ℕ, ◌+◌, List, [], ◌∷◌, ◌++◌, map, refl, sym, ◌∙◌, ap}
 use Rattle.std.specs.Prelude.{Option, Some, None, option_map, Ok}
+use Rattle.std.specs.Result.{result_map_both}
 use Rattle.sc_text.specs.declared.elements.Element.{Element}
 use Rattle.sc_text.specs.Elements.{element_text}
 use Rattle.view_text.specs.View.{AreElements, AreOpened}
@@ -10,7 +11,7 @@ use Rattle.view_text.proofs.Lines.{line_back}
 use Rattle.view_text.proofs.Rounds.{line_is_cut, good_opened}
 use Rattle.view_text.proofs.Walked.{line_text, lines_cut}
 use Rattle.proto_core.proofs.Beginnings.{append-none}
-use Rattle.view_reader.specs.Opened.{opened_bytes, opened_of, opened_words, opening_in, in_front, openings_from, openings_of, words_read}
+use Rattle.view_reader.specs.Opened.{opened_bytes, opened_of, opened_words, opening_in, in_front, openings_from, openings_of}
 
 same_line : (es : List Element) (o : Option (List Element)) → option_map Opened o ≡ Some (Opened es) → o ≡ Some es
 same_line es None e = cc
@@ -35,7 +36,7 @@ lines_read k (o ∷ os) h =
 pub words_again : (os : List (List Element)) → AreOpened os → opened_of (opened_bytes os) ≡ Ok (opened_words os)
 unfolding openings_of
 words_again os h =
-    ap words_read
+    ap (result_map_both opened_words (λ line. line))
     (ap (λ b. openings_from 1 (lines_in b)) (sym (append-none (opened_bytes os)))
     ∙ ap (openings_from 1) (lines_cut (map Opened os) (good_opened os h) [])
     ∙ lines_read 1 os h)

@@ -10,7 +10,7 @@ use Rattle.language_model.specs.Evaluation.{nothing, array_elements, either, inp
 use Rattle.language_model.specs.Reports.{dealing, beginning, not_dealt}
 use Rattle.verified_code.specs.Steps.{Step, Literal, Move, Store, Binary, Not, Cast, Classify, Fill, At, Put, Size, Cat, Sum, Bits, Declassify}
 use Rattle.verified_code.specs.Steps.{Argument, Publish, Assert, Branch, Jump, Call, Return, ReturnNone, Function, kind_shape}
-use Rattle.code_model.specs.Machine.{Caller, Machine, values_at, steps_of, entering, limit, same_bool, resume, step, exec, further, start, at, next}
+use Rattle.code_model.specs.Machine.{Caller, Machine, values_at, steps_of, entering, limit, same_truth, resume, step, exec, further, start, at, next}
 use Rattle.code_model.specs.Meaning.{fuel, stopped_or, report_at, mean_in}
 use Rattle.code_model.specs.Kinded.{IsIn}
 use Rattle.said_code.specs.Says.{StepSays}
@@ -105,7 +105,7 @@ module _ (is_word : ℕ → Bool) (is_text : List ℕ → Bool) where
       leads (Some (Publish text r)) h = by (published_ends w budget room text (m.registers r)) (λ _. jumps (m.pc + 1))
       leads (Some (Assert line r)) h = by (asserted_ends w budget room line (m.registers r) (below line (h _ refl))) (λ _. jumps (m.pc + 1))
       leads (Some (Branch r b target)) h =
-          by (tested_ends w budget room (m.registers r)) (λ t. jumps (either (same_bool t b) target (m.pc + 1)))
+          by (tested_ends w budget room (m.registers r)) (λ t. jumps (either (same_truth t b) target (m.pc + 1)))
       leads (Some (Jump target)) h = jumps target
       leads (Some (Call line g d args)) h =
           by (on_charge w budget room 1)

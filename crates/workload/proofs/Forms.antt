@@ -25,7 +25,7 @@ are_inputs number = (
   (record { fresh = refl; short = short (right_element number) number }, tt),
 )
 
--- entries that are put one behind another
+-- entries that are put one after another
 pub entries_are : (number : ℕ) (none one two : List Entry) (a b : Entry) (left right : List ℕ) → none ≡ [] → one ≡ none ++ a ∷ [] → two ≡ one ++ b ∷ [] →
     a ≡ record { name = codes "a"; domain = Private; value = Numbers left } → b ≡ record { name = codes "b"; domain = Private; value = Numbers right } →
     left ≡ map (left_element number) (range_with_len 0 (load_count number)) → right ≡ map (right_element number) (range_with_len 0 (load_count number)) →

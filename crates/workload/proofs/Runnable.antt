@@ -7,7 +7,7 @@ use Rattle.secrec_ast.specs.Programs.{FunctionTree}
 use Rattle.front_end.specs.Judgement.{IsProgramText}
 use Rattle.domain_types.specs.declared.fault.TypeFault.{TypeFault}
 use Rattle.domain_types.specs.Declarations.{declared_by, functions_of}
-use Rattle.domain_types.specs.ExpressionTypes.{within, built_in_result, call_faults, call_type, defined_faults, operator_faults, operator_type, sum_faults}
+use Rattle.domain_types.specs.ExpressionTypes.{within, built_in_faults, built_in_result, call_faults, call_type, defined_faults, operator_faults, operator_type}
 use Rattle.domain_types.specs.FunctionTypes.{function_faults}
 use Rattle.domain_types.specs.ProgramTypes.{IsFault, declaring, inside, of_head}
 use Rattle.domain_types.specs.Reached.{Call, Instance, Calls, IsChecked, plain, reached, function_calls}
@@ -30,7 +30,7 @@ abbrev main_instance : Instance
 main_instance = record { function = 0; binding = [] }
 
 no_call : (c : Call) → Calls load_tree main_instance c → ⊥
-unfolding built_in_result call_faults call_type defined_faults operator_faults operator_type sum_faults
+unfolding built_in_faults built_in_result call_faults call_type defined_faults operator_faults operator_type
 no_call c calls =
     let alone = main_alone 0 calls.called_in calls.there in
     subst (λ f. Among c (function_calls (within (declared_by load_tree) f []) f)) alone.1 calls.calls
@@ -42,7 +42,7 @@ main_checked i (reached j k ds checked calls) =
     (subst (λ x. Calls load_tree x (record { function = k; binding = Some ds })) (main_checked j checked) calls))
 
 no_fault_inside : (f : FunctionTree) (g : TypeFault) → f ≡ main_tree → Among g (function_faults (within (declared_by load_tree) f []) f) → ⊥
-unfolding built_in_result call_faults call_type defined_faults operator_faults operator_type sum_faults
+unfolding built_in_faults built_in_result call_faults call_type defined_faults operator_faults operator_type
 no_fault_inside f g is among = subst (λ x. Among g (function_faults (within (declared_by load_tree) x []) x)) is among
 
 no_fault : (g : TypeFault) → IsFault load_tree g → ⊥

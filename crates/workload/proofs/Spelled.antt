@@ -17,7 +17,7 @@ use Rattle.workload.specs.LoadTree.{a_and_b, array_from_input, at, load_tree, ma
 use Rattle.workload.proofs.Tokens.{import_stdlib, import_shared3p, domain_p, heading, first_array, second_array, products, comparisons}
 use Rattle.workload.proofs.Tokens.{behind_main, load_tokens}
 
--- ---- one phrase behind another
+-- ---- one phrase after another
 
 then_sign : {x : Sign} {Q : Phrase} {place : Span} {t : List Token} → Q t → (sign x then Q) (token place (kinds.Sign x) ∷ t)
 then_sign {x = x} {place = place} {t = t} q = (token place (kinds.Sign x) ∷ [], t, refl, (place, refl), q)
@@ -34,7 +34,7 @@ then_nothing {t = t} q = ([], t, refl, refl, q)
 last : {x : Sign} {place : Span} → sign x (token place (kinds.Sign x) ∷ [])
 last {place = place} = (place, refl)
 
--- a phrase of so many tokens, and one behind it
+-- a phrase of so many tokens, and one after it
 split : {P Q : Phrase} {ts : List Token} (n : ℕ) → P (take n ts) → Q (drop n ts) → (P then Q) ts
 split {ts = ts} n p q = (take n ts, drop n ts, sym (take-append-drop n ts), p, q)
 

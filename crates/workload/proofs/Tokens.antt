@@ -106,7 +106,7 @@ behind_lexeme bytes offset size kind ts here None lexed is = absurd cc
 behind_lexeme bytes offset size kind ts here (Some more) lexed is =
     subst (Lexes bytes offset) (same_Some (token_at bytes offset kind ∷ more) ts is) (lexeme kind size here (lexed more refl))
 
--- a piece, and the tokens behind it
+-- a piece, and the tokens after it
 lexes_piece : (bytes : List ℕ) (offset : ℕ) (ts : List Token) (behind : ℕ → Option (List Token))
     → ((next : ℕ) (more : List Token) → behind next ≡ Some more → Lexes bytes next more) → (p : Piece) → first (drop offset bytes) ≡ p
     → piece bytes offset behind p ≡ Some ts → Lexes bytes offset ts

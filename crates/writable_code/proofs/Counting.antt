@@ -28,7 +28,7 @@ AllAtMost n cs = counts cs ≤ n
 wider : (n k : ℕ) (m : Resolving TypedStatementTree) → n ≤ k → Makes (AtMost n) m → Makes (AtMost k) m
 wider n k m l h = record { from = λ s a q e. let x = h.from s a q e in omega (arith, l, x) }
 
--- what is made behind something, whatever this is
+-- what is made after something, whatever this is
 behind : {A : Type 0} (n : ℕ) (m : Resolving A) (f : A → Resolving TypedStatementTree) → ((a : A) → Makes (AtMost n) (f a)) → Makes (AtMost n) (m >>= f)
 behind n m f h = makes_bind Anything (AtMost n) m f (anything m) (λ a u. h a)
 

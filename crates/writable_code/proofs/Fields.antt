@@ -1,7 +1,7 @@
 -- Each number of raw code has room in its bytes, where the steps are right and few.
 use Rattle.std.proofs.Common.{◌≡◌, ℕ, zero, suc, ◌+◌, ◌<◌, ◌≤◌, ◌^◌, List, [], ◌∷◌, ◌++◌, length, map, take, Option, Some, None, Bool, true, false}
 use Rattle.std.proofs.Common.{refl, sym, ap, ◌∙◌, subst, arith, inl}
-use Rattle.std.specs.Prelude.{slice_get, IsTrue, nat_le, ◌&&◌, if◌then◌else◌}
+use Rattle.std.specs.Prelude.{slice_get, unwrap_or, IsTrue, nat_le, ◌&&◌, if◌then◌else◌}
 use Rattle.std.specs.List.{AllByRecursion as Each, flat_map, list_all}
 use Rattle.std.proofs.lemmas.Bool.{and_parts, ltb-true, leb-true}
 use Rattle.std.proofs.lemmas.Bool.Decides.{nat_tests}
@@ -20,11 +20,12 @@ use Rattle.bytecode.specs.declared.kind.Kind.{Kind}
 use Rattle.bytecode.specs.Kinds.{element_bit, kind_byte, return_byte}
 use Rattle.bytecode.specs.Raw.{RawFunction}
 use Rattle.bytecode.specs.Written.{short, byte, source_line, instruction_numbers, head_numbers, body_numbers, name_numbers}
-use Rattle.bytecode.specs.Writable.{Fits, parameters_of, or_none, IsProper, IsWritable}
+use Rattle.bytecode.specs.Writable.{Fits, parameters_of, IsProper, IsWritable}
 use Rattle.verified_code.specs.Steps.{Step, Function, Literal, Move, Store, Binary, Not, Cast, Classify, Fill, At, Put, Size, Cat, Sum, Bits, Declassify}
 use Rattle.verified_code.specs.Steps.{Argument, Publish, Assert, Branch, Jump, Call, Return, ReturnNone}
 use Rattle.code_model.specs.Kinded.{HasKind, ResultFits, IsIn}
-use Rattle.lowered_code.specs.Instructions.{nowhere, operator_number, bit, register_or_nowhere, place_among, instruction, raw_function, step_names}
+use Rattle.code_model.specs.Words.{truth_word}
+use Rattle.lowered_code.specs.Instructions.{nowhere, operator_number, register_or_nowhere, place_among, instruction, raw_function, step_names}
 use Rattle.lowered_code.specs.Instructions.{function_names, names_of, raw_code_of}
 use Rattle.lowered_code.specs.Right.{AreOf, IsRight, AreRight}
 use Rattle.lowered_code.proofs.Names.{name_found, named}
@@ -64,7 +65,7 @@ operator_low (Bools truth_sign.And) = omega arith
 operator_low (Bools truth_sign.Or) = omega arith
 operator_low (Bools truth_sign.Xor) = omega arith
 
-bit_low : (b : Bool) → bit b < 2
+bit_low : (b : Bool) → truth_word b < 2
 bit_low true = omega arith
 bit_low false = omega arith
 
@@ -205,7 +206,7 @@ module _ (c : List Function) (names : List (List ℕ)) (ks : List Kind) (gives :
   instruction_proper (Call line g d arguments) h m =
       let f = h.0 in
       let there = mapped (λ (z : RawFunction). z.parameters) (map (raw_function names) c) g (raw_function names f) (mapped (raw_function names) c g f h.1) in
-      as_many arguments (take f.parameters f.kinds) h.2 ∙ length-take-le f.parameters f.kinds (m f (g, h.1)) ∙ sym (ap or_none there)
+      as_many arguments (take f.parameters f.kinds) h.2 ∙ length-take-le f.parameters f.kinds (m f (g, h.1)) ∙ sym (ap (λ n. unwrap_or n 0) there)
   instruction_proper (Return r) h m = tt
   instruction_proper ReturnNone h m = tt
 

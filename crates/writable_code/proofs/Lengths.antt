@@ -139,7 +139,7 @@ module _ (number : Numbers) (here : Setting) where
   abbrev Short : TypedTree → List Step → Type 0
   Short e code = IsShort (two (width e)) 0 code
 
-  -- the node behind one operand
+  -- the node after one operand
   behind_one : (e : TypedTree) (i : Step) {code : List Step} → length (step_names i) ≤ 0 → Short e code → IsShort (two (1 + width e)) 0 (code ++ i ∷ [])
   behind_one e i few h = fewer (two (1 + width e)) 0 (omega arith) (omega arith) (both h (one i few))
 

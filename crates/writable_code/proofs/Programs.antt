@@ -1,7 +1,8 @@
 -- The code of an accepted program within the limits of size has room in its bytes.
 use Rattle.std.proofs.Common.{◌≡◌, ℕ, zero, suc, ◌+◌, ◌<◌, ◌≤◌, ◌^◌, List, [], ◌∷◌, ◌++◌, length, map, Option, Some, None, Bool, true, false, cond}
 use Rattle.std.proofs.Common.{refl, sym, ap, ◌∙◌, subst, arith, length-append, inl, inr}
-use Rattle.std.specs.Prelude.{slice_get, nat_lt, sum}
+use Rattle.std.specs.Prelude.{slice_get, nat_lt, sum, count_by}
+use Rattle.std.specs.Option.{option_map_or}
 use Rattle.std.specs.List.{flat_map}
 use Rattle.std.proofs.lemmas.Bool.{ltb-false}
 use Rattle.std.proofs.lemmas.List.{length-map}
@@ -19,7 +20,8 @@ use Rattle.reached_instances.specs.Instances.{Instance}
 use Rattle.reached_instances.specs.Reached.{IsReachedList}
 use Rattle.reached_instances.proofs.ReachedLists.{is_the_only_list}
 use Rattle.reached_instances.specs.Limits as limits
-use Rattle.reached_instances.specs.Limits.{size_in, sizes, templates, is_too_large, IsWithinLimits}
+use Rattle.reached_instances.specs.Templates.{is_of_template}
+use Rattle.reached_instances.specs.Limits.{sizes, IsWithinLimits}
 use Rattle.verified_code.specs.Steps.{Step, Function, Literal, Move, Store, Binary, Not, Cast, Classify, Fill, At, Put, Size, Cat, Sum, Bits, Declassify}
 use Rattle.verified_code.specs.Steps.{Argument, Publish, Assert, Branch, Jump, Call, Return, ReturnNone}
 use Rattle.code_model.specs.Programs.{numbers_in, code_of_found, instance_code, code_of}
@@ -77,7 +79,7 @@ few_sizes false false x y o e = refl
 sizes_within : (p : TypedProgramTree) (is : List Instance) → IsWithinLimits p → IsReachedList p is → sum (sizes p is) ≤ 65535
 sizes_within p is within reached =
     let same = is_the_only_list p is within.list reached within.reached in
-    let fine = few_sizes (nat_lt 1024 (templates p within.list)) (nat_lt 65535 (sum (sizes p within.list))) _ _ _ within.is in
+    let fine = few_sizes (nat_lt 1024 (count_by (is_of_template p) within.list)) (nat_lt 65535 (sum (sizes p within.list))) _ _ _ within.is in
     subst (λ js. sum (sizes p js) ≤ 65535) (sym same) (ltb-false 65535 (sum (sizes p within.list)) fine)
 
 sizes_first : (p : TypedProgramTree) (i : Instance) (is : List Instance) → sum (sizes p (i ∷ is)) ≡ limits.size_of p i + sum (sizes p is)
@@ -162,7 +164,7 @@ module _ (source : ProgramTree) (accepted : IsAccepted source) (written : IsWell
       }
 
   size_there : (i : Instance) (m : Among i is) → limits.size_of p i ≡ (typed_at i m).called.size
-  size_there i m = ap size_in (typed_at i m).there
+  size_there i m = ap (λ (o : Option TypedFunctionTree). option_map_or (λ g. g.size) o 0) (typed_at i m).there
 
   -- its code has few steps and few names
   instance_short : (i : Instance) → Among i is → (length (own_code i).steps < 2 ^ 16) × (length (function_names (own_code i)) ≤ limits.size_of p i)

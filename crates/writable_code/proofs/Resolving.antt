@@ -25,10 +25,10 @@ use Rattle.typed_tree.specs.Statements.{default_statement, fill_statement, input
 use Rattle.name_resolution.specs.Scopes.{FunctionScope, Scope, variable_named}
 use Rattle.name_resolution.specs.Values.{TypedValue, TypedCall, of_both, variable_value, element_value, negated, cast_value, declassified_value, operation_node}
 use Rattle.name_resolution.specs.Values.{operation_made, operation, gives_value, with_shape, value_given, shape_returned, tree_of_value, built_in_value, called}
-use Rattle.name_resolution.specs.Values.{and_values, value, values, call_made}
-use Rattle.name_resolution.specs.Resolving.{Resolving, ◌>>=◌, done, reading, next_slot, declare, in_block, tree_in, resolved_value, expression}
+use Rattle.name_resolution.specs.Values.{and_more, value, values, call_made}
+use Rattle.name_resolution.specs.Resolving.{Resolving, ◌>>=◌, done, reading, next_slot, declare, in_block, resolved_value, expression}
 use Rattle.name_resolution.specs.Resolving.{named}
-use Rattle.name_resolution.specs.Bodies.{tree_in_call, calling, evaluated, default_of, from_value, initial, declared, assigned_to, assigned, started, stepped}
+use Rattle.name_resolution.specs.Bodies.{calling, evaluated, default_of, from_value, initial, declared, assigned_to, assigned, started, stepped}
 use Rattle.name_resolution.specs.Bodies.{condition_of, returned, looped, resolved, resolved_all}
 use Rattle.name_resolution.proofs.SoundValues.{mapped, both_there, then_there, some_is}
 use Rattle.said_code.specs.Laws.{any_number}
@@ -120,7 +120,7 @@ mutual
   values_said : (d : Declared) (s : Scope) (es : Trees) (vs : List TypedValue) → ArePlaced es → values d s es ≡ Some vs → AllSaid vs
   values_said d s Tree'.none vs p h = subst AllSaid (some_is [] vs h) tt
   values_said d s (Tree'.also e es) vs p h =
-      let m = both_there and_values (value d s e) (values d s es) vs h in
+      let m = both_there and_more (value d s e) (values d s es) vs h in
       subst AllSaid (some_is _ vs m.is) (value_said d s e m.left p.0 m.left_there, values_said d s es m.right p.1 m.right_there)
 
 -- ---- EXPRESSIONS
@@ -130,7 +130,7 @@ expression_made d e p = makes_reading Said (resolved_value d e) read
   where
     read : (s : FunctionScope) (t : TypedTree) → resolved_value d e s ≡ Some t → Said t
     read s t h =
-        let m = mapped tree_in (value d s.scope e) t h in
+        let m = mapped tree_of_value (value d s.scope e) t h in
         subst Said m.is (value_said d s.scope e m.part p m.there)
 
 calling_made : (d : Declared) (line : ℕ) (x : List ℕ) (es : Trees) → IsLine line → ArePlaced es → Makes Said (reading (calling d line x es))
@@ -138,7 +138,7 @@ calling_made d line x es l p = makes_reading Said (calling d line x es) read
   where
     read : (s : FunctionScope) (t : TypedTree) → calling d line x es s ≡ Some t → Said t
     read s t h =
-        let m = mapped tree_in_call (call_made d s.scope line x es) t h in
+        let m = mapped (λ (c : TypedCall). c.tree) (call_made d s.scope line x es) t h in
         let b = both_there (called line) (callee d x) (values d s.scope es) m.part m.there in
         subst Said m.is (called_said line b.left b.right m.part l (values_said d s.scope es b.right p b.right_there) b.is)
 

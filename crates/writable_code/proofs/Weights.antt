@@ -1,6 +1,7 @@
 -- A function's code has at most as many instructions and registers as its weight.
 use Rattle.std.proofs.Common.{◌≡◌, ℕ, ◌+◌, ◌*◌, ◌<◌, ◌≤◌, List, [], ◌∷◌, length, map, Option, Some, None, refl, subst, arith}
 use Rattle.std.specs.Prelude.{slice_get}
+use Rattle.std.specs.Option.{option_map_or}
 use Rattle.std.proofs.lemmas.List.{length-map}
 use Rattle.secrec_ast.specs.Programs.{FunctionTree, ProgramTree}
 use Rattle.domain_types.specs.Declarations.{Declared}
@@ -9,7 +10,7 @@ use Rattle.name_resolution.specs.Sizes.{function_nodes, counted}
 use Rattle.name_resolution.specs.Functions.{typed_function, typed_of}
 use Rattle.reached_instances.specs.declared.instance.BoundDomain.{BoundDomain}
 use Rattle.reached_instances.specs.Instances.{Instance}
-use Rattle.reached_instances.specs.Limits.{size_in, sizes}
+use Rattle.reached_instances.specs.Limits.{sizes}
 use Rattle.code_model.specs.Expressions.{Numbers}
 use Rattle.code_model.specs.Statements.{statements_depth}
 use Rattle.code_model.proofs.Widths.{statements_width, statements_deep}
@@ -60,8 +61,8 @@ function_within number fs names f b h =
 -- ---- PROGRAMS
 
 module _ (source : ProgramTree) (p : TypedProgramTree) (resolved : typed_of source ≡ Some p) (is : List Instance) (names : List (List ℕ)) where
-  found_within : (i : Instance) (o : Option TypedFunctionTree) → slice_get p.functions i.function ≡ o → size_in o < 4294967295
-      → IsWithinWeight (size_in o) (raw_function names (code_of_found (numbers_in is) p.functions i.binding o))
+  found_within : (i : Instance) (o : Option TypedFunctionTree) → slice_get p.functions i.function ≡ o → option_map_or (λ f. f.size) o 0 < 4294967295
+      → IsWithinWeight (option_map_or (λ f. f.size) o 0) (raw_function names (code_of_found (numbers_in is) p.functions i.binding o))
   found_within i None there full = record { instructions = omega arith; registers = omega arith }
   found_within i (Some t) there full =
       let w = written_at source p resolved i.function t there in

@@ -1,5 +1,5 @@
 -- Cited by private functions alone: no contract of another crate rests on it.
--- Instructions by their tags, and which operands stand behind a tag. A call's arguments are read by themselves.
+-- Instructions by their tags, and which operands stand after a tag. A call's arguments are read by themselves.
 use Rattle.std.specs.Prelude.{ℕ, Bool, true, false}
 use Rattle.bytecode.specs.declared.tag.Tag.{Tag}
 use Rattle.bytecode.specs.declared.tag.Tag.TheVariants as tags

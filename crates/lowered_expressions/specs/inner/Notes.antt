@@ -1,6 +1,6 @@
 -- Cited by private functions alone: no contract of another crate rests on it.
 -- What is noted of an expression before its code is made: who may see what it gives, its shape, and how many notes there are, its own
--- among them. Those of its operands stand behind it, in their order.
+-- among them. Those of its operands stand after it, in their order.
 use Rattle.std.specs.Prelude.{ℕ, zero, suc, Bool, false, true, List, [], ◌∷◌, ◌++◌, length, take, drop}
 use Rattle.secrec_ast.specs.declared.expression.DataType.TheVariants.{Uint64}
 use Rattle.secrec_ast.specs.declared.expression.DataType.TheVariants as datatype
@@ -88,7 +88,7 @@ abbrev pub behind_first : List Note → List Note
 behind_first [] = []
 behind_first (n ∷ ns) = ns
 
--- the notes of the first expression, and those behind them
+-- the notes of the first expression, and those after them
 abbrev pub first_part : List Note → List Note
 first_part ns = take (first_note ns).nodes ns
 

@@ -16,9 +16,9 @@ use Rattle.clear_eval.specs.inner.Calling.{call_charged}
 use Rattle.clear_eval.specs.inner.Measures.{weight, weight_of_all, statement_weight, statements_weight, work}
 use Rattle.clear_eval.specs.inner.Parts.{HasOne, HasTwo, HasOneWithin, HasTwoWithin}
 use Rattle.clear_eval.specs.inner.Standing.{AreSoundAmong, IsSoundAround, IsSoundIn, AreSoundIn, IsSoundNode, IsSoundStatement, AreSoundStatements, HasRoomFor}
-use Rattle.clear_eval.specs.inner.Standing.{evaluation_at, parameters_around}
+use Rattle.clear_eval.specs.inner.Standing.{evaluation_at, parameters_around, wanted_at}
 use Rattle.clear_eval.specs.inner.Views.{frame_seen, flow_seen, functions_around, calls_from}
-use Rattle.clear_eval.proofs.Arguments.{behind_those, arguments_more, joined_both}
+use Rattle.clear_eval.proofs.Arguments.{behind_those, arguments_more, joined_both, joined_right}
 use Rattle.clear_eval.proofs.Calls.{call_run, body_behind}
 use Rattle.clear_eval.proofs.Lists.{trees, typed_statements, item_lighter, item_sound, statement_lighter, statement_sound, trees-drop, behind-drop, counted}
 use Rattle.clear_eval.proofs.Loops.{ended, stopped_in_test, stopped_in_body, left_behind_body, at_step, stopped_in_step, left_behind_step, next_turn}
@@ -265,6 +265,22 @@ on_arrays-returns-clause-step t c =
     c.is_private-private.result x y s (stage_seen c.value_wanted.new.stage) s2 c.requires.parts
     (c.is_private-private.ensures ∙ ap is_private c.in_ok-domain.ensures) c.in_ok-x.ensures.step c.in_ok-y.ensures.step)
     c.concatenated.ensures.step
+
+pub on_arrays-returns-in_err-y-clause-step : goal.on_arrays-returns-in_err-y-clause-step
+on_arrays-returns-in_err-y-clause-step t c =
+    let around = c.args.around.now in
+    let frame = c.args.frame.now.items in
+    let right = c.args.arrays.right.now in
+    let private = c.is_private-private.result in
+    let x = value_seen c.in_ok-x.x in
+    let s = stage_seen c.args.stage.now in
+    let s1 = stage_seen c.value_wanted.new.stage in
+    stop_run value_seen value_seen (evaluation_at around frame c.args.e.now) s (wanted_at around frame private right) s1
+    (stage_seen c.value_wanted-2.new.stage) (concatenated c.args.arrays.line x) c.in_err-y.field-0.0 c.from_residual-in_err-y.result
+    (joined_right (world_seen around.world.now) (calls_from around) (setting around.at.here) c.args.arrays.line (typed_tree c.args.arrays.left.now)
+    (typed_tree right) (typed_tree c.args.e.now) (frame_seen frame) private x s s1 c.requires.parts
+    (c.is_private-private.ensures ∙ ap is_private c.in_ok-domain.ensures) c.in_ok-x.ensures.step)
+    c.in_err-y.ensures.step c.from_residual-in_err-y.ensures.1
 
 pub connected-value-requires : goal.connected-value-requires
 connected-value-requires t c =

@@ -1,5 +1,6 @@
 use Rattle.std.proofs.Common.{◌≡◌, ◌+◌, ◌≤◌, ◌*◌, ◌++◌, drop}
-use Rattle.plans.specs.Compare.{less_plan, comparing, widths}
+use Rattle.plans.specs.BitExtract.{widths}
+use Rattle.plans.specs.Compare.{less_plan, comparing}
 use Rattle.plans.proofs.compare.gates_of.Given as goal
 
 -- the gates so far and those of the widths that are left are the plan
