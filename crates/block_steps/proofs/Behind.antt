@@ -1,4 +1,4 @@
--- What stands behind a part of a miner's strand, and what comes later.
+-- What stands after a part of a miner's strand, and what comes later.
 use Rattle.std.proofs.Common.{◌≡◌, ℕ, List, [], ◌∷◌, ◌++◌, refl, sym, ◌∙◌, ap, append_assoc, false, Option, Some, None, is_none}
 use Rattle.proto_core.specs.declared.party.Number.{Number}
 use Rattle.proto_core.specs.declared.party.Number.TheVariants.{One, Two, Three}
@@ -14,7 +14,7 @@ use Rattle.proto_core.proofs.Strands.{followed, standing, on_link-append, opened
 use Rattle.block_steps.specs.declared.links.Links.{Links}
 use Rattle.block_steps.specs.Outcomes.{Outcome, outcome, mail_left, IsStill, HasNoneOf, StandsAt}
 
--- ---- behind what stands still all stands still
+-- ---- after what stands still all stands still
 
 unfit : (shape : Shape) (m : List ℕ) (cause : BadMessage) → fault_of shape m ≡ Some cause → accepts shape m ≡ false
 unfit shape m cause told = sym (faultless_is_accepted shape m) ∙ ap is_none told
@@ -38,7 +38,7 @@ still-is i l cause (Ends a) h = absurd h
 still-is i l cause (Acts act s) h = absurd h
 still-is i l cause (Waits link shape k) h = still-of link shape k (mail_left i l) cause (mail_left i l link) refl h
 
--- ---- what comes to the same comes to the same with what stands behind it
+-- ---- what comes to the same comes to the same with what stands after it
 
 module _ {A B : Type 0} (i : Number) (f : A → Strand B) where
   abbrev goes_on : Outcome A → Outcome B

@@ -8,13 +8,13 @@ use Rattle.proto_core.specs.declared.refused.BadMessage.{BadMessage}
 use Rattle.proto_core.specs.Parties.{to_next, to_previous, from_previous, from_next}
 use Rattle.proto_core.specs.Elementwise.{minus, zeros}
 use Rattle.proto_core.specs.Lists.{part}
-use Rattle.proto_core.specs.Strand.{Sent, Mail, Ends, Acts, run, rest_of}
+use Rattle.proto_core.specs.Strand.{Sent, Mail, Ends, Acts, run, rest_of, one_field}
 use Rattle.proto_core.specs.Net.{mail_of}
 use Rattle.proto_core.proofs.ElementwiseLaws.{length-minus}
 use Rattle.proto_core.proofs.MessageFields.{accepts-one_words}
 use Rattle.proto_core.proofs.Parts.{length-part}
 use Rattle.proto_core.proofs.Refusing.{bits_between_words, bits_behind_words, bits_before_words, bits_alone}
-use Rattle.share_convert.specs.ConvStrand.{Held, shape12, shape13, shape23, shape31, shape32, one_ends, two_ends, two_passes, three_ends, three_passes}
+use Rattle.share_convert.specs.ConvStrand.{Held, shape12, shape13, shape23, shape32, one_ends, two_ends, two_passes, three_ends, three_passes}
 use Rattle.share_convert.specs.ConvStrand.{awaits12, awaits31, awaits32, awaits13, awaits23, conv_strand, to_two, to_three}
 use Rattle.share_convert.specs.ConvStrand.{one_held, two_held, three_held, one_share, two_share, three_share}
 use Rattle.share_convert.specs.Steps.{HasBits, LacksBits}
@@ -49,7 +49,7 @@ module _ (i : Number) where
       outcome i n p o (run (Ends (made ∷ [])) (mail_of i front2 q)) ≡ outcome i n p o (run (awaits31 (length held.mask) held) (mail_of i front q))
   turn31 held m made front front2 q n p o me h e fits is =
       let size = length held.mask in
-      took-previous i Link31 (shape31 size) (one_ends size held) m (Ends (made ∷ [])) front front2 q n p o
+      took-previous i Link31 (one_field size) (one_ends size held) m (Ends (made ∷ [])) front front2 q n p o
       (ap from_previous (sym me)) h e (accepts-one_words size m fits) (ap (λ w. Ends (w ∷ [])) (sym is))
 
   pub turn12 :
@@ -146,7 +146,7 @@ module _ (i : Number) where
       outcome i n p o (run (Ends (x ∷ y ∷ [])) (mail_of i front2 q)) ≡ outcome i n p o (run (split.awaits12 (length held.share) held) (mail_of i front q))
   split12 held m x y front front2 q n p o me h e fits first second =
       let size = length held.share in
-      took-previous i Link12 (split.words_shape size) (split.two_ends size held) m (Ends (x ∷ y ∷ [])) front front2 q n p o
+      took-previous i Link12 (one_field size) (split.two_ends size held) m (Ends (x ∷ y ∷ [])) front front2 q n p o
       (ap from_previous (sym me)) h e (splitting.accepts-words size m fits)
       (ap (λ w. Ends (w ∷ zeros xor_ring size ∷ [])) (sym first) ∙ ap (λ w. Ends (x ∷ w ∷ [])) (sym second))
 
@@ -157,6 +157,6 @@ module _ (i : Number) where
       outcome i n p o (run (Ends (x ∷ y ∷ [])) (mail_of i q front2)) ≡ outcome i n p o (run (split.awaits13 (length held.share) held) (mail_of i q front))
   split13 held m x y front front2 q n p o me h e fits first second =
       let size = length held.share in
-      took-next i Link13 (split.words_shape size) (split.three_ends size held) m (Ends (x ∷ y ∷ [])) front front2 q n p o
+      took-next i Link13 (one_field size) (split.three_ends size held) m (Ends (x ∷ y ∷ [])) front front2 q n p o
       (ap from_next (sym me)) h e (splitting.accepts-words size m fits)
       (ap (λ w. Ends (w ∷ split.signed_sum held.negated size held.share m ∷ [])) (sym first) ∙ ap (λ w. Ends (x ∷ w ∷ [])) (sym second))

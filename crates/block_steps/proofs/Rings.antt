@@ -3,7 +3,7 @@ use Rattle.std.proofs.Common.{◌≡◌, ℕ, ◌*◌, List, [], ◌∷◌, ◌+
 use Rattle.share_ring.specs.Ring.{Ring}
 use Rattle.proto_core.specs.declared.party.Number.{Number}
 use Rattle.proto_core.specs.Parties.{to_next, to_previous, from_previous, from_next}
-use Rattle.proto_core.specs.Strand.{Sent, Opened, Mail, Ends, Acts, run, rest_of}
+use Rattle.proto_core.specs.Strand.{Sent, Opened, Mail, Ends, Acts, run, rest_of, one_field}
 use Rattle.proto_core.specs.Net.{mail_of}
 use Rattle.proto_core.specs.Lists.{part}
 use Rattle.proto_core.proofs.MessageFields.{accepts-one_words}
@@ -13,7 +13,6 @@ use Rattle.proto_core.proofs.ResharingLaws.{length-reshared}
 use Rattle.proto_core.proofs.Parts.{length-part}
 use Rattle.multiply.specs.MulStrand.{Held, masked, crossed, product, mul_strand, masks_shape, factors_shape, mul_masked, mul_passes, mul_crossed, mul_ends}
 use Rattle.multiply.proofs.Tails.{accepts-masks, accepts-factors}
-use Rattle.reshare.specs.Resharing.{one_field}
 use Rattle.reshare.specs.Steps.{left_sent, after_sent}
 use Rattle.open_result.specs.Steps.{Masks, Keeps, Sums, left_masked, after_masked, left_from_previous, after_from_previous, left_from_next, after_from_next}
 use Rattle.open_result.proofs.StepsLemmas as opening

@@ -18,7 +18,7 @@ module _ {A : Type 0} where
   abbrev made : (next previous : List (List ℕ)) → (opened : List ℕ) → Ran A → Outcome A
   made next previous opened ran = record { to_next = next; to_previous = previous; opened = opened; left = ran.left; unread = ran.unread }
 
-  -- ---- what is sent or opened first comes behind what was
+  -- ---- what is sent or opened first comes after what was
 
   by_next :
       (i : Number) (p : List (List ℕ)) (o : List ℕ) (ran : Ran A) {n n2 : List (List ℕ)} → n ≡ n2 →

@@ -17,7 +17,7 @@ pub record Outcome (A : Type 0) : Type 0 where
   pub left : Strand A
   pub unread : Mail
 
--- a run, behind what was done before it
+-- a run, after what was done before it
 abbrev pub outcome : {A : Type 0} → Number → (next previous : List (List ℕ)) → (opened : List ℕ) → Ran A → Outcome A
 outcome i next previous opened ran =
     record {
@@ -73,7 +73,7 @@ pub record IsBeside (before after : Links) : Type 0 where
   pub previous : after.from_previous ≡ before.from_previous
   pub next : after.from_next ≡ before.from_next
 
--- a message more, behind all that came and all that was not taken
+-- a message more, after all that came and all that was not taken
 abbrev pub with_message : List (List ℕ) × List (List ℕ) → List ℕ → List (List ℕ) × List (List ℕ)
 with_message inbox m = (inbox.0 ++ m ∷ [], inbox.1 ++ m ∷ [])
 

@@ -21,7 +21,7 @@ use std::alloc::AllocError;
 /// Begins a block of at most 512 elements of an exchange, with the miner's shares of the operands and its drawn words. It sends
 /// what the protocol sends at first; no message is taken.
 ///
-/// The first miner's splitting is through at once, and each other block awaits a message. Fails where memory is wanting: a part
+/// The first miner's splitting is through at once, and each other block awaits a message. Fails where memory runs out: a part
 /// of what is sent may then be there.
 pub fn begin<P: Party>(
     exchange: Exchange,

@@ -49,7 +49,7 @@ impl<P: Party> Model for Conversion<P> {
 }
 
 impl<P: Party> Conversion<P> {
-    /// As far as the oldest message leads. Fails where memory is wanting.
+    /// As far as the oldest message leads. Fails where memory runs out.
     pub fn step(self, links: &mut Links) -> Result<Progress<Conversion<P>>, AllocError>
         ensures same { IfOk result (λ to. outcome_of P.me links.new (progress_left converting_left to)
             ≡ outcome_of P.me links.old (converting_left self)) }

@@ -27,7 +27,7 @@ pub enum Pending<P: Party> {
 impl<P: Party> Pending<P> {
     /// As far as the oldest message of the link leads on which one is awaited. A message that doesn't fit stays.
     ///
-    /// Fails where memory is wanting: the block is lost then, and so may be a part of what it sent.
+    /// Fails where memory runs out: the block is lost then, and so may be a part of what it sent.
     pub fn step(self, links: &mut Links) -> Result<Progress<Pending<P>>, AllocError>
         ensures same { IfOk result (λ to. outcome_of P.me links.new (progress_left (pending_left P.me) to)
             ≡ outcome_of P.me links.old (pending_left P.me self)) }

@@ -32,7 +32,7 @@ pub enum RingBlock<R, P> {
 }
 
 impl<R: LaneRing, P: Party> RingBlock<R, P> {
-    /// As far as the oldest message leads. Fails where memory is wanting.
+    /// As far as the oldest message leads. Fails where memory runs out.
     pub fn step(self, links: &mut Links) -> Result<Progress<RingBlock<R, P>>, AllocError>
         ensures same { IfOk result (λ to. outcome_of P.me links.new (progress_left (ring_left R.ring P.me) to)
             ≡ outcome_of P.me links.old (ring_left R.ring P.me self)) }

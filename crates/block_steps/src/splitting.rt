@@ -43,7 +43,7 @@ impl<P: Party> Model for Splits<P> {
 }
 
 impl<P: Party> Splits<P> {
-    /// As far as the oldest message leads. Fails where memory is wanting.
+    /// As far as the oldest message leads. Fails where memory runs out.
     pub fn step(self, links: &mut Links) -> Result<Progress<Splits<P>>, AllocError>
         ensures same { IfOk result (λ to. outcome_of P.me links.new (progress_left splitting_left to)
             ≡ outcome_of P.me links.old (splitting_left self)) }

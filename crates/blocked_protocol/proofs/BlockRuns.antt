@@ -82,7 +82,7 @@ module _ (p : Protocol) (blockable : Blockable p) (sound : Sound p) where
   blocks-own_links (m ∷ sizes) i =
       links-append i (p.script m i) (blocks_script p sizes i) (sound.own_links m i) (blocks-own_links sizes i)
 
-  -- what a miner does behind its first block
+  -- what a miner does after its first block
   abbrev goes_on : ℕ → List ℕ → Number → (u v words : List ℕ) → List (List ℕ) → Strand (List (List ℕ))
   goes_on m sizes i u v words here =
       then_do (blocks_strand p sizes i (drop m u) (drop (p.second m) v) (drop (p.draws m i) words))

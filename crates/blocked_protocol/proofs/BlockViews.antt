@@ -51,7 +51,7 @@ module _ (p : Protocol) (blockable : Blockable p) where
     mapped-fits sizes i j fits =
         record { u = fits.u; v = fits.v; words = mapped-length sizes i j fits; are_words = mapped-words sizes i j fits }
 
-    -- the words of the first block are that block's, mapped, and those behind it the others'
+    -- the words of the first block are that block's, mapped, and those after it the others'
     module _ (m : ℕ) (sizes : List ℕ) (i : Number) (j : Joint) (fits : Fits p (m + total sizes) j) where
       abbrev whole : Number → List ℕ
       whole = by_block p f (m ∷ sizes) i j

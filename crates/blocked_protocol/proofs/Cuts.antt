@@ -1,4 +1,4 @@
--- Operations element by element, on words in front and words behind them.
+-- Operations element by element, on words in front and words after them.
 use Rattle.std.proofs.Common.{◌≡◌, ℕ, zero, suc, ◌+◌, bit_xor, List, [], ◌∷◌, ◌++◌, length, take, drop, sym, ◌∙◌, ap, arith, append_assoc}
 use Rattle.std.proofs.lemmas.List.{get_or-take, get_or-drop}
 use Rattle.share_ring.specs.Ring.{Ring}

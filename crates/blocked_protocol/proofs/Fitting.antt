@@ -1,11 +1,11 @@
--- What fits a whole gate fits its first block, and the blocks behind it.
+-- What fits a whole gate fits its first block, and the blocks after it.
 use Rattle.std.proofs.Common.{◌≡◌, ℕ, suc, ◌+◌, List, [], ◌∷◌, length, take, drop, map, refl, sym, ◌∙◌, ap, subst, arith, length-append, length-drop}
 use Rattle.std.proofs.lemmas.List.{length-take-le}
 use Rattle.proto_core.specs.declared.party.Number.{Number}
 use Rattle.proto_core.specs.Protocol.{Joint, Protocol, Fits, AreBlocks}
 use Rattle.proto_core.proofs.Parts.{AreWords-append}
 use Rattle.protocol_model.proofs.Sizes.{AreWords-take, AreWords-drop, past_end}
-use Rattle.blocked_protocol.specs.Blocked.{total, joined, emptied, no_elements, front, behind, in_blocks, IsCut, Additive, sums, Blockable}
+use Rattle.blocked_protocol.specs.Blocked.{total, joined, no_elements, front, behind, in_blocks, IsCut, Additive, sums, Blockable}
 
 -- ---- lengths
 
@@ -71,6 +71,10 @@ sizes-joined [] ys = refl
 sizes-joined (x ∷ xs) [] = refl
 sizes-joined (x ∷ xs) (y ∷ ys) =
     ap (λ k. k ∷ map length (joined xs ys)) (length-append x y) ∙ ap (λ s. (length x + length y) ∷ s) (sizes-joined xs ys)
+
+-- lists of no elements
+abbrev emptied : List ℕ → List (List ℕ)
+emptied sizes = map (λ size. []) sizes
 
 pub sizes-none : (sizes : List ℕ) → map length (emptied sizes) ≡ map (λ size. 0) sizes
 sizes-none [] = refl

@@ -1,6 +1,6 @@
 -- A protocol on any number of elements: one run of it for each block of elements, one after another, each with its own
 -- words and messages.
-use Rattle.std.specs.Prelude.{◌≡◌, ℕ, ◌+◌, List, [], ◌∷◌, ◌++◌, map, take, drop}
+use Rattle.std.specs.Prelude.{◌≡◌, ℕ, ◌+◌, List, [], ◌∷◌, ◌++◌, map, take, drop, zip}
 use Rattle.proto_core.specs.declared.party.Number.{Number}
 use Rattle.proto_core.specs.Strand.{Mail, Strand, Ends, then_do}
 use Rattle.proto_core.specs.Script.{Move}
@@ -12,26 +12,21 @@ abbrev pub total : List ℕ → ℕ
 total [] = 0
 total (m ∷ sizes) = m + total sizes
 
--- the blocks that a miner has for some elements, and those that it has for the elements behind them, end to end
+-- the blocks that a miner has for some elements, and those that it has for the elements after them, end to end
 abbrev pub joined : List (List ℕ) → List (List ℕ) → List (List ℕ)
-joined [] ys = []
-joined (x ∷ xs) [] = []
-joined (x ∷ xs) (y ∷ ys) = (x ++ y) ∷ joined xs ys
+joined xs ys = map (λ p. p.0 ++ p.1) (zip xs ys)
 
 -- ---- what of a whole gate belongs to its first block, of m elements
 
 -- as many blocks as the protocol makes, with no elements
-abbrev pub emptied : List ℕ → List (List ℕ)
-emptied sizes = map (λ size. []) sizes
-
 abbrev pub no_elements : Protocol → List (List ℕ)
-no_elements p = emptied (p.made 0)
+no_elements p = map (λ size. []) (p.made 0)
 
 abbrev pub front : Protocol → ℕ → Joint → Joint
 front p m j =
     record { u = λ i. take m (j.u i); v = λ i. take (p.second m) (j.v i); words = λ i. take (p.draws m i) (j.words i) }
 
--- and what is left for the blocks behind it
+-- and what is left for the blocks after it
 abbrev pub behind : Protocol → ℕ → Joint → Joint
 behind p m j =
     record { u = λ i. drop m (j.u i); v = λ i. drop (p.second m) (j.v i); words = λ i. drop (p.draws m i) (j.words i) }
@@ -82,11 +77,7 @@ blocks_received p (m ∷ sizes) i u v words opened l =
 -- n elements in blocks of the sizes that `cut` gives
 abbrev pub in_blocks : Protocol → (cut : ℕ → List ℕ) → Protocol
 in_blocks p cut =
-    record {
-      second = p.second;
-      draws = p.draws;
-      opens = p.opens;
-      made = p.made;
+    record p {
       strand = λ n i u v words. blocks_strand p (cut n) i u v words;
       script = λ n i. blocks_script p (cut n) i;
       messages = λ n j. blocks_messages p (cut n) j;

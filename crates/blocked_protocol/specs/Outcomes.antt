@@ -16,7 +16,7 @@ use Rattle.blocked_protocol.specs.Blocked.{joined, no_elements, front, behind}
 abbrev pub Outcome : Type 1
 Outcome = ℕ → Joint → (blocks : Number → List (List ℕ)) → (opened : List ℕ) → Type 0
 
--- the relation holds of no elements, and of some elements with others behind them where it holds of both
+-- the relation holds of no elements, and of some elements with others after them where it holds of both
 pub record Elementwise (p : Protocol) (R : Outcome) : Type 0 where
   pub none : (j : Joint) → R 0 j (λ i. no_elements p) []
   pub more :

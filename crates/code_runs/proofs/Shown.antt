@@ -36,7 +36,7 @@ use Rattle.code_runs.proofs.Values.{computed, last_opened}
 -- ---- GATES PART BY PART
 
 module _ (d : Dealt) (tapes : Tapes) where
-  -- what the miners hold behind these gates, and what is left of their tapes
+  -- what the miners hold after these gates, and what is left of their tapes
   abbrev pub behind : List Gate → Shares
   behind gates = run_values (run_dealt d [] gates) (λ i. []) tapes
 

@@ -135,7 +135,7 @@ pays_draw w n =
 pays_charged : (n : ℕ) → Pays (charged no_traps n)
 pays_charged n = pays_bind (pays_charge 1) (λ _. pays_bind (pays_nothing (tt {0})) (λ _. pays_charge (n - 1)))
 
--- what comes behind is the same as from the stage that has paid
+-- what comes after is the same as from the stage that has paid
 paying :
     {A B : Type 0} (Q : Run B → Type 0) (s : Stage) (m : Effect A) (g : A → Stage → Run B) → Pays m
     → ((l : ℕ) (n : Words) (e : RunStop) → Q (Err (e, paid l n s))) → ((a : A) (l : ℕ) (n : Words) → Q (g a (paid l n s)))

@@ -1,4 +1,4 @@
--- What the three miners hold at a stage of the run in the clear: behind an opening, as their last value, the opened words.
+-- What the three miners hold at a stage of the run in the clear: after an opening, as their last value, the opened words.
 use Rattle.std.proofs.Common.{◌≡◌, ℕ, ◌+◌, ◌-◌, ◌≤◌, List, [], ◌∷◌, ◌++◌, length, refl, sym, ap, ◌∙◌, subst, arith, zero-add}
 use Rattle.proto_core.specs.declared.party.Number.{Number}
 use Rattle.proto_core.specs.declared.party.Number.TheVariants.{One, Two, Three}
@@ -86,7 +86,7 @@ module _ (o : Offered) (d : Dealt) (tapes : Tapes) (words : (i : Number) → Are
     pub last_made : Makes d.inputs values number g
     last_made = subst (λ n. Makes d.inputs values n g) (zero-add number) (both_fit).1.1
 
-  -- behind an opening
+  -- after an opening
   pub last_opened :
       (before : List Gate) (ring : RingKind) (k : ℕ) (e : s.gates ≡ before ++ Open ring k ∷ []) (i : Number)
       → last_of (end_shares run tapes i) ≡ value (computed).more k

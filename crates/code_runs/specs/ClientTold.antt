@@ -29,7 +29,7 @@ words_of (Shown form words) = words
 words_of (Published text form words) = words
 words_of (Handed text form words) = words
 
--- the words of the notice that comes first, and the notices behind it
+-- the words of the notice that comes first, and the notices after it
 abbrev pub first_words : List Notice → List ℕ
 first_words [] = []
 first_words (n ∷ ns) = words_of n

@@ -1,8 +1,9 @@
 -- An order that a net makes itself is the one that the scripts make.
 use Rattle.std.proofs.Common.{◌≡◌, ℕ, zero, suc, pred, ◌+◌, ◌-◌, ◌<◌, ◌≤◌, ◌%◌, ◌^◌, Bool, true, false, if◌then◌else◌, List, [], ◌∷◌, ◌++◌, length}
+use Rattle.std.specs.Option.{option_map_or}
 use Rattle.std.proofs.Common.{refl, sym, ◌∙◌, ap, subst, arith}
 use Rattle.std.proofs.lemmas.List.{append_assoc}
-use Rattle.std.specs.Prelude.{Some, None, Result, Vec}
+use Rattle.std.specs.Prelude.{Some, None, Result, Vec, filter}
 use Rattle.std.specs.declared.alloc.Global.{Global}
 use Rattle.proto_core.specs.declared.party.Number.{Number}
 use Rattle.proto_core.specs.declared.link.Link.{Link}
@@ -12,8 +13,8 @@ use Rattle.proto_core.specs.Script.{Sends, Takes, sends_on}
 use Rattle.proto_core.specs.Strand.{same_link}
 use Rattle.proto_core.proofs.Beginnings.{append-none}
 use Rattle.proto_core.proofs.Strands.{same-link_is}
-use Rattle.protocol_model.specs.Network.{Counts, Default, Shuffled, all_links, chosen, entry_then, into_counts, is_full, made_order}
-use Rattle.protocol_model.specs.Network.{none_delivered, one_less, one_more, posted_count, sends_in_all, sent_by, those}
+use Rattle.protocol_model.specs.Network.{Counts, Default, Shuffled, all_links, chosen, into_counts, is_full, made_order}
+use Rattle.protocol_model.specs.Network.{none_delivered, one_less, one_more, posted_count, sends_in_all, sent_by}
 use Rattle.protocol_model.proofs.NetCounts.{lt_from}
 use Rattle.protocol_model.proofs.Choosing.{in_those, one_longer}
 use Rattle.rand_chacha.specs.ChaCha.{ChaCha, key_of, word_at, next_word}
@@ -83,15 +84,15 @@ module _ (moves : Number → List script.Move) (words : ℕ → ℕ) where
   abbrev pub made_from : (fuel entry : ℕ) → Counts → List Link
   made_from fuel entry got = made_order moves words fuel entry got
 
-  no_more_made : (fuel entry : ℕ) (got : Counts) → chosen (words entry) (those (is_full moves got) all_links) ≡ None → made_from fuel entry got ≡ []
+  no_more_made : (fuel entry : ℕ) (got : Counts) → chosen (words entry) (filter (is_full moves got) all_links) ≡ None → made_from fuel entry got ≡ []
   no_more_made zero entry got e = refl
-  no_more_made (suc fuel) entry got e = ap (λ o. entry_then o (λ l. made_from fuel (entry + 1) (one_more l got))) e
+  no_more_made (suc fuel) entry got e = ap (λ o. option_map_or (λ l. l ∷ made_from fuel (entry + 1) (one_more l got)) o []) e
 
-  one_more_made : (fuel less entry : ℕ) (got : Counts) (l : Link) → less + 1 ≡ fuel → chosen (words entry) (those (is_full moves got) all_links) ≡ Some l
+  one_more_made : (fuel less entry : ℕ) (got : Counts) (l : Link) → less + 1 ≡ fuel → chosen (words entry) (filter (is_full moves got) all_links) ≡ Some l
       → made_from fuel entry got ≡ l ∷ made_from less (entry + 1) (one_more l got)
   one_more_made fuel less entry got l n e =
       let is : fuel ≡ suc less = omega arith in
-      ap (λ k. made_from k entry got) is ∙ ap (λ o. entry_then o (λ k. made_from less (entry + 1) (one_more k got))) e
+      ap (λ k. made_from k entry got) is ∙ ap (λ o. option_map_or (λ k. k ∷ made_from less (entry + 1) (one_more k got)) o []) e
 
 -- it was made so far, on links that all had a message
 pub record Making (s : Scripts) (words : ℕ → ℕ) (now : NetState) : Type 0 where
@@ -122,8 +123,8 @@ module _ (s : Scripts) (words : ℕ → ℕ) (now : NetState) (m : Making s word
   abbrev links : List Link
   links = now.delivered
 
-  same_links : those (is_full moves (got_of links)) all_links ≡ full_links now
-  same_links = ap (λ (p : Link → Bool). those p all_links) (λ d. λ l. full_so s now m.walked l d)
+  same_links : filter (is_full moves (got_of links)) all_links ≡ full_links now
+  same_links = ap (λ (p : Link → Bool). filter p all_links) (λ d. λ l. full_so s now m.walked l d)
 
   module _ (l : Link) (full : is_under_way now l ≡ true) where
     under : got_of links l < posted_count moves (got_of links) l

@@ -1,15 +1,16 @@
 -- What a delivery comes to, the shapes of messages have no part in it.
 use Rattle.std.proofs.Common.{◌≡◌, ℕ, zero, suc, ◌+◌, Bool, true, false, if◌then◌else◌, List, [], ◌∷◌, length, refl, sym, ◌∙◌, ap, subst}
-use Rattle.std.specs.Prelude.{nat_lt, Option, Some, Result, Ok, Err, Vec}
+use Rattle.std.specs.Option.{option_map_or}
+use Rattle.std.specs.Prelude.{nat_lt, Option, Some, Result, Ok, Err, Vec, filter}
 use Rattle.std.specs.declared.alloc.Global.{Global}
 use Rattle.proto_core.specs.declared.party.Number.{Number}
 use Rattle.proto_core.specs.declared.link.Link.{Link}
 use Rattle.proto_core.specs.Parties.{sender_of}
 use Rattle.proto_core.specs.Script.{Move, Sends, Takes, sends_on}
 use Rattle.proto_core.specs.Strand.{same_link}
-use Rattle.protocol_model.specs.Network.{Answer, Counts, Default, Delivery, EmptyLink, Listed, Shuffled, all_links, at_the_end, chosen, counted, entry_then}
+use Rattle.protocol_model.specs.Network.{Answer, Counts, Default, Delivery, EmptyLink, Listed, Shuffled, all_links, at_the_end, chosen, counted}
 use Rattle.protocol_model.specs.Network.{into_counts, is_full, made_order, net, none_delivered, one_less, one_more, order_of, posted_count, sends_in_all}
-use Rattle.protocol_model.specs.Network.{sent_by, stands_at, those, total}
+use Rattle.protocol_model.specs.Network.{sent_by, stands_at, total}
 use Rattle.counted_net.specs.declared.moves.Scripts.{Scripts}
 use Rattle.counted_net.specs.declared.delivery.DeliveryErr.{DeliveryErr}
 use Rattle.counted_net.specs.declared.delivery.DeliveryErr.TheVariants as err
@@ -60,14 +61,14 @@ module _ (moves : Number → List Move) where
       ∙ ap (λ (a : Answer). if nat_lt (got l) (posted_count moves got l) then a else EmptyLink entry l (posted_count moves got l))
       (counted_same ls (entry + 1) (one_more l got))
 
-  full_same : (got : Counts) → those (is_full all_forgotten got) all_links ≡ those (is_full moves got) all_links
-  full_same got = ap (λ (p : Link → Bool). those p all_links) (λ d. λ l. ap (nat_lt (got l)) (posted_same got l) d)
+  full_same : (got : Counts) → filter (is_full all_forgotten got) all_links ≡ filter (is_full moves got) all_links
+  full_same got = ap (λ (p : Link → Bool). filter p all_links) (λ d. λ l. ap (nat_lt (got l)) (posted_same got l) d)
 
   made_same : (words : ℕ → ℕ) (fuel entry : ℕ) (got : Counts) → made_order all_forgotten words fuel entry got ≡ made_order moves words fuel entry got
   made_same words zero entry got = refl
   made_same words (suc fuel) entry got =
-      ap (λ ls. entry_then (chosen (words entry) ls) (λ l. made_order all_forgotten words fuel (entry + 1) (one_more l got))) (full_same got)
-      ∙ ap (entry_then (chosen (words entry) (those (is_full moves got) all_links)))
+      ap (λ ls. option_map_or (λ l. l ∷ made_order all_forgotten words fuel (entry + 1) (one_more l got)) (chosen (words entry) ls) []) (full_same got)
+      ∙ ap (λ (more : Link → List Link). option_map_or (λ l. l ∷ more l) (chosen (words entry) (filter (is_full moves got) all_links)) [])
       (λ d. λ l. made_same words fuel (entry + 1) (one_more l got) d)
 
   all_same : sends_in_all all_forgotten ≡ sends_in_all moves

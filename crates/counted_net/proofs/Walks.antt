@@ -30,7 +30,7 @@ module _ (moves : Number → List script.Move) (entry : ℕ) (got : Counts) (l :
   entry_stops : is_full moves got l ≡ false → counted moves entry got (l ∷ ls) ≡ EmptyLink entry l (posted_count moves got l)
   entry_stops e = ap (λ b. if b then counted moves (entry + 1) (one_more l got) ls else EmptyLink entry l (posted_count moves got l)) e
 
--- a net of these scripts behind deliveries that all had a message
+-- a net of these scripts after deliveries that all had a message
 pub record Walked (s : Scripts) (now : NetState) : Type 0 where
   pub here : now ≡ state_of s now.delivered
   pub walks : (rest : List Link) →
@@ -63,7 +63,7 @@ module _ (s : Scripts) where
               ∙ ap (λ c. counted (plain_of s) (length (links ++ l ∷ [])) c rest) (sym (got_more links l));
         })
 
-    -- behind the last one
+    -- after the last one
     pub walked_end : counted (plain_of s) 0 none_delivered links ≡ net_end now
     walked_end =
         ap (counted (plain_of s) 0 none_delivered) (sym (append-none links))

@@ -23,7 +23,7 @@ both x y l = x l + y l
 
 -- ---- what one move does
 
--- it is done, and these are the counts behind it
+-- it is done, and these are the counts after it
 pub record HasMoved (before then : Cursor) (sent unread : Counts) : Type 0 where
   pub place : then.place ≡ before.place + 1
   pub sends : (l : Link) → sent_in then l ≡ sent l
@@ -39,7 +39,7 @@ Steps before then (Sends l) true = HasMoved before then (one_more l (sent_in bef
 Steps before then (Sends l) false = ⊥
 Steps before then (Takes l) went = HasTaken before then l went
 
--- ---- a miner behind some of its moves
+-- ---- a miner after some of its moves
 
 -- Of a script, to which so many have come, these moves are left, so many are sent and so many aren't taken: with whatever comes more, the
 -- whole script sends what was sent and what those that are left send, and it stands where they stand.

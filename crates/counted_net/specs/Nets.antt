@@ -1,12 +1,12 @@
 -- Three miners in a net, by their scripts and the links on which messages were delivered, in order.
-use Rattle.std.specs.Prelude.{◌≡◌, ℕ, Bool, true, false, List, [], ◌∷◌, ◌++◌, length, Result, Ok, Err, Vec, slice_index_or}
+use Rattle.std.specs.Prelude.{◌≡◌, ℕ, Bool, true, false, List, [], ◌∷◌, ◌++◌, length, Result, Ok, Err, Vec, slice_index_or, filter}
 use Rattle.std.specs.declared.alloc.Global.{Global}
 use Rattle.proto_core.specs.declared.party.Number.{Number}
 use Rattle.proto_core.specs.declared.link.Link.{Link}
 use Rattle.proto_core.specs.Parties.{sender_of, of_three}
 use Rattle.proto_core.specs.Script as script
 use Rattle.protocol_model.specs.Network.{Accepted, Answer, Counts, Stalled, all_links, at_the_end, into_counts, is_full}
-use Rattle.protocol_model.specs.Network.{none_delivered, one_more, place_of, posted_count, stands_at, those}
+use Rattle.protocol_model.specs.Network.{none_delivered, one_more, place_of, posted_count, stands_at}
 use Rattle.counted_net.specs.declared.moves.Move.{Move}
 use Rattle.counted_net.specs.declared.moves.Scripts.{Scripts}
 use Rattle.counted_net.specs.declared.tally.Tally.{Tally}
@@ -53,7 +53,7 @@ is_marked marks l = slice_index_or marks (place_of l) false
 
 -- the links with a message under way, in the order of all links
 abbrev pub full_links : NetState → List Link
-full_links net = those (is_under_way net) all_links
+full_links net = filter (is_under_way net) all_links
 
 -- ---- the miners of a net
 
@@ -81,7 +81,7 @@ DeliverAnswers before then l (Err (err.EmptyLink entry link sent)) =
 DeliverAnswers before then l (Err (err.Stalled miner link)) = ⊥
 DeliverAnswers before then l (Err err.Memory) = Unit {0}
 
--- behind the last delivery
+-- after the last delivery
 abbrev pub net_end : NetState → Answer
 net_end net = at_the_end (λ i. stands_at (scripts_in net i) (into_counts i (got_of net.delivered)))
 

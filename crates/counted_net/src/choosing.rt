@@ -1,6 +1,6 @@
 // Which link is delivered next, where no schedule says it.
-ghost use Rattle.std.specs.Prelude.{◌≡◌, length};
-ghost use Rattle.protocol_model.specs.Network.{all_links, chosen, link_at, those};
+ghost use Rattle.std.specs.Prelude.{◌≡◌, filter, length, slice_get};
+ghost use Rattle.protocol_model.specs.Network.{all_links, chosen};
 ghost use Rattle.counted_net.specs.Nets.{full_links, is_marked};
 
 use crate::net::Net;
@@ -26,7 +26,7 @@ fn is_marked(marks: &[bool; 6], link: Link) -> bool
 
 /// How many links are marked.
 fn marked_count(marks: &[bool; 6]) -> usize
-    ensures { result ≡ length (those (is_marked marks.now) all_links) }
+    ensures { result ≡ length (filter (is_marked marks.now) all_links) }
 {
     let mut count = 0;
     for link in &LINKS {
@@ -39,7 +39,7 @@ fn marked_count(marks: &[bool; 6]) -> usize
 
 /// Of the marked links, in order, the one of this number, from 0.
 fn marked_link(marks: &[bool; 6], number: usize) -> Option<Link>
-    ensures { result ≡ link_at (those (is_marked marks.now) all_links) number }
+    ensures { result ≡ slice_get (filter (is_marked marks.now) all_links) number }
 {
     let mut left = number;
     for link in &LINKS {
@@ -55,7 +55,7 @@ fn marked_link(marks: &[bool; 6], number: usize) -> Option<Link>
 
 /// Of the links that are marked, in the order 12, 13, 21, 23, 31, 32, the one that a word chooses.
 pub fn chosen_link(marks: &[bool; 6], word: u32) -> Option<Link>
-    ensures { result ≡ chosen word (those (is_marked marks.now) all_links) }
+    ensures { result ≡ chosen word (filter (is_marked marks.now) all_links) }
 {
     let count = marked_count(marks);
     if count == 0 {

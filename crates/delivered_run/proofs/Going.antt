@@ -45,7 +45,7 @@ use Rattle.delivered_run.specs.Undealt.{IsUndealtBy}
 use Rattle.delivered_run.proofs.Dealing.{dealt-front}
 use Rattle.delivered_run.proofs.Undealt.{undealt_ran, undealt_refused}
 
--- where memory was wanting or a tape couldn't be read no more is said
+-- where memory ran out or a tape couldn't be read no more is said
 pub lost_so : (A : Type 0) (d : Dealt) (r : Report) (given : Delivery) (Q : A → Type 0) (why : Lost) → IsOr d r given Q (Err (course_of why))
 lost_so A d r given Q lost.Memory = tt
 lost_so A d r given Q lost.TapeFault = tt
@@ -182,7 +182,7 @@ module _ (job : Job) (words : List ℕ) (given : Delivery) (files : sharing.Deal
 -- ---- or can't be dealt
 
 module _ (job : Job) (words : List ℕ) (given : Delivery) (a : TapesState) (why : DealErr) (short : Refuses (need_of job.inputs.now) (length words) why) where
-  -- the tapes have no other words of the dealer's, or memory was wanting
+  -- the tapes have no other words of the dealer's, or memory ran out
   short_at : (t : FourTapes) → AreDealtWith job words t → (w : DealErr) → Refuses (need_of job.inputs.now) (length words) w
       → Refuses (need_of job.inputs.now) (length t.dealer) w
   short_at t are (refusal.TapeShort need have) h =

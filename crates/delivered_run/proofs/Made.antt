@@ -1,6 +1,7 @@
 -- An order that a net makes itself is the one that the scripts' counts make.
 use Rattle.std.proofs.Common.{◌≡◌, ℕ, zero, suc, ◌+◌, ◌<◌, ◌≤◌, Bool, true, List, [], ◌∷◌, length, refl, sym, ◌∙◌, ap, arith}
-use Rattle.std.specs.Prelude.{nat_lt}
+use Rattle.std.specs.Option.{option_map_or}
+use Rattle.std.specs.Prelude.{nat_lt, filter}
 use Rattle.proto_core.specs.declared.party.Number.{Number}
 use Rattle.proto_core.specs.declared.link.Link.{Link}
 use Rattle.proto_core.specs.Parties.{sender_of}
@@ -9,8 +10,8 @@ use Rattle.proto_core.specs.Strand.{Mail, Strand, Begins}
 use Rattle.proto_core.specs.Net.{nothing, posted, delivered, MailBegins, Finishes}
 use Rattle.proto_core.proofs.Beginnings.{begins-self, begins-trans}
 use Rattle.proto_core.proofs.Nets.{covers, delivered-begins, posted-more}
-use Rattle.protocol_model.specs.Network.{all_links, chosen, counts, entry_then, into_counts, is_full, made_order, none_delivered}
-use Rattle.protocol_model.specs.Network.{one_more, posted_count, sends_in_all, sent_by, those, total}
+use Rattle.protocol_model.specs.Network.{all_links, chosen, counts, into_counts, is_full, made_order, none_delivered}
+use Rattle.protocol_model.specs.Network.{one_more, posted_count, sends_in_all, sent_by, total}
 use Rattle.protocol_model.proofs.NetCounts.{counts-delivered, lt_from}
 use Rattle.protocol_model.proofs.Choosing.{in_those}
 use Rattle.protocol_model.proofs.MadeOrders.{total-more}
@@ -30,8 +31,8 @@ module _ {A : Type 0} (nodes : Number → Strand A) (scripts : Number → List M
   posted_within : (mail : Mail) → MailBegins mail full → MailBegins (posted nodes mail) full
   posted_within mail h l = begins-trans _ _ _ (posted-more nodes mail full h l) (covers nodes full outputs finishes l)
 
-  same_links : (mail : Mail) → MailBegins mail full → full_links nodes mail ≡ those (is_full scripts (counts mail)) all_links
-  same_links mail h = ap (λ (p : Link → Bool). those p all_links) (λ d. λ l. ap (nat_lt (length (mail l))) (same mail h l) d)
+  same_links : (mail : Mail) → MailBegins mail full → full_links nodes mail ≡ filter (is_full scripts (counts mail)) all_links
+  same_links mail h = ap (λ (p : Link → Bool). filter p all_links) (λ d. λ l. ap (nat_lt (length (mail l))) (same mail h l) d)
 
   -- a link with a message under way has fewer than the full run's
   fewer : (mail : Mail) → MailBegins mail full → (l : Link) → length (mail l) < length (posted nodes mail l) → total (counts mail) < total (counts full)
@@ -45,7 +46,7 @@ module _ {A : Type 0} (nodes : Number → Strand A) (scripts : Number → List M
 
   abbrev order_by : (words : ℕ → ℕ) (fuel entry : ℕ) → Mail → List Link → List Link
   order_by words fuel entry mail links =
-      entry_then (chosen (words entry) links) (λ l. made_order scripts words fuel (entry + 1) (one_more l (counts mail)))
+      option_map_or (λ l. l ∷ made_order scripts words fuel (entry + 1) (one_more l (counts mail))) (chosen (words entry) links) []
 
   pub made_same :
       (words : ℕ → ℕ) (order : List Link) (fuel entry : ℕ) (mail : Mail) → MailBegins mail full → IsMade nodes words entry mail order
@@ -71,7 +72,7 @@ module _ {A : Type 0} (nodes : Number → Strand A) (scripts : Number → List M
           let one : total (counts (delivered nodes mail l)) ≡ total (counts mail) + 1 =
           ap total (counts-delivered nodes mail l lt) ∙ total-more l (counts mail) in
           ap (λ links. order_by words m entry mail links) (sym (same_links mail h))
-          ∙ ap (λ choice. entry_then choice (λ k. made_order scripts words m (entry + 1) (one_more k (counts mail)))) made.0
+          ∙ ap (λ choice. option_map_or (λ k. k ∷ made_order scripts words m (entry + 1) (one_more k (counts mail))) choice []) made.0
           ∙ ap (λ c. l ∷ made_order scripts words m (entry + 1) c) (sym (counts-delivered nodes mail l lt))
           ∙ ap (λ (rest : List Link). l ∷ rest) (more m (omega arith))
 

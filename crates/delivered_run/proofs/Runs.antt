@@ -1,12 +1,13 @@
 -- Three miners in a net, whose messages are all delivered, have run as the report says.
 use Rattle.std.proofs.Common.{◌≡◌, ℕ, ◌-◌, false, List, Ok, Err, refl, sym, ◌∙◌, ap, subst}
+use Rattle.miner_runs.proofs.OwnRuns.{delivery_is_counted}
 use Rattle.std.proofs.lemmas.Option.{same_Some}
 use Rattle.proto_core.specs.declared.party.Number.{Number}
 use Rattle.proto_core.specs.declared.party.Number.TheVariants.{One, Two, Three}
 use Rattle.proto_core.specs.declared.link.Link.{Link}
 use Rattle.proto_core.specs.Strand.{Mail, Strand, told_in}
 use Rattle.proto_core.specs.Net.{nothing, run_of, all_delivered}
-use Rattle.protocol_model.specs.Network.{Accepted, Answer, Default, Delivery, EmptyLink, Listed, Shuffled, Stalled, order_of, walked}
+use Rattle.protocol_model.specs.Network.{Accepted, Answer, Default, Delivery, EmptyLink, Listed, Shuffled, Stalled, order_of, walked, net}
 use Rattle.protocol_model.specs.Complete.{IsComplete}
 use Rattle.protocol_model.specs.Runs.{Tapes}
 use Rattle.language_model.specs.Effects.{Ended}
@@ -29,7 +30,7 @@ use Rattle.delivered_run.specs.declared.errors.CourseErr.{CourseErr}
 use Rattle.delivered_run.specs.declared.errors.CourseErr.TheVariants as course
 use Rattle.delivered_run.specs.declared.running.NetRun.{NetRun}
 use Rattle.delivered_run.specs.Courses.{HasNetRun, IsAtItsEnd}
-use Rattle.delivered_run.specs.Deliveries.{IsOr, delivered_for, net_for}
+use Rattle.delivered_run.specs.Deliveries.{IsOr}
 use Rattle.delivered_run.specs.Nets.{Delivers, HasTold, StopsAt, net_with}
 use Rattle.delivered_run.proofs.Made.{order_made}
 
@@ -75,13 +76,13 @@ module _ (o : Offered) (d : Dealt) (c : List Function) (budget : ℕ) (tapes : T
   made_came : (words : ℕ → ℕ) (then : NetState) → Makes words at_first then → Came (order_of (scripts d r) (Shuffled words)) then
   made_came words then m = record { comes = m.comes ∙ ap (after at_first) (sym (made_so words then m)); taken = run.shuffled words }
 
-  came : (given : Delivery) (then : NetState) → Delivers given at_first then (Ok tt) → Came (delivered_for d r given) then
+  came : (given : Delivery) (then : NetState) → Delivers given at_first then (Ok tt) → Came (order_of (scripts d r) given) then
   came Default then m = record { comes = m.comes ∙ ap (after at_first) (sym (made_so (λ k. 0) then m)); taken = run.in_order }
   came (Listed links) then h = record { comes = h.1; taken = walked_so links Accepted h.0 }
   came (Shuffled words) then m = made_came words then m
 
-  accepted : (given : Delivery) (then : NetState) → Delivers given at_first then (Ok tt) → net_for d r given ≡ Accepted
-  accepted given then h = sym (run.counted given) ∙ (came given then h).taken
+  accepted : (given : Delivery) (then : NetState) → Delivers given at_first then (Ok tt) → net (scripts d r) given ≡ Accepted
+  accepted given then h = sym (delivery_is_counted run given) ∙ (came given then h).taken
 
   -- ---- WHERE NOTHING IS TO COME
 
@@ -138,7 +139,7 @@ module _ (o : Offered) (d : Dealt) (c : List Function) (budget : ℕ) (tapes : T
 
   at_its_end : (given : Delivery) (then : NetState) → Delivers given at_first then (Ok tt) → IsAtItsEnd o d c budget tapes r given then
   at_its_end given then h =
-      let links = delivered_for d r given in
+      let links = order_of (scripts d r) given in
       let all = came given then h in
       record {
         own = run;
@@ -153,15 +154,15 @@ module _ (o : Offered) (d : Dealt) (c : List Function) (budget : ℕ) (tapes : T
   has_net_run given then ran h stands may told delivered = record {
     run = record {
       accepted = accepted given then h;
-      told = tells (delivered_for d r given) then (came given then h) ran.run.report told;
-      delivered = delivered ∙ delivered_so (delivered_for d r given) then (came given then h);
+      told = tells (order_of (scripts d r) given) then (came given then h) ran.run.report told;
+      delivered = delivered ∙ delivered_so (order_of (scripts d r) given) then (came given then h);
     };
     may = may;
     net = subst (IsAtItsEnd o d c budget tapes r given) (sym stands) (at_its_end given then h);
   }
 
-  refused_listed : (links : List Link) (answer : Answer) → net_walked at_first links ≡ answer → net_for d r (Listed links) ≡ answer
-  refused_listed links answer is = sym (run.counted (Listed links)) ∙ walked_so links answer is
+  refused_listed : (links : List Link) (answer : Answer) → net_walked at_first links ≡ answer → net (scripts d r) (Listed links) ≡ answer
+  refused_listed links answer is = sym (delivery_is_counted run (Listed links)) ∙ walked_so links answer is
 
   pub is_refused : {A : Type 0} (Q : A → Type 0) (given : Delivery) (then : NetState) (e : CourseErr) → Delivers given at_first then (Err e)
       → IsOr d r given Q (Err e)

@@ -1,5 +1,6 @@
 -- Deliveries that are made leave nothing to come.
 use Rattle.std.proofs.Common.{◌≡◌, ◌≤◌, ◌<◌, ℕ, List, length, refl, sym, ◌∙◌, ap, inl, inr}
+use Rattle.miner_runs.proofs.OwnRuns.{delivery_is_counted}
 use Rattle.std.proofs.lemmas.Bool.{cases_lt}
 use Rattle.proto_core.specs.declared.party.Number.{Number}
 use Rattle.proto_core.specs.Script.{Move}
@@ -40,11 +41,11 @@ module _ (p : TypedProgramTree) (entries : List Entry) (t : FourTapes) (budget :
   where_dealt : need_of entries ≤ length t.dealer → (delivery : Delivery) → IsMade delivery → net_of p entries t budget delivery ≡ Accepted
   where_dealt enough Default made =
       let run = (own_runs_where_accepted p entries t budget accepted (can_be_dealt enough)).run in
-      sym (run.counted Default) ∙ run.in_order
+      sym (delivery_is_counted run Default) ∙ run.in_order
   where_dealt enough (Listed links) made = absurd made
   where_dealt enough (Shuffled words) made =
       let run = (own_runs_where_accepted p entries t budget accepted (can_be_dealt enough)).run in
-      sym (run.counted (Shuffled words)) ∙ run.shuffled words
+      sym (delivery_is_counted run (Shuffled words)) ∙ run.shuffled words
 
   -- ---- or there is no run
 

@@ -2,7 +2,7 @@
 use Rattle.std.specs.Prelude.{◌≡◌, ◌<◌, ℕ, List, length, false, Result}
 use Rattle.proto_core.specs.declared.party.Number.{Number}
 use Rattle.proto_core.specs.Net.{run_of}
-use Rattle.protocol_model.specs.Network.{Delivery}
+use Rattle.protocol_model.specs.Network.{Delivery, order_of}
 use Rattle.protocol_model.specs.Runs.{Tapes}
 use Rattle.tape_file.specs.Tapes.{FourTapes}
 use Rattle.typed_tree.specs.Programs.{TypedProgramTree}
@@ -19,7 +19,7 @@ use Rattle.view_model.specs.TapeMaps.{miners_of}
 use Rattle.code_runs.specs.Dealt.{Dealt}
 use Rattle.program_run.specs.Codes.{IsCodeOf}
 use Rattle.program_run.specs.Inputs.{dealt_of}
-use Rattle.code_runs.specs.Runs.{messages}
+use Rattle.code_runs.specs.Runs.{messages, scripts}
 use Rattle.program_run.specs.Dealt.{CanBeDealt}
 use Rattle.program_run.specs.Reports.{eval_with, lengths_of}
 use Rattle.miner_runs.specs.OwnRuns.{OwnRunAsReported, own_nodes}
@@ -30,7 +30,7 @@ use Rattle.delivered_run.specs.declared.course.Course.TheVariants as course
 use Rattle.delivered_run.specs.declared.errors.CourseErr.{CourseErr}
 use Rattle.delivered_run.specs.declared.running.DeliveredRun.{DeliveredRun}
 use Rattle.delivered_run.specs.declared.running.NetRun.{NetRun}
-use Rattle.delivered_run.specs.Deliveries.{HasRun, HasRunOf, IsOr, IsOrRefused, delivered_for}
+use Rattle.delivered_run.specs.Deliveries.{HasRun, HasRunOf, IsOr, IsOrRefused}
 
 -- ---- three miners with this code, by what was offered and dealt, and the report of the run in the clear
 
@@ -40,7 +40,7 @@ module _ (o : Offered) (d : Dealt) (c : List Function) (budget : ℕ) (tapes : T
     pub own : OwnRunAsReported o d c budget tapes r
     pub going : net.lost ≡ false
     pub steps : net.budget ≡ budget
-    pub delivered : net.delivered ≡ delivered_for d r given
+    pub delivered : net.delivered ≡ order_of (scripts d r) given
     pub node : (i : Number) → net_node net i ≡ run_of (own_nodes o d c budget tapes) (messages d r tapes) i
 
   -- these are tapes that the net may have, with which it is so

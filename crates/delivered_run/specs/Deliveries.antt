@@ -21,23 +21,17 @@ use Rattle.delivered_run.specs.declared.running.DeliveredRun.{DeliveredRun}
 -- ---- by what was dealt, and the report of the run in the clear
 
 module _ (d : Dealt) (r : Report) where
-  -- what a delivery comes to, and the links that it delivers, by the miners' moves, which hold counts and no words
-  abbrev pub net_for : network.Delivery → network.Answer
-  net_for given = net (scripts d r) given
-
-  abbrev pub delivered_for : network.Delivery → List Link
-  delivered_for given = order_of (scripts d r) given
-
-  -- a run of which all came that was to come: it tells what the report tells, and which links were delivered
+  -- a run of which all came that was to come, by the miners' moves, which hold counts and no words: it tells what the report tells, and which
+  -- links were delivered
   pub record HasRun (given : network.Delivery) (ran : DeliveredRun) : Type 0 where
-    pub accepted : net_for given ≡ network.Accepted
+    pub accepted : net (scripts d r) given ≡ network.Accepted
     pub told : TellsAs r ran.report
-    pub delivered : ran.delivered.items ≡ delivered_for given
+    pub delivered : ran.delivered.items ≡ order_of (scripts d r) given
 
   -- the schedule is refused as the net says
   abbrev pub IsRefused : network.Delivery → DeliveryErr → Type 0
-  IsRefused given (err.EmptyLink entry link sent) = net_for given ≡ network.EmptyLink entry link sent
-  IsRefused given (err.Stalled miner link) = net_for given ≡ network.Stalled miner link
+  IsRefused given (err.EmptyLink entry link sent) = net (scripts d r) given ≡ network.EmptyLink entry link sent
+  IsRefused given (err.Stalled miner link) = net (scripts d r) given ≡ network.Stalled miner link
   IsRefused given err.Memory = Unit {0}
 
   -- so it is, or the schedule is refused, or no more is said since a tape couldn't be read
@@ -50,10 +44,10 @@ module _ (d : Dealt) (r : Report) where
 
 module _ (p : TypedProgramTree) (entries : List Entry) (t : FourTapes) (budget : ℕ) where
   abbrev pub net_of : network.Delivery → network.Answer
-  net_of given = net_for (dealt_of entries t.dealer) (eval_with p entries t budget) given
+  net_of given = net (scripts (dealt_of entries t.dealer) (eval_with p entries t budget)) given
 
   abbrev pub delivered_of : network.Delivery → List Link
-  delivered_of given = delivered_for (dealt_of entries t.dealer) (eval_with p entries t budget) given
+  delivered_of given = order_of (scripts (dealt_of entries t.dealer) (eval_with p entries t budget)) given
 
   abbrev pub HasRunOf : network.Delivery → DeliveredRun → Type 0
   HasRunOf given ran = HasRun (dealt_of entries t.dealer) (eval_with p entries t budget) given ran

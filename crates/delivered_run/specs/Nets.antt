@@ -46,7 +46,7 @@ net_with world code budget one two three =
 
 -- ---- what a delivery does
 
--- no more is said where memory was wanting, or a tape couldn't be read
+-- no more is said where memory ran out, or a tape couldn't be read
 abbrev pub Delivers : Delivery → (before then : NetState) → Result (Unit {0}) CourseErr → Type 0
 Delivers Default before then (Ok done) = Makes (λ k. 0) before then
 Delivers (Shuffled words) before then (Ok done) = Makes words before then

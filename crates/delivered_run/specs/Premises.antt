@@ -2,7 +2,7 @@
 use Rattle.std.specs.Prelude.{List}
 use Rattle.proto_core.specs.declared.party.Number.{Number}
 use Rattle.proto_core.specs.Lists.{AreWords}
-use Rattle.protocol_model.specs.Network.{Default, Delivery, Listed, Shuffled}
+use Rattle.protocol_model.specs.Network.{Delivery, Listed}
 use Rattle.tape_file.specs.Tapes.{FourTapes}
 use Rattle.value_file.specs.declared.inputs.Entry.{Entry}
 use Rattle.view_model.specs.TapeMaps.{miners_of}
@@ -16,6 +16,5 @@ pub record HaveWords (entries : List Entry) (t : FourTapes) : Type 0 where
 
 -- no list of links is given for it
 abbrev pub IsMade : Delivery → Type 0
-IsMade Default = Unit {0}
 IsMade (Listed links) = ⊥
-IsMade (Shuffled words) = Unit {0}
+IsMade _ = Unit {0}

@@ -11,7 +11,7 @@ use std::alloc::AllocError;
 /// Why a run whose tapes are drawn from a source gives nothing.
 #[derive(Clone, Copy)]
 pub enum CourseErr {
-    /// The order of deliveries is refused, or memory was wanting.
+    /// The order of deliveries is refused, or memory ran out.
     Delivery(DeliveryErr),
     /// Words of a tape couldn't be drawn, and their source counted a fault.
     TapeFault,

@@ -1,5 +1,6 @@
 -- A driven miner does, with all messages of the joint run, what one does that knows the gates from the start.
 use Rattle.std.proofs.Common.{◌≡◌, ℕ, zero, suc, List, [], ◌++◌, drop, refl, sym, ◌∙◌, ap, subst}
+use Rattle.std.specs.Option.{option_map_or}
 use Rattle.std.specs.Prelude.{Option, Some, None}
 use Rattle.proto_core.specs.declared.party.Number.{Number}
 use Rattle.proto_core.specs.Strand.{Mail, Strand, Ends, then_do}
@@ -9,7 +10,7 @@ use Rattle.protocol_model.specs.Gates.{Gate, AreSound, needed, gates_strand}
 use Rattle.protocol_model.specs.Runs.{Shares, Tapes, Ready, run_messages, nodes_of}
 use Rattle.protocol_model.proofs.GateRuns.{run-finishes}
 use Rattle.driven_nodes.specs.Alike.{Alike}
-use Rattle.driven_nodes.specs.Driven.{Turn, of_turn, OfTurn, telling, shares_behind, tapes_behind, place_behind, LeadsTogether}
+use Rattle.driven_nodes.specs.Driven.{Turn, OfTurn, telling, shares_behind, tapes_behind, place_behind, LeadsTogether}
 use Rattle.driven_nodes.specs.Driven.{driven, path, stop, Led, Goes}
 use Rattle.driven_nodes.proofs.Strands.{alike_then, alike_telling}
 use Rattle.driven_nodes.proofs.Gates.{gates_then, messages_then, sound_front, sound_back, ready_front, ready_back}
@@ -48,18 +49,16 @@ module _ {S : Type 0} (next : S → Option (Turn S)) where
 
       gates_by : Option (Turn S) → List Gate
       gates_by o =
-          of_turn o []
-          (λ t. t.gates ++ path next fuel (place_behind t values tapes) (shares_behind t values tapes) (tapes_behind t tapes))
+          option_map_or (λ t. t.gates ++ path next fuel (place_behind t values tapes) (shares_behind t values tapes) (tapes_behind t tapes)) o []
 
       stop_by : Option (Turn S) → S
-      stop_by o = of_turn o s (λ t. stop next fuel (place_behind t values tapes) (shares_behind t values tapes) (tapes_behind t tapes))
+      stop_by o = option_map_or (λ t. stop next fuel (place_behind t values tapes) (shares_behind t values tapes) (tapes_behind t tapes)) o s
 
       mine_by : Option (Turn S) → Strand (S × List (List ℕ))
       mine_by o =
-          of_turn o (Ends (s, values i))
-          (λ t.
+          option_map_or (λ t.
           then_do (gates_strand i t.gates (values i) (tapes i))
-          (λ all. telling (t.tells all) (driven next fuel i (t.leads all) all (drop (needed t.gates i) (tapes i)))))
+          (λ all. telling (t.tells all) (driven next fuel i (t.leads all) all (drop (needed t.gates i) (tapes i))))) o (Ends (s, values i))
 
       Later : Type 0
       Later =
@@ -111,7 +110,7 @@ module _ {S : Type 0} (next : S → Option (Turn S)) where
           done : Finishes (nodes_of t.gates values tapes) (run_messages t.gates values tapes) now
           done = run-finishes t.gates values tapes h.0 h.1
 
-          -- what comes to this miner behind the turn, and what it does then
+          -- what comes to this miner after the turn, and what it does then
           ahead : Mail
           ahead = into i (run_messages rest now later_tapes)
 
@@ -137,7 +136,7 @@ module _ {S : Type 0} (next : S → Option (Turn S)) where
       rest t = path next fuel (place_behind t values tapes) (shares_behind t values tapes) (tapes_behind t tapes)
 
       gates_by : Option (Turn S) → List Gate
-      gates_by o = of_turn o [] (λ t. t.gates ++ rest t)
+      gates_by o = option_map_or (λ t. t.gates ++ rest t) o []
 
       Later : Type 0
       Later =

@@ -1,4 +1,4 @@
--- Gates behind gates: strands, messages, and what they need.
+-- Gates after gates: strands, messages, and what they need.
 use Rattle.std.proofs.Common.{◌≡◌, ℕ, ◌≤◌, List, [], ◌∷◌, ◌++◌, take, drop, refl, sym, ◌∙◌, ap, subst, arith, append_assoc}
 use Rattle.std.proofs.lemmas.List.{drop-drop}
 use Rattle.proto_core.specs.declared.party.Number.{Number}
@@ -25,7 +25,7 @@ gates_then i (Joined p n u v ∷ xs) ys values tape =
     ∙ ap (λ t. then_do (gates_strand i xs (values ++ made) rest) (λ all. gates_strand i ys all t)) (drop-drop (needed xs i) (p.draws n i) tape)) d)
     ∙ sym (then-regrouped block _ _)
 
--- the tapes behind gates
+-- the tapes after gates
 abbrev pub rest_of_tapes : List Gate → Tapes → Tapes
 rest_of_tapes gates tapes i = drop (needed gates i) (tapes i)
 

@@ -26,7 +26,7 @@ module _ {C P G : Type 0} (course : Course C G) (steps : Steps P G) (to_run : To
     pub stands : StandAlike course steps Alike Ended (stand_after course fuel c) (stop next fuel (Running p) values tapes)
 
   module _ (join : RunsJoin to_run) (twins : Twins course steps Alike Ended) where
-    -- behind one turn with these gates, which leads all three to one place
+    -- after one turn with these gates, which leads all three to one place
     module _ (fuel : ℕ) (stand : Stand C) (gates : List Gate) (place : Stand P) (rest : List Gate) (values : Shares) (tapes : Tapes) where
       abbrev now : Shares
       now = run_values gates values tapes

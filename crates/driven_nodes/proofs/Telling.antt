@@ -1,5 +1,6 @@
 -- What driven miners tell: each turn's notices, in order, and nothing else.
 use Rattle.std.proofs.Common.{◌≡◌, ℕ, zero, suc, Bool, true, false, List, [], ◌∷◌, ◌++◌, length, take, drop, refl, sym, ◌∙◌, ap, subst}
+use Rattle.std.specs.Option.{option_map_or}
 use Rattle.std.specs.Prelude.{Option, Some, None}
 use Rattle.proto_core.specs.declared.party.Number.{Number}
 use Rattle.proto_core.specs.Strand.{Act, Notice, Sent, Opened, Told, accepts, Mail, Strand, Ends, Acts, Waits, Begins, taken, run, then_do, told_in}
@@ -12,7 +13,7 @@ use Rattle.protocol_model.specs.Gates.{Gate, Joined, Local, AreSound, AreSilent,
 use Rattle.protocol_model.specs.Runs.{Shares, Tapes, Ready, run_messages, nodes_of}
 use Rattle.protocol_model.proofs.GateRuns.{run-finishes}
 use Rattle.protocol_model.proofs.Scripts.{silent_then}
-use Rattle.driven_nodes.specs.Driven.{Turn, of_turn, OfTurn, telling, shares_behind, tapes_behind, place_behind, LeadsTogether}
+use Rattle.driven_nodes.specs.Driven.{Turn, OfTurn, telling, shares_behind, tapes_behind, place_behind, LeadsTogether}
 use Rattle.driven_nodes.specs.Driven.{driven, path, notices, Goes, driven_nodes}
 use Rattle.driven_nodes.proofs.Gates.{messages_then}
 
@@ -71,13 +72,13 @@ module _ {S : Type 0} (next : S → Option (Turn S)) where
       rest t = path next fuel (place_behind t values tapes) (shares_behind t values tapes) (tapes_behind t tapes)
 
       gates_by : Option (Turn S) → List Gate
-      gates_by o = of_turn o [] (λ t. t.gates ++ rest t)
+      gates_by o = option_map_or (λ t. t.gates ++ rest t) o []
 
       on : Turn S → List (List ℕ) → Strand (S × List (List ℕ))
       on t all = telling (t.tells all) (driven next fuel i (t.leads all) all (drop (needed t.gates i) (tapes i)))
 
       mine_by : Option (Turn S) → Strand (S × List (List ℕ))
-      mine_by o = of_turn o (Ends (s, values i)) (λ t. then_do (gates_strand i t.gates (values i) (tapes i)) (on t))
+      mine_by o = option_map_or (λ t. then_do (gates_strand i t.gates (values i) (tapes i)) (on t)) o (Ends (s, values i))
 
       May : Option (Turn S) → Type 0
       May o =
@@ -97,10 +98,9 @@ module _ {S : Type 0} (next : S → Option (Turn S)) where
       by_turn :
           (o : Option (Turn S)) → May o → AreSilent (gates_by o) → Later →
           told_in (run (mine_by o) (into i (run_messages (gates_by o) values tapes))).acts
-          ≡ of_turn o []
-          (λ t.
+          ≡ option_map_or (λ t.
           t.tells (shares_behind t values tapes i)
-          ++ notices next fuel i (place_behind t values tapes) (shares_behind t values tapes) (tapes_behind t tapes))
+          ++ notices next fuel i (place_behind t values tapes) (shares_behind t values tapes) (tapes_behind t tapes)) o []
       by_turn None h silent later = refl
       by_turn (Some t) h silent later =
           ap (λ x. told_in (run (then_do gates (on t)) x).acts) mails

@@ -1,22 +1,18 @@
 -- Miners that learn their gates as they go: what comes next is told by where a miner stands and, where it opened a value,
 -- by that value.
 use Rattle.std.specs.Prelude.{◌≡◌, ℕ, zero, suc, List, [], ◌∷◌, ◌++◌, drop, Option, Some, None}
+use Rattle.std.specs.Option.{option_map_or}
 use Rattle.proto_core.specs.declared.party.Number.{Number}
 use Rattle.proto_core.specs.declared.party.Number.TheVariants.{One}
 use Rattle.proto_core.specs.Strand.{Notice, Told, Strand, Ends, Acts, then_do}
 use Rattle.protocol_model.specs.Gates.{Gate, AreSound, needed, gates_strand}
 use Rattle.protocol_model.specs.Runs.{Shares, Tapes, Ready, run_values}
 
--- one turn: its gates; and by the miner's own values behind them what it tells, and where it leads
+-- one turn: its gates; and by the miner's own values after them what it tells, and where it leads
 pub record Turn (S : Type 0) : Type 0 where
   pub gates : List Gate
   pub tells : List (List ℕ) → List Notice
   pub leads : List (List ℕ) → S
-
--- what is made of a turn, if there is one
-abbrev pub of_turn : {S R : Type 0} → Option (Turn S) → R → (Turn S → R) → R
-of_turn None stands goes = stands
-of_turn (Some t) stands goes = goes t
 
 -- what holds of a turn, if there is one
 abbrev pub OfTurn : {S : Type 0} → Option (Turn S) → (Turn S → Type 0) → Type 0
@@ -27,7 +23,7 @@ abbrev pub telling : {A : Type 0} → List Notice → Strand A → Strand A
 telling [] s = s
 telling (t ∷ ts) s = Acts (Told t) (telling ts s)
 
--- ---- behind a turn of the joint run: the shares, the tapes, and where the first miner is led
+-- ---- after a turn of the joint run: the shares, the tapes, and where the first miner is led
 
 module _ {S : Type 0} (t : Turn S) where
   abbrev pub shares_behind : Shares → Tapes → Shares
@@ -50,33 +46,30 @@ module _ {S : Type 0} (next : S → Option (Turn S)) where
   abbrev pub driven : (fuel : ℕ) → Number → S → (values : List (List ℕ)) → (tape : List ℕ) → Strand (S × List (List ℕ))
   driven zero i s values tape = Ends (s, values)
   driven (suc fuel) i s values tape =
-      of_turn (next s) (Ends (s, values))
-      (λ t.
-      then_do (gates_strand i t.gates values tape)
-      (λ all. telling (t.tells all) (driven fuel i (t.leads all) all (drop (needed t.gates i) tape))))
+      option_map_or
+      (λ t. then_do (gates_strand i t.gates values tape) (λ all. telling (t.tells all) (driven fuel i (t.leads all) all (drop (needed t.gates i) tape))))
+      (next s) (Ends (s, values))
 
   -- the gates of the whole run, each turn's by the joint run of those before
   abbrev pub path : (fuel : ℕ) → S → Shares → Tapes → List Gate
   path zero s values tapes = []
   path (suc fuel) s values tapes =
-      of_turn (next s) []
-      (λ t. t.gates ++ path fuel (place_behind t values tapes) (shares_behind t values tapes) (tapes_behind t tapes))
+      option_map_or (λ t. t.gates ++ path fuel (place_behind t values tapes) (shares_behind t values tapes) (tapes_behind t tapes)) (next s) []
 
   -- where it comes to
   abbrev pub stop : (fuel : ℕ) → S → Shares → Tapes → S
   stop zero s values tapes = s
   stop (suc fuel) s values tapes =
-      of_turn (next s) s
-      (λ t. stop fuel (place_behind t values tapes) (shares_behind t values tapes) (tapes_behind t tapes))
+      option_map_or (λ t. stop fuel (place_behind t values tapes) (shares_behind t values tapes) (tapes_behind t tapes)) (next s) s
 
   -- what a miner tells, in order
   abbrev pub notices : (fuel : ℕ) → Number → S → Shares → Tapes → List Notice
   notices zero i s values tapes = []
   notices (suc fuel) i s values tapes =
-      of_turn (next s) []
-      (λ t.
-      t.tells (shares_behind t values tapes i)
+      option_map_or
+      (λ t. t.tells (shares_behind t values tapes i)
       ++ notices fuel i (place_behind t values tapes) (shares_behind t values tapes) (tapes_behind t tapes))
+      (next s) []
 
   -- at each turn all three miners are led to the same place
   abbrev pub Led : (fuel : ℕ) → S → Shares → Tapes → Type 0

@@ -42,11 +42,11 @@ stand_of (Wants p) = Short p
 abbrev pub last_of : List (List ℕ) → List ℕ
 last_of values = nth_value values (length values - 1)
 
--- the gates of a place that another one behind it has besides
+-- the gates of a place that another one after it has besides
 abbrev pub gained : {X : Type 0} → (before after : List X) → List X
 gained before after = drop (length before) after
 
--- how the three miners run gates behind others
+-- how the three miners run gates after others
 abbrev pub ToRun : Type 0 → Type 0
 ToRun G = (before more : List G) → List Gate
 

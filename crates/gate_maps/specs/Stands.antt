@@ -64,7 +64,7 @@ drawn_for x shares tapes = operands_of x shares (drawn (protocol_in x) (size_of_
 abbrev pub whole_with : ViewMap → Stand → List model.Gate → Number → List ℕ
 whole_with map s gates k = s.made k ++ gates_map map.way map.miner gates s.shares s.rest k
 
--- whatever gates are behind it, all words together are as the map has them
+-- whatever gates are after it, all words together are as the map has them
 pub record Passes (map : ViewMap) (dealt : Number → Values) (gate : Gate) (before after : Stand) : Type 0 where
   pub whole : (gates : List model.Gate) (k : Number) → whole_with map before (gate_on dealt before.shares gate ∷ gates) k ≡ whole_with map after gates k
   pub sizes :

@@ -14,7 +14,7 @@ use joint_run::{Exchange, Operands};
 use proto_core::Number;
 use std::alloc::{AllocError, Global};
 
-/// One block's words behind those that were made.
+/// One block's words after those that were made.
 fn push_block(
     map: ViewMap,
     exchange: Exchange,

@@ -36,7 +36,7 @@ pub struct Passing<'a> {
     pub made: MadeTapes,
 }
 
-/// A gate's words off the tapes, and what they are mapped to, which is put behind what was made before.
+/// A gate's words off the tapes, and what they are mapped to, which is put after what was made before.
 fn map_exchange<'a>(
     alloc: Global,
     map: ViewMap,
@@ -73,7 +73,7 @@ fn map_exchange<'a>(
     Ok((given, mapped))
 }
 
-/// The three miners run a gate with these words: their shares of all values, those that it makes behind the others.
+/// The three miners run a gate with these words: their shares of all values, those that it makes after the others.
 fn run_with(
     alloc: Global,
     placed: Placed,
@@ -98,7 +98,7 @@ fn run_with(
     }
 }
 
-/// One gate more: its words are mapped, and the miners' shares of what it makes stand behind the others. An error comes where the gate
+/// One gate more: its words are mapped, and the miners' shares of what it makes stand after the others. An error comes where the gate
 /// does not suit the values, a tape has fewer words than it draws, or no memory is left.
 pub(crate) fn pass_gate<'a>(
     alloc: Global,

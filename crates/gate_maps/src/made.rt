@@ -36,7 +36,7 @@ impl MadeTapes {
         }
     }
 
-    /// Words behind each miner's.
+    /// Words after each miner's.
     pub(crate) fn extend(
         &mut self,
         first: &[u64],

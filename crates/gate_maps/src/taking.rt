@@ -7,7 +7,7 @@ ghost use Rattle.joint_run.specs.Exchanges.{protocol_of};
 use joint_run::{Exchange, JointErr, Tapes};
 use proto_core::Number;
 
-/// So many words from the front of a miner's tape, and what is behind them; an error where the tape has fewer.
+/// So many words from the front of a miner's tape, and what is after them; an error where the tape has fewer.
 fn front_of<'a>(
     place: usize,
     miner: Number,

@@ -14,7 +14,7 @@ use joint_run::{JointErr, SharedValues, Tapes};
 use std::alloc::Global;
 
 /// The three miners' tapes of a run of gates, on values that were dealt, mapped for one miner's view or back: each gate's words by the row
-/// of its protocol, words behind the last as they are.
+/// of its protocol, words after the last as they are.
 ///
 /// An error tells why the gates can't be run: one does not suit the values before it, a tape ends within it, or no memory is left. Where
 /// they can be run, it is for want of memory.

@@ -1,6 +1,6 @@
 -- A gate at work, block by block, is the gate.
 use Rattle.std.proofs.Common.{◌≡◌, ℕ, suc, ◌+◌, ◌-◌, ◌<◌, ◌≤◌, min, Bool, true, false, ◌&&◌, nat_le, if◌then◌else◌, List, [], ◌∷◌, ◌++◌, length, take}
-use Rattle.std.proofs.Common.{drop, refl, sym, ◌∙◌, ap, subst, arith, Some, None, IsTrue, ◌↔◌, get_or, drop-cons, add-one}
+use Rattle.std.proofs.Common.{map, drop, refl, sym, ◌∙◌, ap, subst, arith, Some, None, IsTrue, ◌↔◌, get_or, drop-cons, add-one}
 use Rattle.std.specs.Prelude.{Option}
 use Rattle.std.proofs.lemmas.Bool.{le-leb, lt-leb, leb-true, leb-false, and_parts}
 use Rattle.std.proofs.lemmas.List.{drop-drop, drop-take, length-take-le, length-map, length-append}
@@ -16,7 +16,7 @@ use Rattle.gates.specs.declared.gate.Gate.{Gate}
 use Rattle.gates.specs.declared.gate.Gate.TheVariants.{Mul, And, Split, Conv, Open, Result}
 use Rattle.gates.specs.Counts.{size_of}
 use Rattle.gates.specs.Clear.{Values, value}
-use Rattle.blocked_protocol.specs.Blocked.{joined, emptied, no_elements, blocks_strand, Blockable}
+use Rattle.blocked_protocol.specs.Blocked.{joined, no_elements, blocks_strand, Blockable}
 use Rattle.joint_run.specs.LocalGates.{local_share, IsLocal}
 use Rattle.joint_run.specs.Model.{SizesSuit}
 use Rattle.joint_run.proofs.Models.{nth_value-value, size-value}
@@ -126,7 +126,7 @@ draws-apart e i a b n h = sym (((blockable-of e).draws i).more a b) ∙ ap (λ m
 pub drop-front : {X : Type 0} (k : ℕ) (xs : List X) (x : X) → k < length xs → get_or xs k x ≡ x → drop k xs ≡ x ∷ drop (k + 1) xs
 drop-front k xs x h is = drop-cons xs k x h ∙ ap (λ y. y ∷ drop (suc k) xs) is ∙ ap (λ n. x ∷ drop n xs) (sym (add-one k))
 
-joined-emptied : (sizes : List ℕ) (xs : List (List ℕ)) → length sizes ≡ length xs → joined (emptied sizes) xs ≡ xs
+joined-emptied : (sizes : List ℕ) (xs : List (List ℕ)) → length sizes ≡ length xs → joined (map (λ size. []) sizes) xs ≡ xs
 joined-emptied [] [] h = refl
 joined-emptied [] (x ∷ xs) h = absurd (omega arith)
 joined-emptied (n ∷ sizes) [] h = absurd (omega arith)
@@ -269,7 +269,7 @@ module _ (i : Number) (dealt values : Values) (tape : List ℕ) (gate : Gate) (b
       let draws = draws-are i dealt values gate x is in
       can-is ∙ ap (λ t. t && nat_le (own_draws i dealt values gate) (length tape)) told ∙ lt-leb _ _ (omega (arith, draws, short))
 
--- where words are wanting, it can run exactly with as many
+-- where words are missing, it can run exactly with as many
 module _ (i : Number) (dealt values : Values) (tape : List ℕ) (gate : Gate) (b : Bool)
     (tells : IsTrue b ↔ SizesSuit (sizes_of dealt) (sizes_of values) gate) (x : Exchanged) (is : IsExchanged gate x) (told : b ≡ true) (count : ℕ)
     (wanting : length tape + count ≡ (protocol_of x.exchange).draws (length (value values x.u)) i) (more : List ℕ) where

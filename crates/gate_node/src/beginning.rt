@@ -15,7 +15,7 @@ pub(crate) enum Beginning {
     Alone,
     /// With messages.
     Together(Exchanged),
-    /// So many words are wanting.
+    /// So many words are missing.
     Wants(u128),
 }
 

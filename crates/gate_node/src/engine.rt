@@ -323,7 +323,7 @@ impl<P: Party> Engine<P> {
         }
     }
 
-    /// The oldest gate begins that hasn't; where more words are wanting than were supplied, it doesn't, and they are counted. A gate that sends
+    /// The oldest gate begins that hasn't; where more words are needed than were supplied, it doesn't, and they are counted. A gate that sends
     /// nothing is through at once.
     #[inline(never)]
     fn begin_next(&mut self) -> Result<Option<u128>, AllocError>
@@ -369,7 +369,7 @@ impl<P: Party> Engine<P> {
     }
 
     /// The oldest gate begins that hasn't, or a plan ends whose gates are through; else it is told where the miner stands: there is no gate, or
-    /// words are wanting for it.
+    /// words are missing for it.
     fn begin_gate(&mut self) -> Result<Option<Stand>, AllocError>
         requires idle { self.old.work ≡ Work.Idle }
         requires sound { IsSound P.me self.old }

@@ -27,7 +27,7 @@ use std::marker::Model;
 /// Its tape may be supplied little by little. What is promised holds for whatever words come after those that were supplied (`filled`); where
 /// none come, it holds for these.
 ///
-/// After an error, which comes only where memory is wanting, it is of no further use, where nothing else is said: no more is
+/// After an error, which comes only where memory runs out, it is of no further use, where nothing else is said: no more is
 /// known of it.
 pub struct GateNode<P: Party> {
     engine: Engine<P>,

@@ -1,4 +1,4 @@
--- Values behind those that fit change nothing, and evaluation gives values that fit.
+-- Values after those that fit change nothing, and evaluation gives values that fit.
 use Rattle.std.proofs.Common.{◌≡◌, ℕ, zero, suc, ◌+◌, ◌-◌, ◌%◌, ◌^◌, ◌<◌, ◌≤◌, Bool, true, false, Some, List, [], ◌∷◌, ◌++◌, length, refl, sym, ◌∙◌}
 use Rattle.std.proofs.Common.{ap, subst, inl, inr, arith, append_assoc, length-append}
 use Rattle.std.specs.Prelude.{slice_get}
@@ -129,7 +129,7 @@ module _ (values more : Values) where
   Makes-grown inputs next (Low u) le s h = slice_get-append values more next _ h ∙ ap Some (sym (clear_value-grown inputs next (Low u) le s))
   Makes-grown inputs next gate le s h = slice_get-append values more next _ h ∙ ap Some (sym (clear_value-grown inputs next gate le s))
 
-  -- values that fit go on to fit where more stand behind them
+  -- values that fit go on to fit where more stand after them
   pub FitFrom-grown : (inputs : Values) (next : ℕ) (gates : List Gate) → next + made_by_all gates ≤ length values → FitFrom inputs values next gates
       → FitFrom inputs (values ++ more) next gates
   FitFrom-grown inputs next [] le fit = tt

@@ -1,7 +1,7 @@
 -- How the elements of a gate are cut into blocks.
 use Rattle.std.specs.Prelude.{ℕ, zero, ◌*◌, ◌/◌, ◌%◌, ◌≤◌, List, [], ◌∷◌, ◌++◌, replicate}
 
--- what is left behind full blocks
+-- what is left after full blocks
 abbrev pub last_block : ℕ → List ℕ
 last_block zero = []
 last_block rest = rest ∷ []

@@ -20,7 +20,7 @@ abbrev pub made : ℕ → Values → Values → Gate → Values
 made mask inputs values (Split u negated) = unmasked negated (value values u) (masks_for mask (value values u)) ∷ masks_for mask (value values u) ∷ []
 made mask inputs values gate = clear_value inputs values gate ∷ []
 
--- the values that are there, and behind them those of the gates
+-- the values that are there, and after them those of the gates
 abbrev pub evaluated : ℕ → Values → Values → List Gate → Values
 evaluated mask inputs values [] = values
 evaluated mask inputs values (gate ∷ gates) = evaluated mask inputs (values ++ made mask inputs values gate) gates

@@ -95,7 +95,7 @@ impl Gate {
     }
 }
 
-/// The values of one gate behind those that are there; a `Split` takes `mask` for each word of its second value.
+/// The values of one gate after those that are there; a `Split` takes `mask` for each word of its second value.
 fn push_made(
     alloc: Global,
     mask: u64,
@@ -125,7 +125,7 @@ fn push_made(
     Ok(())
 }
 
-/// The clear values of gates, made one after another behind those that are there. Each `Split` takes `mask` for the words of
+/// The clear values of gates, made one after another after those that are there. Each `Split` takes `mask` for the words of
 /// its second value. Gates that don't suit the values before them get what the definition of a clear value makes of them.
 pub fn evaluated(
     alloc: Global,

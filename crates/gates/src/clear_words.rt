@@ -152,7 +152,7 @@ pub(crate) fn repeated(alloc: Global, word: u64, count: usize) -> Result<Words, 
     Ok(Words::new(vec![in alloc; word; count]?))
 }
 
-/// The 64 bits of a word behind what is there, bit 0 first.
+/// The 64 bits of a word after what is there, bit 0 first.
 #[tactic(auto, using(crate::proofs::WordSteps::bit_steps))]
 fn push_bits(words: &mut Vec<u64>, x: u64) -> Result<(), AllocError>
     ensures { OnOk result (words.new.items ≡ words.old.items ++ bits_of x) }

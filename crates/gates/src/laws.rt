@@ -12,13 +12,13 @@ pub fn evaluated_runs_fit()
         → Fit inputs gates (evaluated mask inputs [] gates) }
 {}
 
-/// The same of gates behind values that are there.
+/// The same of gates after values that are there.
 pub fn evaluated_values_fit()
     ensures { (mask : ℕ) → mask < 2 ^ 64 → (inputs values : Values) (gates : List Gate) → AllSuit mask inputs values gates
         → FitFrom inputs (evaluated mask inputs values gates) (length values) gates }
 {}
 
-/// Values that fit gates go on to fit them where more values come behind.
+/// Values that fit gates go on to fit them where more values come after.
 pub fn later_values_change_nothing()
     ensures { (inputs values more : Values) (next : ℕ) (gates : List Gate) → next + made_by_all gates ≤ length values
         → FitFrom inputs values next gates → FitFrom inputs (values ++ more) next gates }

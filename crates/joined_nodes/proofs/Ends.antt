@@ -1,11 +1,12 @@
 -- Where a miner stands that has ended, or whose run ends with more messages.
 use Rattle.std.proofs.Common.{◌≡◌, ◌≢◌, ℕ, Bool, true, false, List, [], ◌∷◌, length, drop, refl, sym, ◌∙◌, ap, subst}
+use Rattle.std.specs.Option.{option_map_or}
 use Rattle.std.specs.Prelude.{Option, Some, None}
 use Rattle.proto_core.specs.declared.link.Link.{Link}
 use Rattle.proto_core.specs.declared.refused.BadMessage.{BadMessage}
 use Rattle.proto_core.specs.Net.{added, MailBegins}
 use Rattle.proto_core.specs.Strand.{Shape, Mail, Strand, Ends, Acts, Waits, run, IsEnded, told_in, Begins, Act}
-use Rattle.proto_core.specs.Standing.{AtItsEnd, Awaits, Refuses, at_fault, before_mail, fault_of, standing_with, standing_of}
+use Rattle.proto_core.specs.Standing.{AtItsEnd, Awaits, Refuses, before_mail, fault_of, standing_with, standing_of}
 use Rattle.proto_core.proofs.Beginnings.{begins-append, begins-rest}
 use Rattle.proto_core.proofs.Strands.{added-rest, told-append}
 use Rattle.proto_core.proofs.Refusing.{IsStood, run_is_stood, refused_stays}
@@ -16,7 +17,7 @@ awaits_no_end l e = cc
 refuses_no_end : {X : Type 0} (l : Link) (cause : BadMessage) → Refuses l cause ≡ AtItsEnd → X
 refuses_no_end l cause e = cc
 
-fault_no_end : {X : Type 0} (l : Link) (f : Option BadMessage) → at_fault l f ≡ AtItsEnd → X
+fault_no_end : {X : Type 0} (l : Link) (f : Option BadMessage) → option_map_or (Refuses l) f (Awaits l) ≡ AtItsEnd → X
 fault_no_end l None e = awaits_no_end l e
 fault_no_end l (Some cause) e = refuses_no_end l cause e
 

@@ -93,7 +93,7 @@ pub block-sized : (p : Protocol) → Blockable p → (m n : ℕ) (rest some : Jo
 block-sized p blockable m n rest some sized h =
     subst (λ k. IsSized p m k) (sym (front-is p m rest some h)) (sized-front p blockable m n rest sized)
 
--- the first block, and those behind it
+-- the first block, and those after it
 pub first-block : (n : ℕ) → 0 < n → block_sizes n ≡ min n 512 ∷ block_sizes (n - min n 512)
 first-block n some =
     elim (cases_lt n 512) as (λ c. block_sizes n ≡ min n 512 ∷ block_sizes (n - min n 512)) [

@@ -37,7 +37,7 @@ module _ (dealt : Number → Values) (tapes : Tapes) where
     tape-left : (i : Number) → length (s.tapes i) ≡ length (tapes i) - words_for dealt before i
     tape-left i = ap (λ t. length (t.tapes i)) through.run.is ∙ length-drop (words_for dealt before i) (tapes i)
 
-    -- with the gate that comes behind them
+    -- with the gate that comes after them
     pub next-through : (gate : Gate) (t : RunState) → RunsGate dealt gate s t → Through dealt (before ++ gate ∷ []) tapes t
     next-through gate t runs =
         let ds = dealt_sizes dealt in

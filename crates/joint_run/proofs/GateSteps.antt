@@ -119,7 +119,7 @@ module _ (dealt : Number → Values) (ds sizes : List ℕ) where
   exchanged-gate (Result ring u) x is = ap joined_gate (sym is)
   exchanged-gate _ x is = absurd is
 
-  -- ---- the state behind it
+  -- ---- the state after it
 
   pub local-behind : (gate : Gate) (s t : RunState) → IsLocal gate → AddsLocal dealt gate s t → t ≡ behind (run_gate dealt ds sizes gate ∷ []) s
   local-behind gate s t local adds =

@@ -19,7 +19,7 @@ pub record Tells (messages : Mail) (opened : List ℕ) (before after : Transcrip
   pub sent : (l : Link) → carried after.traffic l ≡ carried before.traffic l ++ messages l
   pub learnt : after.opened.items ≡ before.opened.items ++ opened
 
--- these words behind those of each value
+-- these words after those of each value
 abbrev pub Lengthens : Bool → (Number → List (List ℕ)) → (before after : Outputs) → Type 0
 Lengthens two words before after = (i : Number) → words_of two after i ≡ joined (words_of two before i) (words i)
 

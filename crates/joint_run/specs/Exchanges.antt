@@ -49,7 +49,7 @@ pub record HasEnough (p : Protocol) (m : ℕ) (j : Joint) : Type 0 where
   pub second : HasEnoughAt p m Two j
   pub third : HasEnoughAt p m Three j
 
--- what the first m elements take, and what is behind it
+-- what the first m elements take, and what is after it
 pub record IsFront (p : Protocol) (m : ℕ) (whole some : Joint) : Type 0 where
   pub u : (i : Number) → some.u i ≡ take m (whole.u i)
   pub v : (i : Number) → some.v i ≡ take (p.second m) (whole.v i)

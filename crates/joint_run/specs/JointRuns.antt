@@ -18,7 +18,7 @@ dealt_sizes dealt = sizes_of (dealt One)
 abbrev pub IsEven : (Number → Values) → Type 0
 IsEven dealt = (i : Number) → sizes_of (dealt i) ≡ dealt_sizes dealt
 
--- how many words a miner draws for gates, or for the one that comes behind them
+-- how many words a miner draws for gates, or for the one that comes after them
 abbrev pub words_for : (Number → Values) → List Gate → Number → ℕ
 words_for dealt gates i = needed (run_gates dealt (dealt_sizes dealt) [] gates) i
 

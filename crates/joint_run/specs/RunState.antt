@@ -15,7 +15,7 @@ pub record RunState : Type 0 where
 abbrev pub begun : (Number → List ℕ) → RunState
 begun tapes = record { shares = λ i. []; tapes = tapes; messages = λ l. []; opened = [] }
 
--- behind these gates
+-- after these gates
 abbrev pub behind : List Gate → RunState → RunState
 behind gates s =
     record {

@@ -213,7 +213,7 @@ fn add_splitting(
     Ok(())
 }
 
-/// One block of at most 512 elements of an exchange: its messages and opened words go to the transcript, the new shares behind
+/// One block of at most 512 elements of an exchange: its messages and opened words go to the transcript, the new shares after
 /// the outputs. With no memory left both may have a part of it.
 pub fn add_block(
     exchange: Exchange,

@@ -27,7 +27,7 @@ impl Shared {
         }
     }
 
-    /// Words behind each miner's share.
+    /// Words after each miner's share.
     pub(crate) fn extend(
         &mut self,
         first: &[u64],

@@ -17,7 +17,7 @@ pub struct Own<'a> {
 }
 
 impl<'a> Own<'a> {
-    /// So many from the front of each list, and what is behind them.
+    /// So many from the front of each list, and what is after them.
     fn split(self, u: usize, v: usize, words: usize) -> (Own<'a>, Own<'a>)
         requires u { u ≤ length self.u.now }
         requires v { v ≤ length self.v.now }
@@ -71,7 +71,7 @@ impl<'a> Operands<'a> {
         self.first.u.len()
     }
 
-    /// What belongs to the first m elements, and what is behind them.
+    /// What belongs to the first m elements, and what is after them.
     pub fn split(self, exchange: Exchange, m: usize) -> (Operands<'a>, Operands<'a>)
         requires { HasEnough (protocol_of exchange) m (joint self) }
         ensures front { IsFront (protocol_of exchange) m (joint self.entry) (joint result.0) }

@@ -104,7 +104,7 @@ pub fn operands<'s>(
     }
 }
 
-/// The outputs of a gate as values behind those that there are: one, or two.
+/// The outputs of a gate as values after those that there are: one, or two.
 fn keep(outputs: Outputs, two: bool, shares: &mut SharedValues) -> Result<(), AllocError>
     ensures { OnOk result ((i : NumberValue) → values_of shares.new i ≡ values_of shares.old i ++ words_of two outputs i) }
 {

@@ -53,7 +53,7 @@ fn check_tapes(place: usize, gate: Exchanged, run: &JointRun) -> Result<(), Join
     Ok(())
 }
 
-/// One gate more behind those that a joint run has had, the one of this place in its list. An error tells why it can't be run: it
+/// One gate more after those that a joint run has had, the one of this place in its list. An error tells why it can't be run: it
 /// does not suit the values before it, a tape ends within it, or no memory is left; then the run may have a part of it.
 pub fn run_gate(
     alloc: Global,

@@ -1,5 +1,6 @@
 -- What deliveries make of the messages of a net.
 use Rattle.std.proofs.Common.{◌≡◌, ◌≢◌, ℕ, ◌+◌, ◌<◌, ◌≤◌, Bool, true, false, if◌then◌else◌, List, [], ◌∷◌, ◌++◌, length}
+use Rattle.std.specs.Option.{option_map_or}
 use Rattle.std.proofs.Common.{refl, sym, ◌∙◌, ap, subst, arith}
 use Rattle.std.specs.Prelude.{nat_lt, slice_get, Option, Some, None}
 use Rattle.std.proofs.lemmas.Option.{same_Some}
@@ -9,7 +10,7 @@ use Rattle.proto_core.specs.declared.link.Link.{Link}
 use Rattle.proto_core.specs.Parties.{receiver_of, is_same}
 use Rattle.proto_core.specs.Strand.{Shape, same_link, Mail, Strand, Ends, Acts, Waits, Ran, run, next_after, Begins, IsEnded}
 use Rattle.proto_core.specs.Net.{into, added, nothing, posted, under_way, delivered, all_delivered, MailBegins}
-use Rattle.proto_core.specs.Standing.{AtItsEnd, Awaits, Refuses, standing_with, standing_of, before_mail, at_fault, fault_of}
+use Rattle.proto_core.specs.Standing.{AtItsEnd, Awaits, Refuses, standing_with, standing_of, before_mail, fault_of}
 use Rattle.proto_core.specs.declared.refused.BadMessage.{BadMessage}
 use Rattle.proto_core.proofs.Beginnings.{append-none, begins-self, begins-append, begins-trans}
 use Rattle.proto_core.proofs.Nets.{posted-more, delivered-begins}
@@ -160,7 +161,7 @@ waits_no_end : (l : Link) (shape : Shape) (ms : List (List ℕ)) → before_mail
 waits_no_end l shape [] e = not_at_end_awaits l e
 waits_no_end l shape (m ∷ ms) e = by_fault (fault_of shape m) e
   where
-    by_fault : (fault : Option BadMessage) → at_fault l fault ≢ AtItsEnd
+    by_fault : (fault : Option BadMessage) → option_map_or (Refuses l) fault (Awaits l) ≢ AtItsEnd
     by_fault None e = not_at_end_awaits l e
     by_fault (Some cause) e = not_at_end_refuses l cause e
 

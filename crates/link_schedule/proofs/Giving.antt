@@ -149,7 +149,7 @@ module _ (s : StreamNet) (n : Held) (view : net_of n.miners n.links n.lost ≡ s
         still = c.still;
       }
 
-  -- memory is wanting when it has come
+  -- memory runs out when it has come
   pub given_late : (links : List Link) → ComesTo l msg n.miners m2 a b (Ok tt) →
       Along s (net_of m2 links (Some lost.Memory)) a b (Some lost.Memory) (Delivered (Err lost.Memory))
   given_late links c =

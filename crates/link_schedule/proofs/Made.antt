@@ -1,6 +1,7 @@
 -- The orders that a net makes itself are those that its scripts make.
 use Rattle.std.proofs.Common.{◌≡◌, ℕ, zero, suc, ◌+◌, ◌≤◌, ◌%◌, List, [], ◌∷◌, length, refl, sym, ◌∙◌, ap, arith}
-use Rattle.std.specs.Prelude.{nat_lt, Some}
+use Rattle.std.specs.Option.{option_map_or}
+use Rattle.std.specs.Prelude.{nat_lt, Some, filter}
 use Rattle.proto_core.specs.declared.party.Number.{Number}
 use Rattle.proto_core.specs.declared.link.Link.{Link}
 use Rattle.proto_core.specs.declared.link.Link.TheVariants.{Link12, Link13, Link21, Link23, Link31, Link32}
@@ -9,7 +10,7 @@ use Rattle.proto_core.specs.Script.{Move}
 use Rattle.proto_core.specs.Net.{into, posted, delivered, MailBegins, Finishes}
 use Rattle.proto_core.proofs.Nets.{delivered-begins}
 use Rattle.protocol_model.specs.Along.{MovesAlong}
-use Rattle.protocol_model.specs.Network.{Counts, counts, one_more, all_links, those, is_full, chosen, entry_then, made_order, total}
+use Rattle.protocol_model.specs.Network.{Counts, counts, one_more, all_links, is_full, chosen, made_order, total}
 use Rattle.protocol_model.proofs.NetCounts.{posted-counted, counts-delivered, posted-begins, lt_from}
 use Rattle.link_schedule.specs.Orders.{full_links, IsMade}
 use Rattle.protocol_model.proofs.Choosing.{in_those}
@@ -39,8 +40,8 @@ total_more Link32 got = omega arith
 
 module _ {A : Type 0} (nodes : Number → Strand A) (scripts : Number → List Move) (full : Mail) (outputs : Number → A) (f : Finishes nodes full outputs)
     (moves : (i : Number) → MovesAlong (nodes i) (scripts i) (into i full)) where
-  full_same : (mail : Mail) → MailBegins mail full → full_links nodes mail ≡ those (is_full scripts (counts mail)) all_links
-  full_same mail h = ap (λ p. those p all_links) (λ d. λ l. ap (nat_lt (length (mail l))) (posted-counted nodes scripts full mail outputs f moves h l) d)
+  full_same : (mail : Mail) → MailBegins mail full → full_links nodes mail ≡ filter (is_full scripts (counts mail)) all_links
+  full_same mail h = ap (λ p. filter p all_links) (λ d. λ l. ap (nat_lt (length (mail l))) (posted-counted nodes scripts full mail outputs f moves h l) d)
 
   -- what is known where a link was chosen
   record IsNext (mail : Mail) (l : Link) : Type 0 where
@@ -66,12 +67,12 @@ module _ {A : Type 0} (nodes : Number → Strand A) (scripts : Number → List M
   made_counted words zero entry mail [] h t made = refl
   made_counted words zero entry mail (l ∷ ls) h t made = too_many mail l (next mail l (words entry) h made.0) t
   made_counted words (suc fuel) entry mail [] h t made =
-      sym (ap (λ ls. entry_then (chosen (words entry) ls) (λ l. made_order scripts words fuel (entry + 1) (one_more l (counts mail))))
+      sym (ap (λ ls. option_map_or (λ l. l ∷ made_order scripts words fuel (entry + 1) (one_more l (counts mail))) (chosen (words entry) ls) [])
       (sym (full_same mail h) ∙ made))
   made_counted words (suc fuel) entry mail (l ∷ ls) h t made =
       let n = next mail l (words entry) h made.0 in
       let m = n.more in
       ap (λ v. l ∷ v) (made_counted words fuel (entry + 1) (delivered nodes mail l) ls n.begins (omega arith) made.1)
       ∙ ap (λ got. l ∷ made_order scripts words fuel (entry + 1) got) n.one
-      ∙ sym (ap (λ o. entry_then o (λ k. made_order scripts words fuel (entry + 1) (one_more k (counts mail))))
+      ∙ sym (ap (λ o. option_map_or (λ k. k ∷ made_order scripts words fuel (entry + 1) (one_more k (counts mail))) o [])
       (ap (chosen (words entry)) (sym (full_same mail h)) ∙ made.0))

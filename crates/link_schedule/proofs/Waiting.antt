@@ -1,11 +1,12 @@
 -- For which link a miner waits, by what it answers.
 use Rattle.std.proofs.Common.{◌≡◌, ℕ, List, [], ◌∷◌, ◌⊎◌, inl, inr, refl, sym, ◌∙◌, ap, subst}
+use Rattle.std.specs.Option.{option_map_or}
 use Rattle.std.specs.Prelude.{Option, Some, None, Result, Ok, Err}
 use Rattle.std.proofs.lemmas.Option.{same_Some}
 use Rattle.proto_core.specs.declared.party.Number.{Number}
 use Rattle.proto_core.specs.declared.link.Link.{Link}
 use Rattle.proto_core.specs.Strand.{Mail, Strand, Ends, Acts, Waits, run, IsEnded}
-use Rattle.proto_core.specs.Standing.{Standing, AtItsEnd, Awaits, Refuses, standing_with, standing_of, before_mail, at_fault, fault_of}
+use Rattle.proto_core.specs.Standing.{Standing, AtItsEnd, Awaits, Refuses, standing_with, standing_of, before_mail, fault_of}
 use Rattle.proto_core.specs.declared.refused.BadMessage.{BadMessage}
 use Rattle.protocol_model.specs.Network.{waits_for}
 use Rattle.protocol_model.proofs.Completing.{not_waiting}
@@ -45,7 +46,7 @@ module _ {A : Type 0} where
   at_link (Acts a s) unread l h = none_is_some l h
   at_link (Waits k shape f) unread l h = subst (λ v. AtLink v (before_mail k shape (unread k))) (same_Some k l h) (by_mail (unread k))
     where
-      by_fault : (fault : Option BadMessage) → AtLink k (at_fault k fault)
+      by_fault : (fault : Option BadMessage) → AtLink k (option_map_or (Refuses k) fault (Awaits k))
       by_fault None = inl refl
       by_fault (Some cause) = inr (cause, refl)
 

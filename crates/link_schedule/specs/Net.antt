@@ -28,7 +28,7 @@ pub record NetState : Type 0 where
   pub three : Own
   -- the link of each delivery, in order
   pub delivered : List Link
-  -- memory was wanting: no more is said
+  -- memory ran out: no more is said
   pub lost : Bool
 
 abbrev pub by_number : {A : Type 0} → A → A → A → Number → A

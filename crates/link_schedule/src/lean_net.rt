@@ -24,7 +24,7 @@ use std::alloc::Global;
 /// drawn. So it can tell no view of a run. It delivers in orders that it makes itself.
 ///
 /// Contracts speak of it by the states of a net that keeps all (`IsLeanNetOf`): they say of each such state what is said of a `Net3` in
-/// that state. Once memory was wanting or a tape couldn't be read, it is no net of any state: no more can be asked of it.
+/// that state. Once memory ran out or a tape couldn't be read, it is no net of any state: no more can be asked of it.
 pub struct LeanNet {
     pub(crate) miners: LeanMiners,
     pub(crate) recorded: Vec<Link>,

@@ -22,7 +22,7 @@ use std::marker::Model;
 /// which messages were delivered, what each miner has done, and where it stands: what is said holds with all three tapes that begin with the words
 /// drawn, and have as many after them as are left.
 ///
-/// Once memory was wanting or a tape couldn't be read, it is of no further use: each call that delivers answers so.
+/// Once memory ran out or a tape couldn't be read, it is of no further use: each call that delivers answers so.
 pub struct Net3 {
     pub(crate) miners: Miners,
     pub(crate) given: Tally,

@@ -6,7 +6,7 @@ use Rattle.proto_core.specs.declared.party.Number.{Number}
 use Rattle.proto_core.specs.declared.party.Number.TheVariants.{One, Two, Three}
 use Rattle.proto_core.specs.Parties.{next_of, previous_of, from_previous, from_next}
 use Rattle.proto_core.specs.Lists.{part}
-use Rattle.proto_core.specs.Strand.{Words, Bits, accepts}
+use Rattle.proto_core.specs.Strand.{Words, Bits, accepts, one_field}
 use Rattle.proto_core.specs.Net.{into}
 use Rattle.proto_core.specs.Protocol.{Protocol}
 use Rattle.proto_core.specs.Resharing.{reshared}
@@ -17,14 +17,14 @@ use Rattle.proto_core.proofs.Nodes.{mail-previous, mail-next}
 use Rattle.multiply.specs.MulStrand.{masks_shape, factors_shape, mul_strand}
 use Rattle.multiply.specs.Multiplying.{mul_received}
 use Rattle.open_result.specs.Opening.{left_of_opened, open_received, open_strand}
-use Rattle.reshare.specs.Resharing.{one_field, reshare_received, reshare_strand}
+use Rattle.reshare.specs.Resharing.{reshare_received, reshare_strand}
 use Rattle.share_convert.specs.Bits.{bits}
 use Rattle.share_convert.specs.BitLaws.{length-bits, AreAllBits-bits, all-bits}
-use Rattle.share_convert.specs.ConvStrand.{shape12, shape13, shape23, shape32, shape31, b_of, e_of, m_of, to_two, conv_strand}
+use Rattle.share_convert.specs.ConvStrand.{shape12, shape13, shape23, shape32, b_of, e_of, m_of, to_two, conv_strand}
 use Rattle.share_convert.specs.Converting.{conv_draws, conv_received}
 use Rattle.share_convert.specs.ConvertingLaws.{fits12}
 use Rattle.split_share.specs.Splitting.{split_draws, split_received}
-use Rattle.split_share.specs.SplitStrand.{words_shape, split_strand}
+use Rattle.split_share.specs.SplitStrand.{split_strand}
 use Rattle.gates.specs.Clear.{ring_of}
 use Rattle.joint_run.specs.declared.exchange.Exchange.{Exchange}
 use Rattle.joint_run.specs.declared.exchange.Exchange.TheVariants.{Product, Splitting, Conversion, Opening, Resharing}
@@ -109,10 +109,10 @@ split-takes negated n One u w drawn =
     takes-into One (split_strand negated n One u (w One)) (split_received w) _ _ refl refl (takes-act _ _ _ (takes-act _ _ _ (takes-end One _)))
 split-takes negated n Two u w drawn =
     takes-into Two (split_strand negated n Two u (w Two)) (split_received w) _ _ refl refl
-    (takes-previous Two (words_shape n) _ (w One) _ _ (accepts-one_words n (w One) (drawn One)) (takes-end Two _))
+    (takes-previous Two (one_field n) _ (w One) _ _ (accepts-one_words n (w One) (drawn One)) (takes-end Two _))
 split-takes negated n Three u w drawn =
     takes-into Three (split_strand negated n Three u (w Three)) (split_received w) _ _ refl refl
-    (takes-next Three (words_shape n) _ (w One) _ _ (accepts-one_words n (w One) (drawn One)) (takes-end Three _))
+    (takes-next Three (one_field n) _ (w One) _ _ (accepts-one_words n (w One) (drawn One)) (takes-end Three _))
 
 conv-takes :
     (n : ℕ) (i : Number) (u : List ℕ) (w : Number → List ℕ) → ((k : Number) → length (w k) ≡ conv_draws n k) →
@@ -120,7 +120,7 @@ conv-takes :
 conv-takes n One u w drawn =
     takes-into One (conv_strand n One u (w One)) (conv_received n w) _ _ refl refl
     (takes-act _ _ _
-    (takes-act _ _ _ (takes-previous One (shape31 n) _ (w Three) _ _ (accepts-one_words n (w Three) (drawn Three)) (takes-end One _))))
+    (takes-act _ _ _ (takes-previous One (one_field n) _ (w Three) _ _ (accepts-one_words n (w Three) (drawn Three)) (takes-end One _))))
 conv-takes n Two u w drawn =
     takes-into Two (conv_strand n Two u (w Two)) (conv_received n w) _ _ refl refl
     (takes-previous Two (shape12 n) _ (to_two n (w One)) _ _ (fits12 n (w One))

@@ -1,4 +1,4 @@
--- Behind one gate more the simulator stands where the definitions say.
+-- After one gate more the simulator stands where the definitions say.
 use Rattle.std.proofs.Common.{◌≡◌, ℕ, ◌≤◌, List, [], ◌∷◌, ◌++◌, length, drop, refl, sym, ◌∙◌, ap, subst}
 use Rattle.proto_core.specs.declared.party.Number.{Number}
 use Rattle.proto_core.specs.Parties.{from_previous, from_next}

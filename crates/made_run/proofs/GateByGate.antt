@@ -21,7 +21,7 @@ use Rattle.made_run.specs.Standing.{Standing, begun, opens_in, past}
 use Rattle.made_run.specs.Simulators.{Rests, standing_of, gate_in}
 use Rattle.made_run.specs.Made.{own_run, IsMade}
 
--- ---- a gate, and those behind it
+-- ---- a gate, and those after it
 
 none-more : (n : ℕ) → n + 0 ≡ n
 none-more n = omega arith

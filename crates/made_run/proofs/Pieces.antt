@@ -67,7 +67,7 @@ bits-more k ws old msg new is has =
 pub bits-length : (k : ℕ) (ws old msg : List ℕ) → msg ≡ old ++ bits k ws → length msg ≡ length old + k
 bits-length k ws old msg is = ap length is ∙ length-append old (bits k ws) ∙ ap (λ n. length old + n) (length-bits k ws)
 
--- ---- messages behind others
+-- ---- messages after others
 
 module _ (i : Number) (mail : Mail) (before : Mails) where
   pub two-brought :

@@ -56,7 +56,7 @@ module _ {P : Type 0} (i : Number) (e : Engine P) (links : Links) (s : Strand Ha
       not-stuck all tape (sym (ap (λ t. (run t (mail_left i e.links)).left) at) ∙ ap (λ o. o.left) same ∙ ends.left)
   stands-through (stand.Wants count) same at ends = absurd at
 
--- one gate more, behind those that are through
+-- one gate more, after those that are through
 module _ {P : Type 0} (i : Number) (before added after : Engine P) (gate : Gate) (gates : List Gate) where
   pub one-through :
       (at : Stand) → engine_left i before ≡ Ends (Whole before.values before.tape.1) → gates ≡ gate ∷ [] →

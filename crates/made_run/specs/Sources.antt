@@ -16,7 +16,7 @@ pub record SourceWords : Type 0 where
   pub words : ThreeLists
   pub opened : List ℕ
 
--- the words that each miner draws for m elements, and those behind them
+-- the words that each miner draws for m elements, and those after them
 abbrev pub drawn_lists : Protocol → ℕ → ThreeLists → ThreeLists
 drawn_lists p m tapes =
     record {
@@ -45,7 +45,7 @@ pub record IsDrawn (p : Protocol) (s : SourceWords) : Type 0 where
   pub second : length s.words.second ≡ p.draws (length s.u) Two
   pub third : length s.words.third ≡ p.draws (length s.u) Three
 
--- what belongs to the first m elements, and what is behind it
+-- what belongs to the first m elements, and what is after it
 abbrev pub front : Protocol → ℕ → SourceWords → SourceWords
 front p m s = record { u = take m s.u; words = drawn_lists p m s.words; opened = take (p.opens m) s.opened }
 
@@ -59,7 +59,7 @@ block_mail p i s = p.received (length s.u) i s.u [] (each_of s.words) s.opened
 abbrev pub gate_mail : Protocol → Number → SourceWords → Mail
 gate_mail p i s = (blocked p).received (length s.u) i s.u [] (each_of s.words) s.opened
 
--- the messages of a miner's two links come behind those that came before
+-- the messages of a miner's two links come after those that came before
 pub record Brings (i : Number) (mail : Mail) (before after : Mails) : Type 0 where
   pub previous : after.previous ≡ before.previous ++ mail (from_previous i)
   pub next : after.next ≡ before.next ++ mail (from_next i)

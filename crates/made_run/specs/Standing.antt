@@ -25,7 +25,7 @@ opens_in [] = 0
 opens_in (Joined p n u v ∷ gates) = p.opens n + opens_in gates
 opens_in (Local n f ∷ gates) = opens_in gates
 
--- behind these gates
+-- after these gates
 abbrev pub past : Number → List Gate → Standing → Standing
 past i gates s =
     record {

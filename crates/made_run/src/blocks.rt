@@ -11,7 +11,7 @@ use joint_run::Exchange;
 use proto_core::Number;
 use std::alloc::AllocError;
 
-/// The messages that a gate brings the miner, behind those that came before.
+/// The messages that a gate brings the miner, after those that came before.
 pub(crate) fn add_blocks(
     exchange: Exchange,
     miner: Number,

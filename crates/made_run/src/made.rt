@@ -55,9 +55,9 @@ fn made_for<'a, P: Party>(
 }
 
 /// The messages that the simulator makes for a miner in a run of gates: of its own shares of what was dealt, of the opened words, and of
-/// the tapes that a view is made of. No share of another miner is read. Where an opened word is wanting it is taken as 0.
+/// the tapes that a view is made of. No share of another miner is read. Where an opened word is missing it is taken as 0.
 ///
-/// Each gate has to suit the values before it, and the tapes to reach to the end of the gates. Fails only where memory is wanting.
+/// Each gate has to suit the values before it, and the tapes to reach to the end of the gates. Fails only where memory runs out.
 pub fn made_run<'a>(
     alloc: Global,
     miner: Number,

@@ -42,7 +42,7 @@ fn field(words: &[u64], number: usize, n: usize) -> &[u64]
     &words[from..from + n]
 }
 
-/// The lowest bit of each word, behind what is there.
+/// The lowest bit of each word, after what is there.
 fn append_bits(msg: &mut Msg, words: &[u64])
     requires { length msg.old + length words.now ≤ 2048 }
     ensures bits { msg.new ≡ msg.old ++ bits (length words.now) words.now }
@@ -71,7 +71,7 @@ fn add_product(
     Ok(())
 }
 
-/// What opened words leave without a miner's own new share and the previous one's. Where a word is wanting it is taken as 0.
+/// What opened words leave without a miner's own new share and the previous one's. Where a word is missing it is taken as 0.
 #[tactic(auto, using(proto_core::proofs::Each::each_steps))]
 fn left_of_opened<R: ShareRing>(
     opened: &[u64],
@@ -168,7 +168,7 @@ fn for_third(words: &[u64], n: usize) -> Msg
     msg
 }
 
-/// The bits of a field, with words behind them.
+/// The bits of a field, with words after them.
 fn bits_and(words: &[u64], number: usize, n: usize, behind: &[u64]) -> Msg
     requires short { n ≤ 512 }
     requires drawn { number * n + n ≤ length words.now }
@@ -224,7 +224,7 @@ fn add_conversion(miner: Number, sources: &Sources, mails: &mut Mails) -> Result
     }
 }
 
-/// The messages that a block of at most 512 elements of an exchange brings the miner, behind those that came before.
+/// The messages that a block of at most 512 elements of an exchange brings the miner, after those that came before.
 pub(crate) fn add_block(
     exchange: Exchange,
     miner: Number,

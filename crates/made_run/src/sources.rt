@@ -36,7 +36,7 @@ pub(crate) fn opens(exchange: Exchange, n: usize) -> usize
     }
 }
 
-/// So many words from the front, or all where there are fewer, and what is behind them.
+/// So many words from the front, or all where there are fewer, and what is after them.
 #[tactic(auto, using(crate::proofs::Pieces::cut_steps))]
 pub(crate) fn cut(words: &[u64], count: usize) -> (&[u64], &[u64])
     ensures front { result.0.now ≡ take count words.now }
@@ -49,7 +49,7 @@ pub(crate) fn cut(words: &[u64], count: usize) -> (&[u64], &[u64])
     }
 }
 
-/// The words that each miner draws for n elements, and those behind them.
+/// The words that each miner draws for n elements, and those after them.
 pub(crate) fn draw<'a>(exchange: Exchange, n: usize, tapes: &Tapes<'a>) -> (Tapes<'a>, Tapes<'a>)
     requires { Reach (protocol_of exchange) n tapes.now }
     ensures drawn { result.0 ≡ drawn_lists (protocol_of exchange) n tapes.now }
@@ -79,7 +79,7 @@ pub(crate) fn draw<'a>(exchange: Exchange, n: usize, tapes: &Tapes<'a>) -> (Tape
 }
 
 impl<'a> Sources<'a> {
-    /// What belongs to the first m elements, and what is behind it.
+    /// What belongs to the first m elements, and what is after it.
     pub fn split(self, exchange: Exchange, m: usize) -> (Sources<'a>, Sources<'a>)
         requires within { m ≤ length self.u }
         requires reach { Reach (protocol_of exchange) m self.words }

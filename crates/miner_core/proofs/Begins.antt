@@ -1,6 +1,6 @@
 -- A step that begins its gates, and one that is done again.
-use Rattle.std.proofs.Common.{◌≡◌, ℕ, suc, List, [], length, drop, refl, sym, ◌∙◌, ap, subst}
-use Rattle.std.specs.Prelude.{None}
+use Rattle.std.proofs.Common.{◌≡◌, ℕ, suc, List, [], length, drop, refl, sym, ◌∙◌, ap, subst, slice_get}
+use Rattle.std.specs.Prelude.{Option, None, Some}
 use Rattle.proto_core.specs.declared.party.Number.{Number}
 use Rattle.proto_core.specs.Strand.{then_do}
 use Rattle.gates.specs.declared.gate.Gate.{Gate}
@@ -8,8 +8,11 @@ use Rattle.gates.specs.Clear.{Values}
 use Rattle.language_model.specs.Beginnings.{Begins}
 use Rattle.language_model.specs.Effects.{Stage, World}
 use Rattle.language_model.proofs.Onward.{begins_none}
+use Rattle.bytecode.specs.Raw.{RawCode}
+use Rattle.verified_code.specs.InMemory.{step_at, steps_of as held_steps}
+use Rattle.verified_code.specs.Settled.{settled}
 use Rattle.verified_code.specs.Steps.{Function}
-use Rattle.code_machine.specs.Machine.{Machine}
+use Rattle.code_machine.specs.Machine.{Machine, steps_of}
 use Rattle.value_steps.specs.Views.{stage_seen}
 use Rattle.value_steps.specs.declared.stage.Stage as reached
 use Rattle.code_machine.specs.Marks.{HasGained, again_at}
@@ -35,6 +38,14 @@ use Rattle.miner_core.specs.Views.{task_world, task_code}
 use Rattle.miner_core.specs.Engines.{place_at, code_from, goes_on_at, engine_left, IsThrough, IsQuiet, IsDone, GoesOn}
 use Rattle.miner_core.proofs.Quiet.{QuietAt, quiet_own}
 use Rattle.miner_core.proofs.Turns.{first, IsLed, acts_is, begins, does_again}
+
+-- the step that comes next stands in the code at the place of the machine
+steps_same : (f : Option Function) → held_steps f ≡ steps_of f
+steps_same None = refl
+steps_same (Some f) = refl
+
+pub comes_next : (code : RawCode) (m : running.Machine) → step_at code m.function m.place ≡ next_step (machine_seen code m)
+comes_next code m = ap (λ steps. slice_get steps m.place) (steps_same (slice_get (settled code) m.function))
 
 led_acts : (w : World) (c : List Function) (values : Values) (p : Place) (t : Turned) (m : Machine) (s : Stage) → GoesOn t →
     led_by w c values p (went_as t m s) ≡ went_as t m s

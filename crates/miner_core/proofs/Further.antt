@@ -1,4 +1,4 @@
--- What is the same whatever words of the tape come behind those that were supplied.
+-- What is the same whatever words of the tape come after those that were supplied.
 use Rattle.std.proofs.Common.{◌≡◌, ℕ, List, ◌++◌, sym, ◌∙◌, ap, subst}
 use Rattle.proto_core.specs.declared.party.Number.{Number}
 use Rattle.proto_core.specs.Strand.{run, told_in}
@@ -83,7 +83,7 @@ module _ {P : Type 0} (i : Number) where
       subst (λ w. QuietAt (node.left_at i (node.filled n more) w) (mail_left i n.links)) (sym idle)
       (quiet_wanted i n.dealt n.wanted (node.gates_left i n) n.values (n.tape.1 ++ more) (mail_left i n.links))
 
-  -- behind a call that goes as far as the messages and the words that were supplied lead
+  -- after a call that goes as far as the messages and the words that were supplied lead
   pub quiet_after :
       (n n2 : gates.Engine P) (at : at_gates.Stand) → node.DoesTheSame i n n2 → node.StandsAlways i at n2 → IsQuietAlways i n → IsQuietAlways i n2
   quiet_after n n2 stand.Through same h quiet =

@@ -1,4 +1,4 @@
--- What a miner's gates have come to, behind that what is left behind them.
+-- What a miner's gates have come to, after that what is left after them.
 use Rattle.std.proofs.Common.{◌≡◌, ◌++◌, map, refl, ◌∙◌, ap}
 use Rattle.proto_core.specs.declared.party.Number.{Number}
 use Rattle.proto_core.specs.Strand.{run, then_do, told_in}
@@ -28,7 +28,7 @@ module _ {P : Type 0} (i : Number) (e : Engine P) (n : gates.Engine P) where
   abbrev code_by : Values → From Place
   code_by d = own_code (task_world e.task) (task_code e.task) i d e.fuel
 
-  -- what is behind asks of the gates only what the miner was dealt
+  -- what is after asks of the gates only what the miner was dealt
   behind_same : n.dealt ≡ e.node.dealt → (a : At) (h : Halted) → behind_node i with_node a h ≡ behind_node i e a h
   behind_same dealt a Stuck = refl
   behind_same dealt at.Ready (Whole values tape) = ap (λ d. code_by d (place_at i e) values tape) dealt

@@ -260,7 +260,7 @@ module _ {P : Type 0} (i : Number) (m : LeanMiner P) (w : LeanState) (is : IsLea
 abbrev done_behind : Number → Story → (more : Mail) → List Act
 done_behind i s more = (run (story.node i s).left (added (story.node i s).unread more)).acts
 
--- behind a message that comes, it has done what it had done, and more
+-- after a message that comes, it has done what it had done, and more
 acts_grow : (i : Number) (s : Story) (l : Link) (m : List ℕ) → (later : List Act) × ((story.node i (received i s l m)).acts ≡ (story.node i s).acts ++ later)
 acts_grow i s l m = by_link (same_link (from_previous i) l)
   where

@@ -39,7 +39,7 @@ module _ (w : World) (c : List Function) (p : Place) where
   stage_behind : (told : List ℕ) → (place_of (step_told w c p told)).stage ≡ telling_stage [] (stage_of (run_told told))
   stage_behind told = went_stage p.machine (run_told told)
 
-  -- gates stay, and more may come behind them
+  -- gates stay, and more may come after them
   pub gates_grow : (told : List ℕ) → Begins p.stage.gates (place_of (step_told w c p told)).stage.gates
   gates_grow told =
       subst (λ (s : Stage). Begins p.stage.gates s.gates) (sym (stage_behind told))

@@ -46,7 +46,7 @@ silent_own i dealt (gate ∷ gates) values tape =
         (silent_gates i (own_gate i dealt values gate ∷ []) values tape (gates-silent (λ k. dealt) (sizes_of dealt) (sizes_of values) (gate ∷ []))) more
     by_test false more = tt
 
--- and what comes behind a plan
+-- and what comes after a plan
 silent_behind : (i : Number) (dealt : Values) (gates : List Gate) (h : Halted) → IsSilent (then_gates i dealt gates h)
 silent_behind i dealt gates (Whole values tape) = silent_own i dealt gates values tape
 silent_behind i dealt gates Stuck = tt
@@ -96,7 +96,7 @@ quiet_kept :
 quiet_kept i l l2 s s2 same still h =
     subst (λ r. QuietAt r.left r.unread) still (subst (λ o. QuietAt o.left o.unread) (sym same) (quiet_left s (mail_left i l) h))
 
--- behind a call that goes as far as the messages lead
+-- after a call that goes as far as the messages lead
 pub node_quiet :
     {P : Type 0} (i : Number) (n n2 : gates.Engine P) (at : Rest) → node.engine_outcome i n2 ≡ node.engine_outcome i n → node.EngineStands i
     (gates_stand at) n2 →
@@ -106,7 +106,7 @@ node_quiet i n n2 AtStuck same h quiet = subst (λ s. QuietAt s (mail_left i n2.
 node_quiet i n n2 (AtWait link cause) same h quiet =
     quiet_kept i n.links n2.links (node.engine_left i n) (node.engine_left i n2) same (still-is i n2.links cause (node.engine_left i n2) h.0) quiet
 
--- what stands behind tells all
+-- what stands after tells all
 then_told :
     {A B : Type 0} (s : Strand A) (f : A → Strand B) (x : Mail) → QuietAt s x →
     told_in (run (then_do s f) x).acts ≡ told_in (run (then_do (run s x).left f) (run s x).unread).acts

@@ -1,5 +1,6 @@
 -- An engine stays where its story leads.
 use Rattle.std.proofs.Common.{◌≡◌, ◌≢◌, ℕ, if◌then◌else◌, List, [], ◌∷◌, ◌++◌, append_assoc, map, refl, sym, ◌∙◌, ap, subst}
+use Rattle.std.specs.Option.{option_map_or}
 use Rattle.std.specs.Prelude.{Option, None, Some, Result, Vec}
 use Rattle.std.specs.declared.alloc.Global.{Global}
 use Rattle.std.proofs.lemmas.Bool.{false_from_ne_true}
@@ -7,7 +8,7 @@ use Rattle.proto_core.specs.declared.party.Number.{Number}
 use Rattle.proto_core.specs.declared.link.Link.{Link}
 use Rattle.proto_core.specs.Parties.{to_next, to_previous, from_previous, from_next}
 use Rattle.proto_core.specs.Strand.{Shape, same_link, Mail, Strand, Ends, Acts, Waits, Ran, run, then_do, told_in}
-use Rattle.proto_core.specs.Standing.{AtItsEnd, Awaits, Refuses, standing_with, before_mail, at_fault, fault_of}
+use Rattle.proto_core.specs.Standing.{AtItsEnd, Awaits, Refuses, standing_with, before_mail, fault_of}
 use Rattle.proto_core.specs.declared.refused.BadMessage.{BadMessage}
 use Rattle.language_model.specs.Reports.{beginning}
 use Rattle.code_machine.specs.Machine.{start}
@@ -69,7 +70,7 @@ module _ (i : Number) where
 
     refuses_front : (cause : BadMessage) (shape : Shape) (ms : List (List ℕ)) → HasNoneOf shape (Some cause) ms → before_mail link shape ms ≡ Refuses link cause
     refuses_front cause shape [] h = absurd h
-    refuses_front cause shape (m ∷ ms) h = ap (at_fault link) h
+    refuses_front cause shape (m ∷ ms) h = ap (λ o. option_map_or (Refuses link) o (Awaits link)) h
 
     pub waits_is : (s : Strand Halted) → StandsAt i l None s × AwaitsOn link s → standing_with (then_do s f) (mail_left i l) ≡ Awaits link
     waits_is (Ends a) h = absurd h.0
@@ -91,7 +92,7 @@ module _ (i : Number) where
     waits_no_end shape [] e = not_at_end_awaits link e
     waits_no_end shape (m ∷ ms) e = fault_no_end (fault_of shape m) e
       where
-        fault_no_end : (fault : Option BadMessage) → at_fault link fault ≢ AtItsEnd
+        fault_no_end : (fault : Option BadMessage) → option_map_or (Refuses link) fault (Awaits link) ≢ AtItsEnd
         fault_no_end None e = not_at_end_awaits link e
         fault_no_end (Some cause) e = not_at_end_refuses link cause e
 

@@ -4,7 +4,7 @@ use Rattle.std.proofs.Math.Seq.{drop-append_seam}
 use Rattle.outside.specs.Tapes.{TapesState, Drew, left_of}
 use Rattle.gate_node.specs.Nodes.{IsTapeOf}
 
--- its words are a tape that begins with those drawn, and has as many behind them as are left
+-- its words are a tape that begins with those drawn, and has as many after them as are left
 pub told_tape :
     (s t : TapesState) (party : ℕ) (taken : List ℕ) → s.told ≡ true → Drew s t party taken → IsTapeOf taken (left_of t party) (s.words party)
 told_tape s t party taken told drew =

@@ -69,7 +69,7 @@ module _ {P : Type 0} (i : Number) (e e2 : Engine P) where
   abbrev pub code_at : (fuel : ℕ) → From Place
   code_at fuel = own_code (task_world e.task) (task_code e.task) i e.node.dealt fuel
 
-  -- behind its gates the miner is where the step has led
+  -- after its gates the miner is where the step has led
   abbrev pub IsLed : Type 0
   IsLed = (values : Values) (tape : List ℕ)
       → goes_on_at i e2 e2.at values tape ≡ tell_and_go_on (code_at e2.fuel) (place_at i e) (led_at values first) values tape

@@ -65,7 +65,7 @@ module _ {P : Type 0} (i : Number) where
     pub drew : Drew old new (count_of i) words
     pub supplied : after ≡ with_words before words
 
-  -- it has drawn words, and done and told what it would have with them, whatever words come behind
+  -- it has drawn words, and done and told what it would have with them, whatever words come after
   pub record DrewOn (before after : Engine P) (old new : TapesState) : Type 0 where
     pub taken : List ℕ
     pub drew : Drew old new (count_of i) taken
@@ -97,7 +97,7 @@ module _ {P : Type 0} (i : Number) where
         Leads i (with_words (with_past past after) more) (received i s l m)
     pub rests : (more : List ℕ) → length more ≤ left_for i new → Rests i rest (with_words after more)
 
-  -- with what it has let go of what it had sent, it has done what this story leads to, whatever words come behind those of the story; and so it
+  -- with what it has let go of what it had sent, it has done what this story leads to, whatever words come after those of the story; and so it
   -- rests, where no more do than are ahead
   pub record IsAtRest (past : Past) (e : Engine P) (rest : Rest) (ahead : ℕ) (s : Story) : Type 0 where
     pub sound : IsSoundAlways i e

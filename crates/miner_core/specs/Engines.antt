@@ -64,7 +64,7 @@ rest_of (stand.Wants count) = rest.Stuck
 
 -- ---- what is left
 
--- with further words of its tape behind those that were supplied
+-- with further words of its tape after those that were supplied
 abbrev pub with_words : {P : Type 0} → Engine P → (more : List ℕ) → Engine P
 with_words e more = record e { node = node.filled e.node more }
 
@@ -82,7 +82,7 @@ module _ {P : Type 0} (i : Number) where
   abbrev pub code_from : Engine P → From Place
   code_from e = own_code (task_world e.task) (task_code e.task) i e.node.dealt e.fuel
 
-  -- what it does behind its gates, by what it is at
+  -- what it does after its gates, by what it is at
   abbrev pub goes_on_at : Engine P → At → (values : Values) → (tape : List ℕ) → Strand Ended
   goes_on_at e at.Ready values tape = code_from e (place_at e) values tape
   goes_on_at e at.Again values tape =
@@ -109,7 +109,7 @@ module _ {P : Type 0} (i : Number) where
   abbrev pub engine_told : Engine P → List Notice
   engine_told e = map notice_seen e.notices.items ++ told_in (run (engine_left e) (mail_left i e.node.links)).acts
 
-  -- the same by the words that come behind those that were supplied
+  -- the same by the words that come after those that were supplied
   abbrev pub left_with : Engine P → (more : List ℕ) → Strand Ended
   left_with e more = engine_left (with_words e more)
 
@@ -133,7 +133,7 @@ module _ {P : Type 0} (i : Number) where
   abbrev pub IsThrough : gates.Engine P → Type 0
   IsThrough n = node.engine_left i n ≡ Ends (Whole n.values n.tape.1)
 
-  -- the same whatever words come behind
+  -- the same whatever words come after
   abbrev pub IsQuietAlways : gates.Engine P → Type 0
   IsQuietAlways n = (more : List ℕ) → IsQuiet (node.filled n more)
 
@@ -157,7 +157,7 @@ module _ {P : Type 0} (i : Number) where
     pub node : node.EngineStands i (gates_stand r) e.node
     pub over : r ≡ rest.Through → IsOver e e.at
 
-  -- where it stands whatever words come behind; it may want some
+  -- where it stands whatever words come after; it may want some
   pub record StandsAlways (s : at_gates.Stand) (e : Engine P) : Type 0 where
     pub node : node.StandsAlways i s e.node
     pub over : s ≡ stand.Through → IsOver e e.at
@@ -181,7 +181,7 @@ pub record KeepsLinks {P : Type 0} (before after : Engine P) : Type 0 where
 abbrev pub acting : {P : Type 0} → Engine P → Turned → Speech → Told → Engine P
 acting e t speech before = record e { at = at.Acts t speech before }
 
--- the gates of a step run behind which another step comes
+-- the gates of a step run after which another step comes
 abbrev pub LeadsOn : At → Type 0
 LeadsOn (at.Acts turned.On speech before) = Unit {0}
 LeadsOn a = ⊥

@@ -15,7 +15,7 @@ StaysRefused i s link m =
     (refused : Link) (cause : BadMessage) → stands_at i s ≡ Refuses refused cause →
     (stands_at i (received i s link m) ≡ Refuses refused cause) × ((node i (received i s link m)).acts ≡ (node i s).acts)
 
--- an answer that the message of this link is refused, for this cause, unless memory is wanting
+-- an answer that the message of this link is refused, for this cause, unless memory runs out
 abbrev pub IsThisRefusal : Link → BadMessage → Result Step MinerErr → Type 0
 IsThisRefusal refused cause (Ok step) = ⊥
 IsThisRefusal refused cause (Err (error.NotAwaited link)) = ⊥

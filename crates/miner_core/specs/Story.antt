@@ -37,7 +37,7 @@ pub record Story : Type 0 where
   pub budget : ℕ
   pub from_previous : List (List ℕ)
   pub from_next : List (List ℕ)
-  -- memory was wanting: no more is said
+  -- memory ran out: no more is said
   pub lost : Bool
 
 -- a message more, of the previous miner or else of the next

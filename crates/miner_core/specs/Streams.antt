@@ -17,7 +17,7 @@ use Rattle.miner_core.specs.declared.task.Task.{Task}
 use Rattle.miner_core.specs.Story.{Story, received, start_of, stands_at, IsAnswer}
 use Rattle.miner_core.specs.Drawing.{left_for, HasDrawn, IsLostBy}
 
--- the tape of the story is the words that were drawn; so many are left behind them; and why it is of no further use, if it is
+-- the tape of the story is the words that were drawn; so many are left after them; and why it is of no further use, if it is
 pub record StreamState : Type 0 where
   pub story : Story
   pub ahead : ℕ
@@ -31,7 +31,7 @@ has_lost (Some l) = true
 abbrev pub with_tape : StreamState → (tape : List ℕ) → Story
 with_tape m tape = record m.story { tape = tape; lost = has_lost m.lost }
 
--- where no words come behind those that it has
+-- where no words come after those that it has
 abbrev pub story_so_far : StreamState → Story
 story_so_far m = with_tape m m.story.tape
 
@@ -39,11 +39,11 @@ story_so_far m = with_tape m m.story.tape
 abbrev pub story_in_use : StreamState → Story
 story_in_use m = record m.story { lost = false }
 
--- while it is of use: for its story where no words come behind those that it has drawn
+-- while it is of use: for its story where no words come after those that it has drawn
 abbrev pub ForWordsDrawn : StreamState → (Story → Type 0) → Type 0
 ForWordsDrawn m Q = m.lost ≡ None → Q (story_so_far m)
 
--- while it is of use: for its story with each tape that begins with the words drawn, and has so many behind them
+-- while it is of use: for its story with each tape that begins with the words drawn, and has so many after them
 abbrev pub ForEachTape : StreamState → (Story → Type 0) → Type 0
 ForEachTape m Q = m.lost ≡ None → (tape : List ℕ) → IsTapeOf m.story.tape m.ahead tape → Q (with_tape m tape)
 

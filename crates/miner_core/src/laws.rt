@@ -9,7 +9,7 @@ ghost use Rattle.miner_core.specs.Story.{Story};
 ghost use Rattle.miner_core.specs.Laws.{StaysRefused, AnswersAgain};
 
 /// Law: whatever comes to a miner after a message that it refuses, it refuses that message for the same cause, and sends, opens and tells
-/// no more; so each later delivery answers the same, unless memory is wanting.
+/// no more; so each later delivery answers the same, unless memory runs out.
 pub fn a_refusal_stays()
     ensures stays { (i : Number) (s : Story) (link : Link) (m : List ℕ) → StaysRefused i s link m }
     ensures answers { (i : Number) (before after last : Story) (l k refused : Link) (cause : BadMessage) (m n : List ℕ) (answer : Result Step MinerErr) →

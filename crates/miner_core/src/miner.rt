@@ -21,7 +21,7 @@ use std::marker::Model;
 /// A miner at work on verified code that was given its whole tape. Contracts see its story: what it was made with, and the messages that
 /// came, in order on each of its two links. All that it has sent, opened and told, and where it stands, is a function of these.
 ///
-/// Once memory was wanting, it is of no further use: each delivery answers so.
+/// Once memory ran out, it is of no further use: each delivery answers so.
 pub struct Miner<P: Party> {
     inner: StreamMiner<P>,
 }

@@ -32,7 +32,7 @@ use value_steps::Drawn;
 /// sent, opened and told, and where it stands, is a function of these: what is said holds for every tape that begins with the words drawn, and has
 /// so many after them.
 ///
-/// Once memory was wanting or its tape couldn't be read, it is of no further use: each delivery answers so.
+/// Once memory ran out or its tape couldn't be read, it is of no further use: each delivery answers so.
 pub struct StreamMiner<P: Party> {
     engine: Engine<P>,
     rest: Rest,

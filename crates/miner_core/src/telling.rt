@@ -12,7 +12,7 @@ pub fn last_words(values: &Values) -> &[u64]
     values.value(values.len().saturating_sub(1) as u64)
 }
 
-/// The words behind so many.
+/// The words after so many.
 pub fn words_behind(words: &[u64], count: usize) -> &[u64]
     ensures { result.now ≡ drop count words.now }
 {

@@ -26,7 +26,7 @@ use Rattle.gate_laws.proofs.Singles.{stands_size}
 use Rattle.code_places.proofs.Quiet.{KeptAt, Quiet, quiet_bind, quiet_done, quiet_draw}
 use Rattle.code_places.proofs.QuietRows.{untrapped_quiet, number_quiet}
 
--- why it stops isn't that words are wanting
+-- why it stops isn't that words are missing
 abbrev pub WantsNone : {A : Type 0} → Run A → Type 0
 WantsNone (Ok x) = Unit {0}
 WantsNone (Err e) = IsEnded e.0
@@ -130,7 +130,7 @@ module _ (w : World) (source : w.source ≡ Answers) (v : Value) where
       by Plain e = quiet_leaves true s (declassified w v s) none ((plain_quiet e).from s)
       by (Private k) e = few_left k e s (subst (λ ws. length ws ≤ size v) (sym none) (omega arith))
 
-  -- ---- where words are wanting
+  -- ---- where words are missing
 
   -- the last gate opens the value of this number, made of the stage before it
   pub record OpensLast (s h : Stage) : Type 0 where

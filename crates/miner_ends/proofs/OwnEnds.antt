@@ -2,7 +2,7 @@
 use Rattle.std.proofs.Common.{◌≡◌, ℕ, ◌+◌, ◌-◌, ◌<◌, ◌≤◌, ◌^◌, Bool, true, false, ◌&&◌, nat_le, if◌then◌else◌}
 use Rattle.std.proofs.Common.{List, [], ◌∷◌, ◌++◌, length, take, drop}
 use Rattle.std.proofs.Common.{refl, sym, ◌∙◌, ap, subst, arith, length-drop, length-append}
-use Rattle.std.specs.Prelude.{Option, Some, None, map}
+use Rattle.std.specs.Prelude.{Option, Some, None, map, slice_get}
 use Rattle.std.proofs.lemmas.Bool.{le-leb}
 use Rattle.std.proofs.lemmas.List.{length-map}
 use Rattle.std.proofs.lemmas.Nat.{mod_below}
@@ -13,7 +13,7 @@ use Rattle.proto_core.specs.Strand.{Mail, Strand, Ends, Acts, Waits, Ran, accept
 use Rattle.proto_core.proofs.Each.{AreWords-each}
 use Rattle.proto_core.proofs.Parts.{AreWords-append}
 use Rattle.protocol_model.specs.Gates as model
-use Rattle.protocol_model.specs.Gates.{Joined, Local, nth_value, operand, sizes_of, size_at, needed, gates_strand}
+use Rattle.protocol_model.specs.Gates.{Joined, Local, nth_value, operand, sizes_of, needed, gates_strand}
 use Rattle.protocol_model.proofs.Sizes.{sizes-append, past_end, nth_value-sized}
 use Rattle.gates.specs.Blocks.{block_sizes}
 use Rattle.gates.specs.declared.ring_kind.RingKind.{RingKind}
@@ -98,7 +98,7 @@ needed_apart : (i : Number) (g : model.Gate) (gates : List model.Gate) → neede
 needed_apart i (Joined p n u v) gates = omega arith
 needed_apart i (Local n f) gates = omega arith
 
--- the words that gates draw behind values of these sizes
+-- the words that gates draw after values of these sizes
 abbrev pub draws_of : Number → (dealt : Values) → (sizes : List ℕ) → List Gate → ℕ
 draws_of i dealt sizes gates = needed (run_gates (λ k. dealt) (sizes_of dealt) sizes gates) i
 
@@ -245,7 +245,7 @@ module _ (i : Number) (dealt : Values) (ring : RingKind) (u : ℕ) where
       by_test true = behind
       by_test false = tt
 
-  -- behind others
+  -- after others
   pub opened_last : (before : List Gate) (values : Values) (tape : List ℕ)
       → EndsAlways LastWords (own_gates i dealt (before ++ Open ring u ∷ []) values tape)
   opened_last before values tape =
@@ -258,7 +258,7 @@ module _ (i : Number) (dealt : Values) (ring : RingKind) (u : ℕ) where
       behind Stuck = tt
 
 -- the size of the last of some values
-size_last : (ns : List ℕ) (n : ℕ) → size_at (ns ++ n ∷ []) (length ns) ≡ Some n
+size_last : (ns : List ℕ) (n : ℕ) → slice_get (ns ++ n ∷ []) (length ns) ≡ Some n
 size_last [] n = refl
 size_last (x ∷ ns) n = size_last ns n
 
@@ -267,4 +267,4 @@ last_sized values ns n same =
     let count : length (sizes_of values) ≡ length values = length-map values length in
     let long : length (sizes_of values) ≡ length ns + 1 = ap length same ∙ length-append ns (n ∷ []) in
     let e : length values - 1 ≡ length ns = omega (arith, count, long) in
-    nth_value-sized values (length values - 1) n (ap (λ k. size_at (sizes_of values) k) e ∙ ap (λ s. size_at s (length ns)) same ∙ size_last ns n)
+    nth_value-sized values (length values - 1) n (ap (λ k. slice_get (sizes_of values) k) e ∙ ap (λ s. slice_get s (length ns)) same ∙ size_last ns n)

@@ -56,7 +56,7 @@ use Rattle.miner_ends.proofs.OwnEnds.{both, draws_of, IsGone, gates_go, LastWord
 use Rattle.miner_ends.proofs.Openings.{WantsNone, LeavesNone, OpensSized}
 use Rattle.miner_ends.proofs.Steps.{Opens, opens, none_left_over, wanted, told_wants, told_leaves, opened_sized}
 
--- ---- gates behind gates
+-- ---- gates after gates
 
 suits_behind : (ds sizes : List ℕ) (xs ys : List Gate) → AllSizesSuit ds sizes (xs ++ ys) → AllSizesSuit ds (sizes_after ds sizes xs) ys
 suits_behind ds sizes [] ys h = h
@@ -184,7 +184,7 @@ module _
         through : EndsAlways (IsGone i dealt g values tape) (own_gates i dealt g values tape)
         through = gates_go i dealt g values tape suit reach
 
-        -- and behind them
+        -- and after them
         sizes_then_all : (all : Values) (rest : List ℕ) → IsGone i dealt g values tape (Whole all rest) → sizes_of all ≡ sizes_at (p.stage.gates ++ g)
         sizes_then_all all rest gone =
             gone.0 ∙ ap (λ ds. sizes_after ds (sizes_of values) g) same ∙ ap (λ ns. sizes_after (sizes_of d.inputs) ns g) at.sizes
@@ -273,7 +273,7 @@ module _
         abbrev behind : Led Place → Halted → Strand Ended
         behind led h = behind_gates w c (own_code w c i dealt k) p led h
 
-        -- behind the gates of a step
+        -- after the gates of a step
         pass : (P : Halted → Type 0) (g : List Gate) (u : Stage) → Later p g u → EndsAlways P (own_gates i dealt g values tape) → (led : Led Place)
             → (place_of led).stage.gates ≡ u.gates → ((h : Halted) → P h → EndsWell (behind led h))
             → EndsWell (then_do (own_gates i dealt (gates_between p (place_of led)) values tape) (behind led))

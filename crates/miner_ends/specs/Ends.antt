@@ -24,7 +24,7 @@ pub record IsAnEnd (w : World) (c : List Function) (budget : ℕ) (p : Place) : 
   pub answers : List ℕ
   pub reported : dealing w ≤ w.dealer → EndsThere ending budget (mean_in w c budget answers) p
 
--- a miner has come to such a place: no gate was unfit, no words were wanting, and no steps were left
+-- a miner has come to such a place: no gate was unfit, no words were missing, and no steps were left
 abbrev pub EndsAsItCan : World → List Function → (budget : ℕ) → Ended → Type 0
 EndsAsItCan w c budget (Reached (Stopped p) values) = IsAnEnd w c budget p
 EndsAsItCan w c budget (Reached (Running p) values) = ⊥

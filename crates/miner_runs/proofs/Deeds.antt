@@ -65,7 +65,7 @@ same_standing :
 same_standing made l n f g x =
     record { acts = refl; unread = refl; waits = refl; stands = refl; ends = λ b e. no_end l n g b e }
 
--- where they differ only behind what they begin with
+-- where they differ only after what they begin with
 module _ {A B C : Type 0} (made : C → B) (f : A → Strand B) (g : A → Strand C) where
   abbrev Behind : Strand A → Mail → Type 0
   Behind s x = (a : A) → (run s x).left ≡ Ends a → SameDeeds made (run (f a) (run s x).unread) (run (g a) (run s x).unread)
@@ -105,7 +105,7 @@ module _ {A B C : Type 0} (made : C → B) (f : A → Strand B) (g : A → Stran
 rest_of_mail : (x y : Mail) → MailBegins x y → added x (λ l. drop (length (x l)) (y l)) ≡ y
 rest_of_mail x y h = λ i. λ l. begins-rest (x l) (y l) (h l) i
 
--- where the first part comes to its end with the first messages, what is behind it decides
+-- where the first part comes to its end with the first messages, what is after it decides
 pub then_alike :
     {A B C : Type 0} (made : C → B) (s : Strand A) (f : A → Strand B) (g : A → Strand C) (full more : Mail) (a : A) →
     (run s full).left ≡ Ends a → (run s full).unread ≡ nothing → DoAlike made more (f a) (g a) →

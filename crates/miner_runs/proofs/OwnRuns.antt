@@ -157,7 +157,6 @@ module _ (o : Offered) (d : Dealt) (c : List Function) (budget : ℕ) (tapes : T
         opened = open_the_words;
         told = tell_the_events;
         counted_from = orders_are_counted;
-        counted = deliveries_are_counted;
         in_order = deliveries_are_counted Default ∙ made-order_accepted gates none tapes sound ready (λ k. 0);
         shuffled = λ words. deliveries_are_counted (Shuffled words) ∙ made-order_accepted gates none tapes sound ready words;
         any_order = alike_orders_are_the_run ends_with own known (messages d report tapes) are_alike (shares d report tapes) known_finish;
@@ -170,6 +169,12 @@ module _ (o : Offered) (d : Dealt) (c : List Function) (budget : ℕ) (tapes : T
             ap length (posted_same ends_with own known (messages d report tapes) are_alike mail begins l)
             ∙ posted-counted known (scripts d report) (messages d report tapes) mail (shares d report tapes) known_finish moves begins l;
       }
+
+-- what a delivery comes to is counted
+pub delivery_is_counted :
+    {o : Offered} {d : Dealt} {c : List Function} {budget : ℕ} {tapes : Tapes} {r : Report} → OwnRunAsReported o d c budget tapes r → (delivery : Delivery)
+    → walked (own_nodes o d c budget tapes) 0 nothing (order_of (scripts d r) delivery) ≡ net (scripts d r) delivery
+delivery_is_counted {d = d} {r = r} run delivery = run.counted_from (order_of (scripts d r) delivery) 0 nothing (λ l. tt)
 
 pub own_miners_run_the_code : (o : Offered) (d : Dealt) (c : List Function) (budget : ℕ) (tapes : Tapes) → OwnMinersRunTheCode o d c budget tapes
 own_miners_run_the_code o d c budget tapes may =

@@ -1,4 +1,4 @@
--- Gates that suit, part by part, and the sizes of the values behind them.
+-- Gates that suit, part by part, and the sizes of the values after them.
 use Rattle.std.proofs.Common.{◌≡◌, ℕ, ◌≤◌, List, [], ◌∷◌, ◌++◌, length, drop, refl, ◌∙◌, subst}
 use Rattle.proto_core.specs.declared.party.Number.{Number}
 use Rattle.proto_core.specs.Strand.{Ends, then_do}

@@ -63,7 +63,7 @@ module _ (w : World) (c : List Function) (d : Dealt) (sized : (i : Number) → s
   turn_gates p (Over q) = refl
   turn_gates p (Wants q) = refl
 
-  -- behind its gates it tells what the turn tells, and goes on where the turn leads
+  -- after its gates it tells what the turn tells, and goes on where the turn leads
   behind_same :
       (fuel : ℕ) (i : Number) (p : Place) (z : Went Place) (all : Values) (tape : List ℕ) →
       behind_gates w c (own_code w c i (d.shares i) fuel) p z (Whole all tape) ≡ telling ((turn p z).tells all) (mine fuel i ((turn p z).leads all) all tape)
@@ -75,7 +75,7 @@ module _ (w : World) (c : List Function) (d : Dealt) (sized : (i : Number) → s
   own_turn fuel i p z values tape =
       then_do (own_gates i (d.shares i) (gates_between p (place_of z)) values tape) (behind_gates w c (own_code w c i (d.shares i) fuel) p z)
 
-  -- what each does behind the turn's gates
+  -- what each does after the turn's gates
   abbrev own_behind : (fuel : ℕ) → Number → Turn (Stand Place) → (tape : List ℕ) → Values → Strand Ended
   own_behind fuel i t tape all = telling (t.tells all) (mine fuel i (t.leads all) all (drop (needed t.gates i) tape))
 
@@ -138,7 +138,7 @@ module _ (w : World) (c : List Function) (d : Dealt) (sized : (i : Number) → s
         (telling_alike end_of (t.tells (now i)) (mine fuel i (t.leads (now i)) (now i) (later i)) (driven next fuel i (t.leads (now i)) (now i) (later i))
         more there)))
 
-    -- the sizes of the values behind it
+    -- the sizes of the values after it
     sizes_behind_turn :
         Ready (t).gates values tapes → (i : Number) →
         sizes_of (now i) ≡ sizes_after (sizes_of d.inputs) [] (p.stage.gates ++ gates_between p (place_of z))
@@ -221,7 +221,7 @@ module _ (w : World) (c : List Function) (d : Dealt) (sized : (i : Number) → s
                 subst (AllSizesSuit (sizes_of d.inputs) (suiting p)) (gained_same b q same_there)
                 (suits_front (sizes_of d.inputs) (suiting p) (gained (course.gates a) (course.gates b)) (gates_of course fuel b) suit)
 
-            -- all gates up to the place behind the turn
+            -- all gates up to the place after the turn
             whole : p.stage.gates ++ gates_between p q ≡ q.stage.gates
             whole =
                 ap (λ x. p.stage.gates ++ x) (sym (gained_same b q same_there))

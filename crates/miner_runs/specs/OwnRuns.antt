@@ -6,7 +6,7 @@ use Rattle.proto_core.specs.Strand.{Mail, Strand, told_in}
 use Rattle.proto_core.specs.Net.{nothing, run_of, posted, all_delivered, opened_by, MailBegins, Finishes}
 use Rattle.protocol_model.specs.Arrivals.{arrivals, arrived}
 use Rattle.protocol_model.specs.Complete.{IsComplete}
-use Rattle.protocol_model.specs.Network.{Accepted, Default, Delivery, Shuffled, net, order_of, walked, counted, counts, posted_count}
+use Rattle.protocol_model.specs.Network.{Accepted, Default, Shuffled, order_of, walked, counted, counts, posted_count}
 use Rattle.protocol_model.specs.Runs.{Tapes}
 use Rattle.protocol_model.specs.Schedules.{AnyOrder}
 use Rattle.language_model.specs.Effects.{World, Answers}
@@ -44,9 +44,6 @@ module _ (o : Offered) (d : Dealt) (c : List Function) (budget : ℕ) (tapes : T
     pub counted_from :
         (order : List Link) (entry : ℕ) (mail : Mail) → MailBegins mail (messages d r tapes)
         → walked (own_nodes o d c budget tapes) entry mail order ≡ counted (scripts d r) entry (counts mail) order
-    pub counted :
-        (delivery : Delivery)
-        → walked (own_nodes o d c budget tapes) 0 nothing (order_of (scripts d r) delivery) ≡ net (scripts d r) delivery
     pub in_order : walked (own_nodes o d c budget tapes) 0 nothing (order_of (scripts d r) Default) ≡ Accepted
     pub shuffled : (words : ℕ → ℕ) → walked (own_nodes o d c budget tapes) 0 nothing (order_of (scripts d r) (Shuffled words)) ≡ Accepted
     pub any_order : (order : List Link) → AnyOrder (own_nodes o d c budget tapes) (messages d r tapes) order

@@ -1,5 +1,6 @@
 -- A strand that waits with the beginning of a run's messages has more of them to come.
 use Rattle.std.proofs.Common.{◌≡◌, ◌<◌, ◌-◌, ℕ, List, [], ◌∷◌, ◌++◌, length, drop, Bool, true, false, if◌then◌else◌, Option, Some, None, refl, sym, ◌∙◌, ap}
+use Rattle.std.specs.Option.{option_map_or}
 use Rattle.std.proofs.Common.{subst, arith}
 use Rattle.std.proofs.lemmas.List.{length-drop}
 use Rattle.proto_core.specs.declared.party.Number.{Number}
@@ -8,7 +9,7 @@ use Rattle.proto_core.specs.Parties.{receiver_of, is_same}
 use Rattle.proto_core.specs.Strand.{Shape, Mail, Strand, Ends, Acts, Waits, run, IsEnded}
 use Rattle.proto_core.specs.Net.{added, into, MailBegins}
 use Rattle.proto_core.specs.declared.refused.BadMessage.{BadMessage}
-use Rattle.proto_core.specs.Standing.{AtItsEnd, Awaits, Refuses, at_fault, before_mail, fault_of, standing_with, standing_of}
+use Rattle.proto_core.specs.Standing.{AtItsEnd, Awaits, Refuses, before_mail, fault_of, standing_with, standing_of}
 use Rattle.proto_core.proofs.Numbers.{same_is}
 use Rattle.proto_core.proofs.Strands.{run-none, run-added, added-rest}
 use Rattle.proto_core.proofs.Refusing.{IsStood, run_is_stood, awaits_what_is_not_there}
@@ -24,7 +25,7 @@ refuses_awaits k l cause e = cc
 
 -- ---- nothing more on its link
 
-fault_at : (k l : Link) (o : Option BadMessage) → at_fault k o ≡ Awaits l → k ≡ l
+fault_at : (k l : Link) (o : Option BadMessage) → option_map_or (Refuses k) o (Awaits k) ≡ Awaits l → k ≡ l
 fault_at k l None e = same_awaits k l e
 fault_at k l (Some cause) e = refuses_awaits k l cause e
 

@@ -1,9 +1,9 @@
 -- One net: that of the run, in which views are seen, is the simulator's, and its deliveries are the order of a view's messages.
-use Rattle.std.specs.Prelude.{◌≡◌, ℕ, List, ◌++◌, map, Some}
+use Rattle.std.specs.Prelude.{◌≡◌, ℕ, List, ◌++◌, map, Some, filter}
 use Rattle.proto_core.specs.declared.party.Number.{Number}
 use Rattle.proto_core.specs.declared.link.Link.{Link}
 use Rattle.proto_core.specs.Parties.{receiver_of, is_same}
-use Rattle.protocol_model.specs.Network.{Accepted, Delivery, those}
+use Rattle.protocol_model.specs.Network.{Accepted, Delivery}
 use Rattle.value_file.specs.declared.inputs.Entry.{Entry}
 use Rattle.value_file.specs.Public.{part_of}
 use Rattle.tape_file.specs.Tapes.{FourTapes}
@@ -18,7 +18,7 @@ use Rattle.viewed_run.specs.Deliveries.{net_of, delivered_of}
 
 -- those that lead to a miner, in their order
 abbrev pub links_to : Number → List Link → List Link
-links_to i links = those (λ link. is_same (receiver_of link) i) links
+links_to i links = filter (λ link. is_same (receiver_of link) i) links
 
 -- what a delivery comes to in the run, and the links that it delivers, are the same in the simulator's net and in a view
 pub record IsOneNet (i : Number) (p : TypedProgramTree) (entries : List Entry) (t : FourTapes) (budget : ℕ) (delivery : Delivery) : Type 0 where

@@ -4,10 +4,9 @@ use Rattle.share_ring.specs.Ring.{Ring, RingLaws}
 use Rattle.proto_core.specs.declared.party.Number.{Number}
 use Rattle.proto_core.specs.declared.party.Number.TheVariants.{One, Two, Three}
 use Rattle.proto_core.specs.Parties.{to_next, to_previous, from_previous, from_next}
-use Rattle.proto_core.specs.Strand.{Sent, Acts, Waits}
+use Rattle.proto_core.specs.Strand.{Sent, Acts, Waits, one_field}
 use Rattle.proto_core.specs.Protocol.{Joint}
 use Rattle.proto_core.specs.Resharing.{reshared, reshared_of, sum_of_three}
-use Rattle.reshare.specs.Resharing.{one_field}
 use Rattle.open_result.specs.declared.together.Part.{Part}
 use Rattle.open_result.specs.Opening.{open_strand, open_ends, open_from_next, open_from_previous, open_messages, opened_words, finished}
 use Rattle.open_result.specs.OpeningRuns.{open-run}

@@ -6,12 +6,11 @@ use Rattle.proto_core.specs.declared.party.Number.{Number}
 use Rattle.proto_core.specs.declared.party.Number.TheVariants.{One, Two, Three}
 use Rattle.proto_core.specs.Parties.{next_of, previous_of, to_next, to_previous, from_previous, from_next, sender_of, is_forward, is_same}
 use Rattle.proto_core.specs.Lists.{at, each}
-use Rattle.proto_core.specs.Strand.{Mail, Sent, Opened, Strand, Ends, Acts, Waits, Ran}
+use Rattle.proto_core.specs.Strand.{Mail, Sent, Opened, Strand, Ends, Acts, Waits, Ran, one_field}
 use Rattle.proto_core.specs.Script.{Move, Sends, Takes}
 use Rattle.proto_core.specs.Net.{mail_of, nothing}
 use Rattle.proto_core.specs.Protocol.{Joint, Protocol}
 use Rattle.proto_core.specs.Resharing.{reshared, reshared_of, sum_of_three}
-use Rattle.reshare.specs.Resharing.{one_field}
 
 -- ---- one miner
 

@@ -8,7 +8,7 @@ use Rattle.proto_core.specs.declared.link.Link.TheVariants.{Link12, Link13, Link
 use Rattle.proto_core.specs.Parties.{next_of, previous_of, is_same, sender_of, receiver_of}
 use Rattle.proto_core.specs.Lists.{AreWords}
 use Rattle.proto_core.specs.Script.{EndsWith, Matched, Moves, UsesOwnLinks, sends_on}
-use Rattle.proto_core.specs.Strand.{opened_in}
+use Rattle.proto_core.specs.Strand.{opened_in, one_field}
 use Rattle.proto_core.specs.Net.{opened_by}
 use Rattle.proto_core.specs.Protocol.{Joint, Fits, with_words, strands_of, AreMessages, IsMessage, AreBlocks, Sound, Private, Lawful}
 use Rattle.proto_core.specs.Resharing.{reshared, reshared_of, sum_of_three}
@@ -16,7 +16,6 @@ use Rattle.proto_core.proofs.Beginnings.{append-none}
 use Rattle.proto_core.proofs.MessageFields.{accepts-one_words}
 use Rattle.proto_core.proofs.ResharingLaws.{length-sum_of_three, AreWords-sum_of_three, length-reshared, AreWords-reshared, reshared-twice, left_over}
 use Rattle.proto_core.proofs.ResharingLaws.{swap_last, swap_first, swap_ends, sum-reshared}
-use Rattle.reshare.specs.Resharing.{one_field}
 use Rattle.open_result.specs.Opening.{open_protocol, open_script, open_strand, open_messages, open_tape, open_received, left_of_opened, opened_words, Opens}
 use Rattle.open_result.specs.OpeningRuns.{open-run, open-finishes}
 

@@ -7,14 +7,13 @@ use Rattle.proto_core.specs.declared.link.Link.{Link}
 use Rattle.proto_core.specs.declared.link.Link.TheVariants.{Link12, Link13, Link21, Link23, Link31, Link32}
 use Rattle.proto_core.specs.Parties.{next_of, previous_of, to_next, to_previous, sender_of}
 use Rattle.proto_core.specs.Resharing.{reshared, reshared_of, sum_of_three}
-use Rattle.proto_core.specs.Strand.{Act, Sent, Opened, Strand, Ends, Ran, acted, run, on_link, Begins}
+use Rattle.proto_core.specs.Strand.{Act, Sent, Opened, Strand, Ends, Ran, acted, run, on_link, Begins, one_field}
 use Rattle.proto_core.specs.Net.{nothing, mail_of, posted, run_of, rounds, Finishes}
 use Rattle.proto_core.specs.Protocol.{Joint, strands_of}
 use Rattle.proto_core.proofs.Beginnings.{begins-self}
 use Rattle.proto_core.proofs.MessageFields.{accepts-one_words}
 use Rattle.proto_core.proofs.Nodes.{into-is, mail-none, run-previous, run-next, run-waits_previous}
 use Rattle.proto_core.proofs.ResharingLaws.{length-reshared, swap_last, swap_first, swap_ends}
-use Rattle.reshare.specs.Resharing.{one_field}
 use Rattle.open_result.specs.Opening.{open_strand, open_sends, open_from_next, open_ends, open_messages, opened_words, open_protocol, finished}
 
 -- what a miner sends: its mask, and its new share twice

@@ -1,4 +1,4 @@
--- As many values are made as gates say, behind those that were there, whatever messages come.
+-- As many values are made as gates say, after those that were there, whatever messages come.
 use Rattle.std.proofs.Common.{◌≡◌, ℕ, ◌+◌, Bool, true, false, List, [], ◌∷◌, ◌++◌, length, take, drop, refl, sym, ◌∙◌, ap, subst}
 use Rattle.std.proofs.Common.{append_assoc, append-nil, length-append}
 use Rattle.std.specs.Prelude.{Option, Some, None}

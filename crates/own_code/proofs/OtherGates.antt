@@ -93,7 +93,7 @@ module _ (on : From Place) (alike : GoesOnAlike on) (before : List Gate) (p : Pl
 -- ---- TURN AFTER TURN
 
 module _ (w : World) (c : List Function) (i : Number) (dealt : Values) where
-  -- the gates of a step, and what is behind them
+  -- the gates of a step, and what is after them
   abbrev turn : From Place → Place → Went Place → Values → List ℕ → Strand own.Ended
   turn on p x values tape = then_do (own_gates i dealt (gates_between p (place_of x)) values tape) (behind_gates w c on p x)
 

@@ -16,7 +16,7 @@ use Rattle.own_code.specs.OwnCode.{Ended, Reached, Unfit, own_code}
 
 -- ---- gates
 
--- an end with so many values behind these
+-- an end with so many values after these
 abbrev pub HasBehind : Values → ℕ → Halted → Type 0
 HasBehind values n (Whole all tape) = (made : Values) × (all ≡ values ++ made) × (length made ≡ n)
 HasBehind values n Stuck = Unit {0}

@@ -42,7 +42,7 @@ module _ (w : World) (c : List Function) where
   led_by values p (Over q) = Over q
   led_by values p (Wants q) = step_told w c p (last_of values)
 
-  -- behind the gates of a step
+  -- after the gates of a step
   abbrev pub behind_gates : From Place → Place → Went Place → Halted → Strand Ended
   behind_gates on p went (Whole values tape) = tell_and_go_on on p (led_by values p went) values tape
   behind_gates on p went Stuck = Ends Unfit

@@ -9,7 +9,7 @@ ghost use Rattle.verified_code.specs.Steps.{Function};
 ghost use Rattle.code_places.specs.Places.{Place};
 ghost use Rattle.own_code.specs.LettingGo.{MakeWhatTheyCount, GatesNeedWhatTheyTake, CodeNeedsWhatItNames};
 
-/// Law: whatever messages come, gates that come to an end have made as many values as they count, behind those that were there.
+/// Law: whatever messages come, gates that come to an end have made as many values as they count, after those that were there.
 pub fn gates_make_what_they_count()
     ensures { (i : Number) (dealt : Values) (gates : List Gate) (values : Values) (tape : List ℕ) (mail : Mail) →
         MakeWhatTheyCount i dealt gates values tape mail }

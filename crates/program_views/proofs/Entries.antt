@@ -67,7 +67,7 @@ pub comes-none :
     (l : Link) (message : Option (List ℕ)) (got more : List Arrival) → more ≡ got → message ≡ None → more ≡ got ++ come_with l message []
 comes-none l message got more has none = has ∙ sym (append-none got) ∙ ap (λ x. got ++ come_with l x []) (sym none)
 
--- the entry of a place in the order, behind those before it
+-- the entry of a place in the order, after those before it
 pub entry-goes :
     (before after : ToCome) (k : ℕ) (d : Link) (order : List Link) (message : Option (List ℕ)) (got more whole : List Arrival) →
     k < length order → message ≡ brought before (get_or order k d) → after.miner ≡ before.miner →

@@ -14,7 +14,7 @@ use Rattle.program_views.specs.Views.{lengths_of, run_on, view_of, simulated}
 use Rattle.program_views.specs.TapeMaps.{mapped}
 
 -- there is a view, with as many words drawn as the report counts; and the simulator makes it of the public part of the inputs, the words
--- that were opened, also with more words behind them, and the mapped tapes
+-- that were opened, also with more words after them, and the mapped tapes
 pub record ViewIsSimulated (i : Number) (p : TypedProgramTree) (entries : List Entry) (t : FourTapes) (budget : ℕ) (delivery : Delivery) : Type 0 where
   pub view : View
   pub seen : view_of i p entries t budget delivery ≡ Some view

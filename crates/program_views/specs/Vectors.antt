@@ -79,7 +79,7 @@ pub sum_seen_by_three : view_of Three sum (pair 6 7) tapes 100 Default ≡ Some 
 unfolding sum tapes pair value arguments turns repeats execute execute_all call_at reshared each part cross sum_of_three
 sum_seen_by_three = refl
 
--- the simulator is told 13, and what stands behind it is left
+-- the simulator is told 13, and what stands after it is left
 pub made_for_three : simulated Three sum (part_of (pair 6 7)) (13 ∷ 8 ∷ []) (mapped Three sum (pair 6 7) tapes 100) 100 Default ≡ Some third
 unfolding sum tapes pair value arguments turns repeats execute execute_all call_at to_simulated reshared each part cross sum_of_three
 made_for_three = refl

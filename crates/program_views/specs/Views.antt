@@ -48,14 +48,11 @@ input_shares (entry ∷ entries) = share_then entry.name entry.part (input_share
 abbrev pub received : Arrival → Received
 received a = record { link = a.link; message = a.message }
 
-abbrev pub opening_then : Event → List (List Element) → List (List Element)
-opening_then (Open elements) more = elements ∷ more
-opening_then (Publish text elements) more = more
-
 -- what was opened, opening by opening
 abbrev pub openings : List Event → List (List Element)
 openings [] = []
-openings (event ∷ events) = opening_then event (openings events)
+openings (Open elements ∷ events) = elements ∷ openings events
+openings (Publish text elements ∷ events) = openings events
 
 abbrev pub nothing_seen : Seen
 nothing_seen = record { inputs = []; drew = []; got = [] }

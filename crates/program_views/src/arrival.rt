@@ -20,7 +20,7 @@ impl Model for Arrival {
 }
 
 impl Arrival {
-    /// The message, as it came on this link. Fails where memory is wanting.
+    /// The message, as it came on this link. Fails where memory runs out.
     pub(crate) fn new(alloc: Global, link: Link, message: &Msg) -> Result<Self, AllocError>
         ensures { IfOk result (λ a. a ≡ record { link = link; message = message.now }) }
     {

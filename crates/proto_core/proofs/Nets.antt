@@ -130,7 +130,7 @@ module _ {A B : Type 0} (first : Number → Strand A) (next : Number → A → S
   first-done : MailBegins full (rounds both f.count nothing)
   first-done l = begins-trans _ _ _ (f.all l) (first-rounds f.count l)
 
-  -- and then the second's behind them
+  -- and then the second's after them
   second-rounds : (k : ℕ) → MailBegins (added full (rounds second k nothing)) (rounds both k (rounds both f.count nothing))
   second-rounds zero l = subst (λ v. Begins v (rounds both f.count nothing l)) (sym (append-none (full l))) (first-done l)
   second-rounds (suc k) l =

@@ -1,5 +1,6 @@
 -- Where a miner refuses a message, it says what the protocol's own refusal says, and goes on refusing it.
 use Rattle.std.proofs.Common.{◌≡◌, ◌≢◌, ℕ, zero, suc, ◌+◌, ◌*◌, ◌<◌, ◌≤◌, ◌==◌, Bool, true, false, ◌&&◌, if◌then◌else◌}
+use Rattle.std.specs.Option.{option_or, option_map_or}
 use Rattle.std.proofs.Common.{List, [], ◌∷◌, ◌++◌, length, take, drop, refl, sym, ◌∙◌, ap, ap₂, subst, arith, inl, inr, is_none, length-append}
 use Rattle.std.specs.Prelude.{Option, Some, None, replicate}
 use Rattle.std.specs.List.{list_all}
@@ -12,7 +13,7 @@ use Rattle.proto_core.specs.Lists.{at}
 use Rattle.proto_core.specs.Refusals.{WrongLength, WrongBit, RefusesBits}
 use Rattle.proto_core.specs.Strand.{Field, Words, Bits, Shape, shaped, is_bit, has_bits, accepts, Mail, Strand, Ends, Acts, Waits, taken, Ran, run}
 use Rattle.proto_core.specs.Net.{added}
-use Rattle.proto_core.specs.Standing.{first_no_bit, or_later, bad_bit, fault_of, Awaits, Refuses, AtItsEnd, before_mail, at_fault, standing_with, standing_of}
+use Rattle.proto_core.specs.Standing.{first_no_bit, bad_bit, fault_of, Awaits, Refuses, AtItsEnd, before_mail, standing_with, standing_of}
 use Rattle.proto_core.proofs.Beginnings.{append-none}
 use Rattle.proto_core.proofs.Strands.{run-none, run-took, run-refused, run-added, followed}
 
@@ -24,7 +25,7 @@ no_bit place (x ∷ xs) =
     elim (is_bit x) as (λ b. is_none (if b then first_no_bit (place + 1) xs else Some (NotABit place x)) ≡ (b && list_all is_bit xs))
     [ true ↦ no_bit (place + 1) xs | false ↦ refl ]
 
-neither : (a b : Option BadMessage) → is_none (or_later a b) ≡ (is_none a && is_none b)
+neither : (a b : Option BadMessage) → is_none (option_or a b) ≡ (is_none a && is_none b)
 neither None b = refl
 neither (Some cause) b = refl
 
@@ -113,7 +114,7 @@ large : (x y : ℕ) → x ≡ y → 1 < y → 1 < x
 large x y e l = omega arith
 
 module _ (n before after : ℕ) (m : List ℕ) where
-  -- one field of bits, with fields of words before it and behind it
+  -- one field of bits, with fields of words before it and after it
   abbrev pub one_bit_field : Shape
   one_bit_field = shaped n (replicate before Words ++ Bits ∷ replicate after Words)
 
@@ -128,7 +129,7 @@ module _ (n before after : ℕ) (m : List ℕ) where
       let long : h.place < length field = omega (arith, first.within, length-take n (drop (before * n) m), length-drop (before * n) m) in
       behind_words n 0 before (Bits ∷ replicate after Words) m
       ∙ ap (λ p. bad_bit n p (Bits ∷ replicate after Words) (drop (before * n) m)) (nothing_more (before * n))
-      ∙ ap (λ o. or_later o (bad_bit n (before * n + n) (replicate after Words) (drop n (drop (before * n) m))))
+      ∙ ap (λ o. option_or o (bad_bit n (before * n + n) (replicate after Words) (drop n (drop (before * n) m))))
       (first_is (before * n) field h.place long (λ k below. small _ _ (at_field k (omega (arith, first.within))) (first.first k below))
       (large _ _ there first.above)
       ∙ ap (λ w. Some (NotABit (before * n + h.place) w)) there)
@@ -169,7 +170,7 @@ one_times n = omega arith
 two_times : (n : ℕ) → 1 * n + n ≤ 2 * n
 two_times n = omega arith
 
--- so in the messages that have a field of bits: behind, between or before words, or alone
+-- so in the messages that have a field of bits: after, between or before words, or alone
 module _ {S : Type 0} (state : S) (n : ℕ) (m : List ℕ) (refused : Refused S) where
   pub bits_between_words : RefusesBits state m (3 * n) n n refused → fault_of (shaped n (Words ∷ Bits ∷ Words ∷ [])) m ≡ Some refused.cause
   bits_between_words h = wrong_bits_are_told n 1 1 m state (3 * n) n refused refl (one_times n) (omega arith) h
@@ -242,7 +243,7 @@ refuses_on (Waits k n f) unread y l cause stood e = by_mail (unread k) refl
         let more : added unread y k ≡ m ∷ (ms ++ y k) = ap (λ v. v ++ y k) g in
         (run-refused k n f (added unread y) m (ms ++ y k) more (stood m ms g), ap (before_mail k n) more ∙ sym (ap (before_mail k n) g) ∙ e)
 
--- whatever comes behind a refused message, a miner refuses it again, for the same cause, and does no more
+-- whatever comes after a refused message, a miner refuses it again, for the same cause, and does no more
 pub refused_stays :
     {A : Type 0} (s : Strand A) (x y : Mail) (l : Link) (cause : BadMessage) → standing_of (run s x) ≡ Refuses l cause →
     (standing_of (run s (added x y)) ≡ Refuses l cause) × ((run s (added x y)).acts ≡ (run s x).acts)
@@ -252,7 +253,7 @@ refused_stays s x y l cause e =
     let whole = run-added s x y ∙ ap (followed r) still.0 in
     (ap standing_of whole ∙ still.1, ap (λ q. q.acts) whole ∙ append-none r.acts)
 
-faulty : {P : Type 0} (l k : Link) (o : Option BadMessage) → is_none o ≡ false → at_fault k o ≡ Awaits l → P
+faulty : {P : Type 0} (l k : Link) (o : Option BadMessage) → is_none o ≡ false → option_map_or (Refuses k) o (Awaits k) ≡ Awaits l → P
 faulty l k None e g = cc
 faulty l k (Some cause) e g = cc
 

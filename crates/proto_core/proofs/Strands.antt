@@ -196,7 +196,7 @@ run-then_do {A} {B} (Waits l n k) f x = by_mail (x l) refl (λ m. run-then_do (k
             ∙ sym (ap (λ r. followed r (run (then_do r.left f) r.unread)) (run-took l n k x m ms e e2))
         by_size false e2 = sym (ap (λ r. followed r (run (then_do r.left f) r.unread)) (run-refused l n k x m ms e e2))
 
--- the second begins with the mail that the first leaves and all that is behind it
+-- the second begins with the mail that the first leaves and all that is after it
 pub run-then : {A B : Type 0} (s : Strand A) (f : A → Strand B) (x y : Mail) (a : A) → (run s x).left ≡ Ends a
     → run (then_do s f) (added x y) ≡ followed (run s x) (run (f a) (added (run s x).unread y))
 run-then s f x y a e =

@@ -1,19 +1,9 @@
 -- The three miners, in a ring of three, and the links between them.
-use Rattle.std.specs.Prelude.{ℕ, Bool, true, false, List, codes}
+use Rattle.std.specs.Prelude.{ℕ, Bool, true, false, List, codes, ◌++◌}
 use Rattle.proto_core.specs.declared.party.Number.{Number}
 use Rattle.proto_core.specs.declared.party.Number.TheVariants.{One, Two, Three}
 use Rattle.proto_core.specs.declared.link.Link.{Link}
 use Rattle.proto_core.specs.declared.link.Link.TheVariants.{Link12, Link13, Link21, Link23, Link31, Link32}
-
-abbrev pub next_of : Number → Number
-next_of One = Two
-next_of Two = Three
-next_of Three = One
-
-abbrev pub previous_of : Number → Number
-previous_of One = Three
-previous_of Two = One
-previous_of Three = Two
 
 -- what each of the three has
 abbrev pub of_three : {A : Type 0} → A → A → A → Number → A
@@ -21,15 +11,17 @@ of_three x y z One = x
 of_three x y z Two = y
 of_three x y z Three = z
 
+abbrev pub next_of : Number → Number
+next_of = of_three Two Three One
+
+abbrev pub previous_of : Number → Number
+previous_of = of_three Three One Two
+
 abbrev pub count_of : Number → ℕ
-count_of One = 1
-count_of Two = 2
-count_of Three = 3
+count_of = of_three 1 2 3
 
 abbrev pub number_text : Number → List ℕ
-number_text One = codes "1"
-number_text Two = codes "2"
-number_text Three = codes "3"
+number_text = of_three (codes "1") (codes "2") (codes "3")
 
 -- who sends on a link, and who receives
 abbrev pub sender_of : Link → Number
@@ -50,14 +42,10 @@ receiver_of Link32 = Two
 
 -- the link to the next miner, and the one to the previous
 abbrev pub to_next : Number → Link
-to_next One = Link12
-to_next Two = Link23
-to_next Three = Link31
+to_next = of_three Link12 Link23 Link31
 
 abbrev pub to_previous : Number → Link
-to_previous One = Link13
-to_previous Two = Link21
-to_previous Three = Link32
+to_previous = of_three Link13 Link21 Link32
 
 -- the link from the previous miner, and the one from the next
 abbrev pub from_previous : Number → Link
@@ -66,26 +54,16 @@ from_previous i = to_next (previous_of i)
 abbrev pub from_next : Number → Link
 from_next i = to_previous (next_of i)
 
--- whether a link goes to its sender's next
-abbrev pub is_forward : Link → Bool
-is_forward Link12 = true
-is_forward Link13 = false
-is_forward Link21 = false
-is_forward Link23 = true
-is_forward Link31 = true
-is_forward Link32 = false
-
 abbrev pub is_same : Number → Number → Bool
 is_same One One = true
 is_same Two Two = true
 is_same Three Three = true
 is_same _ _ = false
 
+-- whether a link goes to its sender's next
+abbrev pub is_forward : Link → Bool
+is_forward l = is_same (receiver_of l) (next_of (sender_of l))
+
 -- a link's text: its sender's number, then its receiver's
 abbrev pub link_text : Link → List ℕ
-link_text Link12 = codes "12"
-link_text Link13 = codes "13"
-link_text Link21 = codes "21"
-link_text Link23 = codes "23"
-link_text Link31 = codes "31"
-link_text Link32 = codes "32"
+link_text l = number_text (sender_of l) ++ number_text (receiver_of l)

@@ -2,7 +2,7 @@
 use Rattle.std.specs.Prelude.{◌≡◌, ℕ, ◌*◌, Bool, true, ◌==◌, ◌&&◌, nat_lt, if◌then◌else◌, List, [], ◌∷◌, ◌++◌, length, take, drop}
 use Rattle.std.specs.List.{list_all}
 use Rattle.proto_core.specs.declared.link.Link.{Link}
-use Rattle.proto_core.specs.declared.link.Link.TheVariants.{Link12, Link13, Link21, Link23, Link31, Link32}
+use Rattle.proto_core.specs.Parties.{sender_of, receiver_of, is_same}
 
 -- ---- messages
 
@@ -18,6 +18,10 @@ pub record Shape : Type 0 where
 
 abbrev pub shaped : ℕ → List Field → Shape
 shaped n fields = record { count = n; fields = fields }
+
+-- one field of n words
+abbrev pub one_field : ℕ → Shape
+one_field n = shaped n (Words ∷ [])
 
 abbrev pub is_bit : ℕ → Bool
 is_bit x = nat_lt x 2
@@ -71,25 +75,16 @@ then_do (Waits l shape k) f = Waits l shape (λ m. then_do (k m) f)
 abbrev pub Mail : Type 0
 Mail = Link → List (List ℕ)
 
--- a number for each link, by which links are compared
-abbrev pub link_code : Link → ℕ
-link_code Link12 = 12
-link_code Link13 = 13
-link_code Link21 = 21
-link_code Link23 = 23
-link_code Link31 = 31
-link_code Link32 = 32
-
 abbrev pub same_link : Link → Link → Bool
-same_link l k = link_code l == link_code k
-
-abbrev pub rest_of : List (List ℕ) → List (List ℕ)
-rest_of [] = []
-rest_of (m ∷ ms) = ms
+same_link l k = is_same (sender_of l) (sender_of k) && is_same (receiver_of l) (receiver_of k)
 
 -- without the oldest message of a link
 abbrev pub taken : Link → Mail → Mail
-taken l mail k = if same_link l k then rest_of (mail k) else mail k
+taken l mail k = if same_link l k then drop 1 (mail k) else mail k
+
+-- the same of the messages of one link
+abbrev pub rest_of : List (List ℕ) → List (List ℕ)
+rest_of ms = drop 1 ms
 
 -- what it has done, what is left of it, and what it hasn't taken
 pub record Ran (A : Type 0) : Type 0 where
@@ -123,22 +118,19 @@ IsEnded (Waits l shape k) = ⊥
 abbrev pub on_link : Link → List Act → List (List ℕ)
 on_link l [] = []
 on_link l (Sent k m ∷ acts) = if same_link l k then m ∷ on_link l acts else on_link l acts
-on_link l (Opened w ∷ acts) = on_link l acts
-on_link l (Told t ∷ acts) = on_link l acts
+on_link l (_ ∷ acts) = on_link l acts
 
 -- the words that it learns, one after another
 abbrev pub opened_in : List Act → List ℕ
 opened_in [] = []
-opened_in (Sent k m ∷ acts) = opened_in acts
 opened_in (Opened w ∷ acts) = w ++ opened_in acts
-opened_in (Told t ∷ acts) = opened_in acts
+opened_in (_ ∷ acts) = opened_in acts
 
 -- what it tells, in order
 abbrev pub told_in : List Act → List Notice
 told_in [] = []
-told_in (Sent k m ∷ acts) = told_in acts
-told_in (Opened w ∷ acts) = told_in acts
 told_in (Told t ∷ acts) = t ∷ told_in acts
+told_in (_ ∷ acts) = told_in acts
 
 -- ---- lists of which one begins the other
 
@@ -155,7 +147,4 @@ Agree (x ∷ xs) (y ∷ ys) = (x ≡ y) × Agree xs ys
 
 -- the element of the second at the length of the first, if there is one
 abbrev pub next_after : {A : Type 0} → List A → List A → List A
-next_after [] [] = []
-next_after [] (y ∷ ys) = y ∷ []
-next_after (x ∷ xs) [] = []
-next_after (x ∷ xs) (y ∷ ys) = next_after xs ys
+next_after xs ys = take 1 (drop (length xs) ys)

@@ -61,7 +61,7 @@ impl Messages {
         }
     }
 
-    /// A message of these words, and those behind them, more at the end; with no memory left the list is as before.
+    /// A message of these words, and those after them, more at the end; with no memory left the list is as before.
     #[tactic(auto, using(crate::proofs::MessageListsLemmas::pushed))]
     pub fn push_two(&mut self, first: &[u64], second: &[u64]) -> Result<(), AllocError>
         requires { length first.now + length second.now ≤ 2048 }

@@ -36,7 +36,7 @@ next-leaves (x ∷ xs) (y ∷ ys) rest b h = ap (λ ms. x ∷ ms) (next-leaves x
 refused : {P : Type 0} (entry : ℕ) (l : Link) (sent : ℕ) → EmptyLink entry l sent ≡ Accepted → P
 refused entry l sent e = cc
 
--- what is still to come behind what was delivered
+-- what is still to come after what was delivered
 abbrev pub Parted : Mail → Mail → Mail → Type 0
 Parted mail rest full = (l : Link) → mail l ++ rest l ≡ full l
 

@@ -1,5 +1,6 @@
 -- A schedule is accepted where all three miners have ended, and then nothing is left to come.
 use Rattle.std.proofs.Common.{◌≡◌, ℕ, ◌+◌, Bool, true, false, if◌then◌else◌, List, [], ◌∷◌, ◌++◌, refl, sym, ◌∙◌, ap, subst}
+use Rattle.std.specs.Option.{option_map_or}
 use Rattle.std.specs.Prelude.{Option, Some, None}
 use Rattle.proto_core.specs.declared.party.Number.{Number}
 use Rattle.proto_core.specs.declared.party.Number.TheVariants.{One, Two, Three}
@@ -11,7 +12,7 @@ use Rattle.proto_core.proofs.Beginnings.{begins-rest, append-none}
 use Rattle.proto_core.proofs.Strands.{run-none, run-took, run-refused, run-added, run-ended, followed}
 use Rattle.proto_core.proofs.Nets.{into-more, covers, orders-begin}
 use Rattle.proto_core.proofs.Numbers.{same_itself}
-use Rattle.protocol_model.specs.Network.{Accepted, Stalled, or_stalled, at_the_end, waits_for, walked}
+use Rattle.protocol_model.specs.Network.{Accepted, Stalled, at_the_end, waits_for, walked}
 use Rattle.protocol_model.specs.Arrivals.{to_come}
 use Rattle.protocol_model.specs.Complete.{IsComplete, IsThrough}
 use Rattle.protocol_model.proofs.Coming.{goes-on}
@@ -39,7 +40,7 @@ not_waiting (Waits l n k) mail e = by_mail (mail l) refl (λ m g. not_waiting (k
 no_stall : {P : Type 0} (i : Number) (l : Link) → Stalled i l ≡ Accepted → P
 no_stall i l e = cc
 
-nobody_first : (i : Number) (w : Option Link) (later : _) → or_stalled i w later ≡ Accepted → (w ≡ None) × (later ≡ Accepted)
+nobody_first : (i : Number) (w : Option Link) (later : _) → option_map_or (Stalled i) w later ≡ Accepted → (w ≡ None) × (later ≡ Accepted)
 nobody_first i None later e = (refl, e)
 nobody_first i (Some l) later e = no_stall i l e
 

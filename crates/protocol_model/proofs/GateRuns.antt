@@ -1,7 +1,7 @@
 -- Three miners that do the same gates come to the end, with the joint run's messages, values and opened words.
 use Rattle.std.proofs.Common.{◌≡◌, ℕ, suc, ◌+◌, ◌≤◌, true, false, if◌then◌else◌, List, [], ◌∷◌, ◌++◌, length, take, drop, refl, sym, ◌∙◌, ap, subst}
 use Rattle.std.proofs.Common.{arith, length-append}
-use Rattle.std.specs.Prelude.{Some}
+use Rattle.std.specs.Prelude.{Some, slice_get}
 use Rattle.std.proofs.lemmas.List.{length-take-le, length-drop}
 use Rattle.proto_core.specs.declared.party.Number.{Number}
 use Rattle.proto_core.specs.declared.link.Link.{Link}
@@ -12,7 +12,7 @@ use Rattle.proto_core.specs.Net.{into, run_of, nothing, opened_by, Finishes}
 use Rattle.proto_core.specs.Protocol.{AreMessages, Protocol, Fits, strands_of}
 use Rattle.proto_core.proofs.Strands.{opened-append}
 use Rattle.proto_core.proofs.Nets.{finishes-both, run-both}
-use Rattle.protocol_model.specs.Gates.{Gate, Joined, Local, nth_value, operand, size_at, HasSize, sizes_of, Sized, AreSound, needed, gates_strand, gates_script}
+use Rattle.protocol_model.specs.Gates.{Gate, Joined, Local, nth_value, operand, HasSize, sizes_of, Sized, AreSound, needed, gates_strand, gates_script}
 use Rattle.protocol_model.specs.Runs.{Shares, Tapes, drawn, left, gate_joint, after, after_local, run_messages, run_values, run_opened, nodes_of, Ready}
 use Rattle.protocol_model.proofs.Scripts.{moves-then}
 use Rattle.protocol_model.proofs.Sizes.{nth_value-sized, operand-sized, sizes-append, block-fits, ready-next, ready-local}
@@ -23,7 +23,7 @@ into-nothing i = λ d. λ l. at_link l d
     at_link : (l : Link) → into i nothing l ≡ nothing l
     at_link l = elim (is_same (receiver_of l) i) as (λ b. if◌then◌else◌ {A = List (List ℕ)} b [] [] ≡ []) [ true ↦ refl | false ↦ refl ]
 
--- what a miner does behind a block, with the blocks that it has then
+-- what a miner does after a block, with the blocks that it has then
 abbrev goes_on : Protocol → ℕ → List Gate → Shares → Tapes → Number → List (List ℕ) → Strand (List (List ℕ))
 goes_on p n gates values tapes i made = gates_strand i gates (values i ++ made) (left p n tapes i)
 
@@ -74,7 +74,7 @@ gates-move i (Local n f ∷ gates) sizes values tape sound sized same reach =
     ∙ ap (λ k. sizes ++ k ∷ []) (sized.0 i values same))
     reach
 gates-move i (Joined p n u v ∷ gates) sizes values tape sound sized same reach =
-    let a : length (nth_value values u) ≡ n = nth_value-sized values u n (subst (λ s. size_at s u ≡ Some n) (sym same) sized.0) in
+    let a : length (nth_value values u) ≡ n = nth_value-sized values u n (subst (λ s. slice_get s u ≡ Some n) (sym same) sized.0) in
     let b : length (operand values v) ≡ p.second n = operand-sized values v (p.second n) (subst (λ s. HasSize s v (p.second n)) (sym same) sized.1) in
     let c : length (take (p.draws n i) tape) ≡ p.draws n i = length-take-le (p.draws n i) tape (omega arith) in
     moves-then (λ blocks. sizes_of blocks ≡ p.made n) (p.strand n i (nth_value values u) (operand values v) (take (p.draws n i) tape))

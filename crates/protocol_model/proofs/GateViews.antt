@@ -21,7 +21,7 @@ use Rattle.protocol_model.proofs.Sizes.{block-fits, ready-after, ready-next, rea
 same_tapes : (t s : Tapes) → ((m : Number) → t m ≡ s m) → t ≡ s
 same_tapes t s h = λ k. λ m. h m k
 
--- a block's words and the tape behind them, where the block's words were changed and their number kept
+-- a block's words and the tape after them, where the block's words were changed and their number kept
 front-length :
     (p : Protocol) (n : ℕ) (gates : List Gate) (tapes : Tapes) (m : Number) (words later : List ℕ) →
     p.draws n m + needed gates m ≤ length (tapes m) → length words ≡ p.draws n m → length later ≡ length (drop (p.draws n m) (tapes m)) →

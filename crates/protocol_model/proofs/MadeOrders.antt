@@ -1,6 +1,7 @@
 -- Orders that are made, by the first link with a message or by chance, are always accepted.
 use Rattle.std.proofs.Common.{◌≡◌, ℕ, zero, suc, ◌+◌, ◌<◌, ◌≤◌, ◌%◌, Bool, true, false, if◌then◌else◌, List, [], ◌∷◌, length, refl, sym, ◌∙◌, ap, arith}
-use Rattle.std.specs.Prelude.{nat_lt, Option, Some, None}
+use Rattle.std.specs.Option.{option_map_or}
+use Rattle.std.specs.Prelude.{nat_lt, Option, Some, None, filter, slice_get}
 use Rattle.proto_core.specs.declared.party.Number.{Number}
 use Rattle.proto_core.specs.declared.link.Link.{Link}
 use Rattle.proto_core.specs.declared.link.Link.TheVariants.{Link12, Link13, Link21, Link23, Link31, Link32}
@@ -11,14 +12,14 @@ use Rattle.proto_core.specs.Net.{into, run_of, posted, delivered, MailBegins, Fi
 use Rattle.proto_core.proofs.Beginnings.{begins-both}
 use Rattle.proto_core.proofs.Nets.{nothing-under_way, delivered-begins}
 use Rattle.protocol_model.specs.Network.{Accepted, EmptyLink, waits_for, at_the_end, Counts, one_more, into_counts, stands_at, posted_count, counted}
-use Rattle.protocol_model.specs.Network.{all_links, those, is_full, link_at, chosen, entry_then, made_order, total}
+use Rattle.protocol_model.specs.Network.{all_links, is_full, chosen, made_order, total}
 use Rattle.protocol_model.specs.Network.{counts}
 use Rattle.protocol_model.proofs.NetCounts.{posted-counted, stood-counted, counts-delivered, posted-begins, lt_from}
 use Rattle.protocol_model.proofs.Choosing.{in_those}
 
 -- ---- choosing
 
-pub some_there : (ls : List Link) (k : ℕ) → k < length ls → link_at ls k ≡ None → ⊥
+pub some_there : (ls : List Link) (k : ℕ) → k < length ls → slice_get ls k ≡ None → ⊥
 some_there [] k h e = let f : ⊥ = omega arith in f
 some_there (l ∷ ls) zero h e = cc
 some_there (l ∷ ls) (suc k) h e = some_there ls k (omega arith) e
@@ -27,14 +28,14 @@ pub none_chosen : (word : ℕ) (ls : List Link) → chosen word ls ≡ None → 
 none_chosen word [] e = refl
 none_chosen word (l ∷ ls) e = absurd (some_there (l ∷ ls) (word % length (l ∷ ls)) (omega arith) e)
 
-none_those : (p : Link → Bool) (x : Link) (xs : List Link) → those p (x ∷ xs) ≡ [] → (p x ≡ false) × (those p xs ≡ [])
+none_those : (p : Link → Bool) (x : Link) (xs : List Link) → filter p (x ∷ xs) ≡ [] → (p x ≡ false) × (filter p xs ≡ [])
 none_those p x xs h = by_test (p x) refl
   where
-    by_test : (b : Bool) → p x ≡ b → (p x ≡ false) × (those p xs ≡ [])
-    by_test false e = (e, sym (ap (λ b. if b then x ∷ those p xs else those p xs) e) ∙ h)
-    by_test true e = let g : x ∷ those p xs ≡ [] = sym (ap (λ b. if b then x ∷ those p xs else those p xs) e) ∙ h in cc
+    by_test : (b : Bool) → p x ≡ b → (p x ≡ false) × (filter p xs ≡ [])
+    by_test false e = (e, sym (ap (λ b. if b then x ∷ filter p xs else filter p xs) e) ∙ h)
+    by_test true e = let g : x ∷ filter p xs ≡ [] = sym (ap (λ b. if b then x ∷ filter p xs else filter p xs) e) ∙ h in cc
 
-none_full : (p : Link → Bool) → those p all_links ≡ [] → (l : Link) → p l ≡ false
+none_full : (p : Link → Bool) → filter p all_links ≡ [] → (l : Link) → p l ≡ false
 none_full p h l =
     let a = none_those p Link12 (Link13 ∷ Link21 ∷ Link23 ∷ Link31 ∷ Link32 ∷ []) h in
     let b = none_those p Link13 (Link21 ∷ Link23 ∷ Link31 ∷ Link32 ∷ []) a.1 in
@@ -125,17 +126,17 @@ module _ {A : Type 0} (nodes : Number → Strand A) (scripts : Number → List M
       same_length l = let e : counts mail l ≡ counts full l =
           total-same (counts mail) (counts full) (λ k. begins-length (mail k) (full k) (h k)) (omega arith) l in omega arith
   made-accepted words (suc fuel) entry mail h t =
-      by_choice (chosen (words entry) (those (is_full scripts (counts mail)) all_links)) refl
+      by_choice (chosen (words entry) (filter (is_full scripts (counts mail)) all_links)) refl
       (λ l lt. made-accepted words fuel (entry + 1) (delivered nodes mail l)
       (delivered-begins nodes mail full l h (posted-begins nodes scripts full outputs f moves mail h))
       (let n : total (counts (delivered nodes mail l)) ≡ total (counts mail) + 1 =
       ap total (counts-delivered nodes mail l lt) ∙ total-more l (counts mail) in omega arith))
     where
       order : Option Link → List Link
-      order choice = entry_then choice (λ l. made_order scripts words fuel (entry + 1) (one_more l (counts mail)))
+      order choice = option_map_or (λ l. l ∷ made_order scripts words fuel (entry + 1) (one_more l (counts mail))) choice []
 
       by_choice :
-          (choice : Option Link) → chosen (words entry) (those (is_full scripts (counts mail)) all_links) ≡ choice →
+          (choice : Option Link) → chosen (words entry) (filter (is_full scripts (counts mail)) all_links) ≡ choice →
           ((l : Link) → length (mail l) < length (posted nodes mail l) →
           counted scripts (entry + 1) (counts (delivered nodes mail l)) (made_order scripts words fuel (entry + 1) (counts (delivered nodes mail l)))
           ≡ Accepted) →

@@ -1,4 +1,4 @@
--- Scripts of strands, one behind the other.
+-- Scripts of strands, one after the other.
 use Rattle.std.proofs.Common.{List, [], ◌∷◌, ◌++◌}
 use Rattle.proto_core.specs.Strand.{Sent, Opened, Told, Strand, Ends, Acts, Waits, then_do}
 use Rattle.proto_core.specs.Script.{Move, Sends, Takes, Moves, EndsWith, IsSilent}

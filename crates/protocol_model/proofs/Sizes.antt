@@ -1,12 +1,12 @@
 -- Shares and tapes that suffice for a list of gates suffice at each of its blocks.
 use Rattle.std.proofs.Common.{◌≡◌, ℕ, zero, suc, ◌+◌, ◌≤◌, ◌<◌, ◌^◌, List, [], ◌∷◌, ◌++◌, length, take, drop, refl, sym, ◌∙◌, ap, subst, arith}
 use Rattle.std.proofs.Common.{add_assoc, zero-add}
-use Rattle.std.specs.Prelude.{Option, Some, None}
+use Rattle.std.specs.Prelude.{Option, Some, None, slice_get}
 use Rattle.std.proofs.lemmas.List.{length-take-le, length-drop, map-append}
 use Rattle.proto_core.specs.declared.party.Number.{Number}
 use Rattle.proto_core.specs.Lists.{at, AreWords}
 use Rattle.proto_core.specs.Protocol.{Protocol, Fits, Sound, AreBlocks}
-use Rattle.protocol_model.specs.Gates.{Gate, Joined, Local, nth_value, operand, size_at, HasSize, sizes_of, needed}
+use Rattle.protocol_model.specs.Gates.{Gate, Joined, Local, nth_value, operand, HasSize, sizes_of, needed}
 use Rattle.protocol_model.specs.Runs.{Shares, Tapes, drawn, left, gate_joint, after, after_local, Ready}
 
 -- ---- words
@@ -31,7 +31,7 @@ AreWords-drop (suc n) (x ∷ xs) h k = AreWords-drop n xs (λ i. h (suc i)) k
 none_some : {P : Type 0} (n : ℕ) → None ≡ Some n → P
 none_some n h = cc
 
-pub nth_value-sized : (values : List (List ℕ)) (k n : ℕ) → size_at (sizes_of values) k ≡ Some n → length (nth_value values k) ≡ n
+pub nth_value-sized : (values : List (List ℕ)) (k n : ℕ) → slice_get (sizes_of values) k ≡ Some n → length (nth_value values k) ≡ n
 nth_value-sized [] k n h = none_some n h
 nth_value-sized (x ∷ xs) zero n h = cc
 nth_value-sized (x ∷ xs) (suc k) n h = nth_value-sized xs k n h
@@ -56,7 +56,7 @@ module _ (p : Protocol) (n u : ℕ) (v : Option ℕ) (gates : List Gate) (values
   pub block-fits : Fits p n (gate_joint u v values (drawn p n tapes))
   block-fits =
       record {
-        u = λ i. nth_value-sized (values i) u n (subst (λ s. size_at s u ≡ Some n) (sym (ready.shares i)) ready.sized.0);
+        u = λ i. nth_value-sized (values i) u n (subst (λ s. slice_get s u ≡ Some n) (sym (ready.shares i)) ready.sized.0);
         v = λ i. operand-sized (values i) v (p.second n) (subst (λ s. HasSize s v (p.second n)) (sym (ready.shares i)) ready.sized.1);
         words = λ i. length-take-le (p.draws n i) (tapes i) (reaches i);
         are_words = λ i. AreWords-take (p.draws n i) (tapes i) (ready.tapes_are_words i);
@@ -65,7 +65,7 @@ module _ (p : Protocol) (n u : ℕ) (v : Option ℕ) (gates : List Gate) (values
       reaches : (i : Number) → p.draws n i ≤ length (tapes i)
       reaches i = let h : p.draws n i + needed gates i ≤ length (tapes i) = ready.tapes_reach i in omega arith
 
-  -- and behind it, whatever words the block drew, where its blocks have the sizes that they must
+  -- and after it, whatever words the block drew, where its blocks have the sizes that they must
   pub ready-after :
       (words : Tapes) → ((i : Number) → AreBlocks (p.made n) (p.output n (gate_joint u v values words) i)) →
       Ready gates (after p n u v values words) (left p n tapes)
@@ -118,7 +118,7 @@ ready-with gates values tapes other ready len words =
       tapes_are_words = words;
     }
 
--- ---- gates behind gates
+-- ---- gates after gates
 
 pub needed-append : (xs ys : List Gate) (i : Number) → needed (xs ++ ys) i ≡ needed xs i + needed ys i
 needed-append [] ys i = sym (zero-add (needed ys i))

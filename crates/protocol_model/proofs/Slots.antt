@@ -1,7 +1,7 @@
 -- Gates leave all values as they were that aren't their own.
 use Rattle.std.proofs.Common.{◌≡◌, ℕ, zero, suc, ◌+◌, ◌≤◌, ◌<◌, Bool, true, false, List, [], ◌∷◌, ◌++◌}
 use Rattle.std.proofs.Common.{length, map, take, drop, refl, sym, ◌∙◌, ap, subst, arith, ◌⊎◌, inl, inr, length-append, append_assoc}
-use Rattle.std.specs.Prelude.{Some}
+use Rattle.std.specs.Prelude.{Some, slice_get}
 use Rattle.std.proofs.lemmas.Bool.{cases_lt}
 use Rattle.std.proofs.lemmas.List.{length-take-le, length-drop, length-map}
 use Rattle.proto_core.specs.declared.party.Number.{Number}
@@ -10,7 +10,7 @@ use Rattle.proto_core.specs.Strand.{Shape, accepts, Mail, Strand, Ends, Acts, Wa
 use Rattle.proto_core.specs.Script.{EndsWith}
 use Rattle.proto_core.proofs.Beginnings.{append-none}
 use Rattle.proto_core.proofs.Strands.{run-none, run-took, run-refused}
-use Rattle.protocol_model.specs.Gates.{Gate, Joined, Local, AreSound, Sized, HasSize, nth_value, operand, size_at, sizes_of, needed, gates_strand}
+use Rattle.protocol_model.specs.Gates.{Gate, Joined, Local, AreSound, Sized, HasSize, nth_value, operand, sizes_of, needed, gates_strand}
 use Rattle.protocol_model.specs.Slots.{made_by, IsOwn}
 use Rattle.protocol_model.proofs.Sizes.{nth_value-sized, operand-sized, sizes-append}
 
@@ -54,9 +54,9 @@ ends_anyhow (Ends a) = tt
 ends_anyhow (Acts act s) = ends_anyhow s
 ends_anyhow (Waits l n k) = λ m o. ends_anyhow (k m)
 
--- ---- values behind values
+-- ---- values after values
 
--- these are the values, and so many more behind them
+-- these are the values, and so many more after them
 pub record Behind (values all : List (List ℕ)) (count : ℕ) : Type 0 where
   pub more : List (List ℕ)
   pub parts : all ≡ values ++ more
@@ -102,7 +102,7 @@ grows_by i (Local n f ∷ gates) sizes values tape sound sized same reach =
     ∙ ap (λ k. sizes ++ k ∷ []) (sized.0 i values same))
     reach)
 grows_by i (Joined p n u v ∷ gates) sizes values tape sound sized same reach =
-    let a : length (nth_value values u) ≡ n = nth_value-sized values u n (subst (λ s. size_at s u ≡ Some n) (sym same) sized.0) in
+    let a : length (nth_value values u) ≡ n = nth_value-sized values u n (subst (λ s. slice_get s u ≡ Some n) (sym same) sized.0) in
     let b : length (operand values v) ≡ p.second n =
     operand-sized values v (p.second n) (subst (λ s. HasSize s v (p.second n)) (sym same) sized.1) in
     let c : length (take (p.draws n i) tape) ≡ p.draws n i = length-take-le (p.draws n i) tape (omega arith) in

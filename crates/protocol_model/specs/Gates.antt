@@ -1,5 +1,6 @@
 -- Gates in order, over numbered values: what one miner does with its shares and its tape.
-use Rattle.std.specs.Prelude.{◌≡◌, ℕ, zero, suc, ◌+◌, List, [], ◌∷◌, ◌++◌, length, map, take, drop, Option, Some, None}
+use Rattle.std.specs.Prelude.{◌≡◌, ℕ, ◌+◌, List, [], ◌∷◌, ◌++◌, length, map, take, drop, Option, Some, None, get_or, slice_get}
+use Rattle.std.specs.Option.{option_map_or}
 use Rattle.proto_core.specs.declared.party.Number.{Number}
 use Rattle.proto_core.specs.Strand.{Strand, Ends, then_do}
 use Rattle.proto_core.specs.Script.{Move, IsSilent}
@@ -13,25 +14,17 @@ pub data Gate : Type 0 where
 
 -- the value of a number, counted from 0
 abbrev pub nth_value : List (List ℕ) → ℕ → List ℕ
-nth_value [] k = []
-nth_value (x ∷ xs) zero = x
-nth_value (x ∷ xs) (suc k) = nth_value xs k
+nth_value values k = get_or values k []
 
 abbrev pub operand : List (List ℕ) → Option ℕ → List ℕ
-operand values None = []
-operand values (Some k) = nth_value values k
+operand values k = option_map_or (nth_value values) k []
 
 -- ---- sizes
-
-abbrev pub size_at : List ℕ → ℕ → Option ℕ
-size_at [] k = None
-size_at (n ∷ sizes) zero = Some n
-size_at (n ∷ sizes) (suc k) = size_at sizes k
 
 -- the operand is there and has this size; no operand has size 0
 abbrev pub HasSize : List ℕ → Option ℕ → ℕ → Type 0
 HasSize sizes None n = n ≡ 0
-HasSize sizes (Some k) n = size_at sizes k ≡ Some n
+HasSize sizes (Some k) n = slice_get sizes k ≡ Some n
 
 abbrev pub sizes_of : List (List ℕ) → List ℕ
 sizes_of values = map length values
@@ -43,7 +36,7 @@ IsSized n f sizes = (i : Number) (values : List (List ℕ)) → sizes_of values 
 abbrev pub Sized : List Gate → List ℕ → Type 0
 Sized [] sizes = Unit {0}
 Sized (Joined p n u v ∷ gates) sizes =
-    (size_at sizes u ≡ Some n) × HasSize sizes v (p.second n) × Sized gates (sizes ++ p.made n)
+    (slice_get sizes u ≡ Some n) × HasSize sizes v (p.second n) × Sized gates (sizes ++ p.made n)
 Sized (Local n f ∷ gates) sizes = IsSized n f sizes × Sized gates (sizes ++ n ∷ [])
 
 -- every protocol is right and private

@@ -1,11 +1,12 @@
 -- The net by counts alone: which entry of a schedule is refused, and which miner is left waiting. No word is read.
-use Rattle.std.specs.Prelude.{ℕ, zero, suc, pred, ◌+◌, ◌%◌, Bool, nat_lt, if◌then◌else◌, List, [], ◌∷◌, length, Option, Some, None}
+use Rattle.std.specs.Prelude.{ℕ, zero, suc, pred, ◌+◌, ◌%◌, Bool, nat_lt, if◌then◌else◌, List, [], ◌∷◌, length, Option, Some, None, slice_get, filter}
+use Rattle.std.specs.Option.{option_map_or}
 use Rattle.proto_core.specs.declared.party.Number.{Number}
 use Rattle.proto_core.specs.declared.party.Number.TheVariants.{One, Two, Three}
 use Rattle.proto_core.specs.declared.link.Link.{Link}
 use Rattle.proto_core.specs.declared.link.Link.TheVariants.{Link12, Link13, Link21, Link23, Link31, Link32}
 use Rattle.proto_core.specs.Parties.{sender_of, receiver_of, is_same}
-use Rattle.proto_core.specs.Strand.{same_link, Mail, Strand, Ends, Acts, Waits}
+use Rattle.proto_core.specs.Strand.{same_link, Mail, Strand, Waits}
 use Rattle.proto_core.specs.Script.{Move, Sends, Takes, sends_on}
 use Rattle.proto_core.specs.Net.{run_of, posted, delivered}
 
@@ -13,22 +14,18 @@ pub data Answer : Type 0 where
   Accepted : Answer
   -- the entry of a link of which all messages that were sent were delivered before
   EmptyLink : (entry : ℕ) (link : Link) (sent : ℕ) → Answer
-  -- behind the last entry a miner still waits; the lowest one is named
+  -- after the last entry a miner still waits; the lowest one is named
   Stalled : (miner : Number) (link : Link) → Answer
 
-abbrev pub or_stalled : Number → Option Link → Answer → Answer
-or_stalled i None answer = answer
-or_stalled i (Some l) answer = Stalled i l
-
 abbrev pub at_the_end : (Number → Option Link) → Answer
-at_the_end waiting = or_stalled One (waiting One) (or_stalled Two (waiting Two) (or_stalled Three (waiting Three) Accepted))
+at_the_end waiting =
+    option_map_or (Stalled One) (waiting One) (option_map_or (Stalled Two) (waiting Two) (option_map_or (Stalled Three) (waiting Three) Accepted))
 
 -- ---- with the messages
 
 abbrev pub waits_for : {A : Type 0} → Strand A → Option Link
-waits_for (Ends a) = None
-waits_for (Acts a s) = None
 waits_for (Waits l shape k) = Some l
+waits_for _ = None
 
 -- entry by entry, from a state in which this mail was delivered
 abbrev pub walked : {A : Type 0} → (Number → Strand A) → ℕ → Mail → List Link → Answer
@@ -92,34 +89,19 @@ place_of Link23 = 3
 place_of Link31 = 4
 place_of Link32 = 5
 
--- those of which a test holds, in order
-abbrev pub those : (Link → Bool) → List Link → List Link
-those p [] = []
-those p (l ∷ ls) = if p l then l ∷ those p ls else those p ls
-
 -- whether a link has a message under way
 abbrev pub is_full : (Number → List Move) → Counts → Link → Bool
 is_full scripts got l = nat_lt (got l) (posted_count scripts got l)
 
-abbrev pub link_at : List Link → ℕ → Option Link
-link_at [] k = None
-link_at (l ∷ ls) zero = Some l
-link_at (l ∷ ls) (suc k) = link_at ls k
-
 -- a word chooses one of them; the word 0 always the first
 abbrev pub chosen : ℕ → List Link → Option Link
-chosen word links = link_at links (word % length links)
-
-abbrev pub entry_then : Option Link → (Link → List Link) → List Link
-entry_then None more = []
-entry_then (Some l) more = l ∷ more l
+chosen word links = slice_get links (word % length links)
 
 -- an entry for each word, as long as a message is under way and `fuel` lasts
 abbrev pub made_order : (Number → List Move) → (words : ℕ → ℕ) → (fuel entry : ℕ) → Counts → List Link
 made_order scripts words zero entry got = []
 made_order scripts words (suc fuel) entry got =
-    entry_then (chosen (words entry) (those (is_full scripts got) all_links))
-    (λ l. made_order scripts words fuel (entry + 1) (one_more l got))
+    option_map_or (λ l. l ∷ made_order scripts words fuel (entry + 1) (one_more l got)) (chosen (words entry) (filter (is_full scripts got) all_links)) []
 
 -- how many were delivered in all
 abbrev pub total : Counts → ℕ

@@ -14,7 +14,7 @@ Shares = Number → List (List ℕ)
 abbrev pub Tapes : Type 0
 Tapes = Number → List ℕ
 
--- the words that a block draws, and the tapes behind them
+-- the words that a block draws, and the tapes after them
 abbrev pub drawn : Protocol → ℕ → Tapes → Tapes
 drawn p n tapes i = take (p.draws n i) (tapes i)
 

@@ -4,7 +4,7 @@ use Rattle.proto_core.specs.declared.party.Number.{Number}
 use Rattle.proto_core.specs.declared.link.Link.{Link}
 use Rattle.proto_core.specs.Parties.{receiver_of}
 use Rattle.proto_core.specs.Lists.{AreWords}
-use Rattle.proto_core.specs.Strand.{Mail, Ends, Acts, Waits, Strand, run}
+use Rattle.proto_core.specs.Strand.{Mail, Ends, Strand, run}
 use Rattle.proto_core.specs.Net.{into}
 use Rattle.proto_core.specs.Protocol.{Protocol}
 use Rattle.protocol_model.specs.Gates.{Gate, Joined, Local, nth_value, operand}
@@ -12,7 +12,7 @@ use Rattle.protocol_model.specs.Runs.{Shares, Tapes, drawn, left, gate_joint, af
 
 -- ---- the map of the tapes
 
--- the tapes that miner i's view is made of: each block's words by the block's row, words behind the last as they are
+-- the tapes that miner i's view is made of: each block's words by the block's row, words after the last as they are
 abbrev pub to_view : Number → List Gate → Shares → Tapes → Tapes
 to_view i [] values tapes m = tapes m
 to_view i (Joined p n u v ∷ gates) values tapes m =
@@ -41,8 +41,7 @@ made_mail i p n u v own opened mapped =
 
 abbrev pub blocks_at_end : Strand (List (List ℕ)) → List (List ℕ)
 blocks_at_end (Ends blocks) = blocks
-blocks_at_end (Acts a s) = []
-blocks_at_end (Waits l shape k) = []
+blocks_at_end _ = []
 
 -- its own blocks at the end of a block's part
 abbrev pub made_blocks : Number → Protocol → ℕ → ℕ → Option ℕ → List (List ℕ) → List ℕ → Tapes → List (List ℕ)

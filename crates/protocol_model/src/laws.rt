@@ -88,7 +88,7 @@ pub fn made_orders_are_accepted()
         AreSound gates → Ready gates values tapes → net (λ i. gates_script i gates) (Shuffled words) ≡ Accepted }
 {}
 
-/// Law: behind an accepted schedule, from any state, each message of the full run was delivered and none is under way, and all
+/// Law: after an accepted schedule, from any state, each message of the full run was delivered and none is under way, and all
 /// three miners have ended with their outputs and opened what they open in the full run.
 pub fn accepted_orders_are_complete()
     ensures { (nodes : Number → Strand (List (List ℕ))) (full : Mail) (outputs : Number → List (List ℕ)) (order : List Link) (entry : ℕ) (mail : Mail) →

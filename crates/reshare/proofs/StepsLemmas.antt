@@ -7,8 +7,8 @@ use Rattle.proto_core.specs.declared.party.Number.TheVariants.{One, Two, Three}
 use Rattle.proto_core.specs.Net.{nothing}
 use Rattle.proto_core.specs.Protocol.{Joint}
 use Rattle.proto_core.specs.Resharing.{reshared, reshared_of, sum_of_three}
-use Rattle.proto_core.specs.Strand.{Sent, Ends, Acts, Waits}
-use Rattle.reshare.specs.Resharing.{one_field, reshare_strand, reshare_messages, reshare_output}
+use Rattle.proto_core.specs.Strand.{Sent, Ends, Acts, Waits, one_field}
+use Rattle.reshare.specs.Resharing.{reshare_strand, reshare_messages, reshare_output}
 use Rattle.reshare.specs.ResharingRuns.{reshare-run}
 use Rattle.reshare.specs.ResharingLaws.{reshares}
 use Rattle.proto_core.specs.Parties.{of_three}

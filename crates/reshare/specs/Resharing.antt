@@ -5,15 +5,11 @@ use Rattle.share_ring.specs.Ring.{Ring}
 use Rattle.proto_core.specs.declared.party.Number.{Number}
 use Rattle.proto_core.specs.declared.party.Number.TheVariants.{One, Two, Three}
 use Rattle.proto_core.specs.Parties.{previous_of, to_next, from_previous, sender_of, is_forward}
-use Rattle.proto_core.specs.Strand.{Words, Shape, shaped, Mail, Sent, Strand, Ends, Acts, Waits}
+use Rattle.proto_core.specs.Strand.{Mail, Sent, Strand, Ends, Acts, Waits, one_field}
 use Rattle.proto_core.specs.Script.{Move, Sends, Takes}
 use Rattle.proto_core.specs.Net.{mail_of}
 use Rattle.proto_core.specs.Protocol.{Joint, Protocol}
 use Rattle.proto_core.specs.Resharing.{reshared, reshared_of, sum_of_three}
-
--- a message of n words
-abbrev pub one_field : ℕ → Shape
-one_field n = shaped n (Words ∷ [])
 
 -- ---- one miner
 

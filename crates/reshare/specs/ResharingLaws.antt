@@ -7,11 +7,11 @@ use Rattle.proto_core.specs.declared.link.Link.{Link}
 use Rattle.proto_core.specs.declared.link.Link.TheVariants.{Link12, Link13, Link21, Link23, Link31, Link32}
 use Rattle.proto_core.specs.Parties.{sender_of, receiver_of}
 use Rattle.proto_core.specs.Script.{EndsWith, Matched, Moves, UsesOwnLinks, sends_on}
-use Rattle.proto_core.specs.Strand.{opened_in}
+use Rattle.proto_core.specs.Strand.{opened_in, one_field}
 use Rattle.proto_core.specs.Protocol.{Joint, Fits, AreMessages, IsMessage, AreBlocks, Sound, Private, Lawful}
 use Rattle.proto_core.proofs.MessageFields.{accepts-one_words}
 use Rattle.proto_core.proofs.ResharingLaws.{length-reshared, AreWords-reshared, sum-reshared}
-use Rattle.reshare.specs.Resharing.{one_field, reshare_strand, reshare_script, reshare_messages, reshare_output, reshare_protocol, reshare_received, Reshares}
+use Rattle.reshare.specs.Resharing.{reshare_strand, reshare_script, reshare_messages, reshare_output, reshare_protocol, reshare_received, Reshares}
 use Rattle.reshare.specs.ResharingRuns.{reshare-run, reshare-finishes}
 
 matched : (n : ℕ) → Matched (reshare_script n)

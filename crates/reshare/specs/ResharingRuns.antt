@@ -7,12 +7,12 @@ use Rattle.proto_core.specs.declared.link.Link.{Link}
 use Rattle.proto_core.specs.declared.link.Link.TheVariants.{Link12, Link13, Link21, Link23, Link31, Link32}
 use Rattle.proto_core.specs.Parties.{to_next, sender_of}
 use Rattle.proto_core.specs.Resharing.{reshared}
-use Rattle.proto_core.specs.Strand.{Sent, Ends, acted, run, on_link, Begins}
+use Rattle.proto_core.specs.Strand.{Sent, Ends, acted, run, on_link, Begins, one_field}
 use Rattle.proto_core.specs.Net.{nothing, mail_of, run_of, rounds, Finishes}
 use Rattle.proto_core.specs.Protocol.{Joint, strands_of}
 use Rattle.proto_core.proofs.MessageFields.{accepts-one_words}
 use Rattle.proto_core.proofs.Nodes.{into-is, mail-none, run-previous}
-use Rattle.reshare.specs.Resharing.{one_field, reshare_strand, reshare_messages, reshare_output, reshare_protocol}
+use Rattle.reshare.specs.Resharing.{reshare_strand, reshare_messages, reshare_output, reshare_protocol}
 
 -- one miner, with the previous one's mask
 run-reshare :

@@ -7,10 +7,10 @@ use Rattle.proto_core.specs.declared.link.Link.TheVariants.{Link12, Link13, Link
 use Rattle.proto_core.specs.Lists.{part}
 use Rattle.proto_core.specs.Elementwise.{plus, minus, zeros}
 use Rattle.proto_core.specs.Resharing.{reshared}
-use Rattle.proto_core.specs.Strand.{Words, Bits, Shape, shaped, Strand, Ends, Acts, Waits, Sent}
+use Rattle.proto_core.specs.Strand.{Words, Bits, Shape, shaped, Strand, Ends, Acts, Waits, Sent, one_field}
 use Rattle.share_convert.specs.Bits.{bits, xor_bits, bits_less, one_less_where, negative_where}
 
--- the messages on links 12, 13, 23, 32 and 31
+-- the messages on links 12, 13, 23 and 32; that on link 31 is one field
 abbrev pub shape12 : ℕ → Shape
 shape12 n = shaped n (Words ∷ Bits ∷ Words ∷ [])
 
@@ -22,9 +22,6 @@ shape23 n = shaped n (Bits ∷ Words ∷ [])
 
 abbrev pub shape32 : ℕ → Shape
 shape32 n = shaped n (Bits ∷ [])
-
-abbrev pub shape31 : ℕ → Shape
-shape31 n = shaped n (Words ∷ [])
 
 -- what a miner holds: bits shared by xor, a number shared modulo 2^64, and what masks its share
 pub record Held : Type 0 where
@@ -65,7 +62,7 @@ abbrev pub one_ends : ℕ → Held → List ℕ → Strand (List (List ℕ))
 one_ends n held got = Ends (one_share n held got ∷ [])
 
 abbrev pub awaits31 : ℕ → Held → Strand (List (List ℕ))
-awaits31 n held = Waits Link31 (shape31 n) (one_ends n held)
+awaits31 n held = Waits Link31 (one_field n) (one_ends n held)
 
 -- ---- miner 2, by its share u and its word a
 

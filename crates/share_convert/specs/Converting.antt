@@ -1,27 +1,26 @@
 -- The protocol that turns a bit shared by xor into the number 0 or 1 shared modulo 2^64.
 use Rattle.std.specs.Prelude.{◌≡◌, ℕ, ◌*◌, bit_xor, List, [], ◌∷◌, ◌++◌}
+use Rattle.proto_core.specs.Parties.{of_three, previous_of}
 use Rattle.share_ring.specs.Rings.{add_ring}
 use Rattle.proto_core.specs.declared.link.Link.TheVariants.{Link12, Link13, Link21, Link23, Link31, Link32}
 use Rattle.proto_core.specs.declared.party.Number.{Number}
 use Rattle.proto_core.specs.declared.party.Number.TheVariants.{One, Two, Three}
 use Rattle.proto_core.specs.Lists.{at, each}
-use Rattle.proto_core.specs.Strand.{Mail}
+use Rattle.proto_core.specs.Strand.{Mail, one_field}
 use Rattle.proto_core.specs.Script.{Move, Sends, Takes}
 use Rattle.proto_core.specs.Protocol.{Joint, Protocol}
 use Rattle.proto_core.specs.Elementwise.{zeros}
 use Rattle.proto_core.specs.Resharing.{reshared, sum_of_three}
 use Rattle.share_convert.specs.Bits.{bit, bits, xor_bits, xor_bits_of_three, bits_less, one_less_where, negative_where}
-use Rattle.share_convert.specs.ConvStrand.{shape12, shape13, shape23, shape32, shape31, b_of, e_of, m_of, a_of, to_two, to_three, conv_strand}
+use Rattle.share_convert.specs.ConvStrand.{shape12, shape13, shape23, shape32, b_of, e_of, m_of, a_of, to_two, to_three, conv_strand}
 
 abbrev pub conv_draws : ℕ → Number → ℕ
-conv_draws n One = 4 * n
-conv_draws n Two = n
-conv_draws n Three = n
+conv_draws n = of_three (4 * n) n n
 
 abbrev pub conv_script : ℕ → Number → List Move
-conv_script n One = Sends Link12 (shape12 n) ∷ Sends Link13 (shape13 n) ∷ Takes Link31 (shape31 n) ∷ []
+conv_script n One = Sends Link12 (shape12 n) ∷ Sends Link13 (shape13 n) ∷ Takes Link31 (one_field n) ∷ []
 conv_script n Two = Takes Link12 (shape12 n) ∷ Sends Link23 (shape23 n) ∷ Takes Link32 (shape32 n) ∷ []
-conv_script n Three = Sends Link31 (shape31 n) ∷ Takes Link13 (shape13 n) ∷ Sends Link32 (shape32 n) ∷ Takes Link23 (shape23 n) ∷ []
+conv_script n Three = Sends Link31 (one_field n) ∷ Takes Link13 (shape13 n) ∷ Sends Link32 (shape32 n) ∷ Takes Link23 (shape23 n) ∷ []
 
 -- ---- of all three
 
@@ -53,13 +52,10 @@ unmasked n j Three = negative_where n (choice n j) (bits_less n (b_of n (j.words
 
 abbrev pub mask_of : ℕ → Joint → Number → List ℕ
 mask_of n j One = a_of n (j.words One)
-mask_of n j Two = j.words Two
-mask_of n j Three = j.words Three
+mask_of n j i = j.words i
 
 abbrev pub converted : ℕ → Joint → Number → List ℕ
-converted n j One = reshared add_ring n (unmasked n j One) (mask_of n j One) (mask_of n j Three)
-converted n j Two = reshared add_ring n (unmasked n j Two) (mask_of n j Two) (mask_of n j One)
-converted n j Three = reshared add_ring n (unmasked n j Three) (mask_of n j Three) (mask_of n j Two)
+converted n j i = reshared add_ring n (unmasked n j i) (mask_of n j i) (mask_of n j (previous_of i))
 
 -- ---- the views: of miner 1's words, those that a view's maker draws in their place
 
@@ -92,9 +88,8 @@ conv_tape n Three j One = three_map n (j.u One) (j.u Two) (j.words One)
 conv_tape n _ j m = j.words m
 
 abbrev pub conv_back : ℕ → Number → Joint → Number → List ℕ
-conv_back n Two j One = two_map n (j.u Three) (j.words One)
 conv_back n Three j One = three_back n (j.u One) (j.u Two) (j.words One)
-conv_back n _ j m = j.words m
+conv_back n i j m = conv_tape n i j m
 
 -- m, the bit of e and a_1, then the bit of b; m and the bit of b, then the bit of e and a_2; a_3
 abbrev pub conv_received : ℕ → (words : Number → List ℕ) → Mail

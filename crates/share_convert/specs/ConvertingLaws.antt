@@ -8,7 +8,7 @@ use Rattle.proto_core.specs.declared.party.Number.{Number}
 use Rattle.proto_core.specs.declared.party.Number.TheVariants.{One, Two, Three}
 use Rattle.proto_core.specs.Parties.{sender_of, receiver_of}
 use Rattle.proto_core.specs.Lists.{at, part, AreWords}
-use Rattle.proto_core.specs.Strand.{Words, Bits, accepts, Act, Sent, Mail, Ends, Ran, acted, run, on_link, opened_in, Begins}
+use Rattle.proto_core.specs.Strand.{Words, Bits, accepts, Act, Sent, Mail, Ends, Ran, acted, run, on_link, opened_in, Begins, one_field}
 use Rattle.proto_core.specs.Net.{posted, run_of, nothing, Finishes}
 use Rattle.proto_core.specs.Script.{EndsWith, Moves, Matched, UsesOwnLinks, sends_on}
 use Rattle.proto_core.specs.Protocol.{Joint, Fits, Lawful, with_words, strands_of, AreMessages, AreBlocks}
@@ -27,7 +27,7 @@ use Rattle.share_convert.specs.BitLaws.{length-bits, length-xor_bits, length-xor
 use Rattle.share_convert.specs.BitLaws.{AreWords-flipped, AreAllBits-bits, AreAllBits-xor_bits, AreAllBits-xor_bits_of_three, all-bits}
 use Rattle.share_convert.specs.BitLaws.{AreWords-all_bits, bits-flipped, bits-flipped_by_two, flipped-twice, bits_less-twice, xor_bits-bits}
 use Rattle.share_convert.specs.BitLaws.{xor_bits-xor_bits, choice-is, summed}
-use Rattle.share_convert.specs.ConvStrand.{Held, shape12, shape13, shape23, shape32, shape31, b_of, e_of, m_of, a_of, to_two, to_three, one_held}
+use Rattle.share_convert.specs.ConvStrand.{Held, shape12, shape13, shape23, shape32, b_of, e_of, m_of, a_of, to_two, to_three, one_held}
 use Rattle.share_convert.specs.ConvStrand.{one_ends, begun, two_held, two_ends, two_passes, three_held, three_ends, three_passes, conv_strand}
 use Rattle.share_convert.specs.Converting.{conv_draws, conv_script, conv_messages, from_two, from_three, choice, unmasked, converted, four, two_map}
 use Rattle.share_convert.specs.Converting.{three_map, three_back, conv_tape, conv_back, conv_received, conv_protocol, Converts}
@@ -142,7 +142,7 @@ module _ (n : ℕ) (j : Joint) (fits : Fits conv_protocol n j) where
   whole One =
       ap (run (conv_strand n One (j.u One) (j.words One))) (into-is One (conv_messages n j))
       ∙ ap (λ v. acted (Sent Link12 (to_two n (j.words One))) (acted (Sent Link13 (to_three n (j.u One) (j.words One))) v))
-      (run-previous One (shape31 n) (one_ends n (one_held n (j.words One))) (j.words Three) [] [] (accepts-one_words n _ (fits.words Three))
+      (run-previous One (one_field n) (one_ends n (one_held n (j.words One))) (j.words Three) [] [] (accepts-one_words n _ (fits.words Three))
       ∙ ap (λ m. record { acts = []; left = Ends (converted n j One ∷ []); unread = m }) (mail-none One))
   whole Two =
       ap (run (conv_strand n Two (j.u Two) (j.words Two))) (into-is Two (conv_messages n j))
@@ -170,7 +170,7 @@ module _ (n : ℕ) (j : Joint) (fits : Fits conv_protocol n j) where
   half One =
       ap (λ m. (run (conv_strand n One (j.u One) (j.words One)) m).acts) (into-is One first_posted)
       ∙ ap (λ v. Sent Link12 (to_two n (j.words One)) ∷ Sent Link13 (to_three n (j.u One) (j.words One)) ∷ v.acts)
-      (run-previous One (shape31 n) (one_ends n (one_held n (j.words One))) (j.words Three) [] [] (accepts-one_words n _ (fits.words Three)))
+      (run-previous One (one_field n) (one_ends n (one_held n (j.words One))) (j.words Three) [] [] (accepts-one_words n _ (fits.words Three)))
   half Two =
       ap (λ m. (run (conv_strand n Two (j.u Two) (j.words Two)) m).acts) (into-is Two first_posted)
       ∙ ap (λ v. v.acts)

@@ -1,4 +1,4 @@
--- Behind a list of gates the miners hold values that fit it.
+-- After a list of gates the miners hold values that fit it.
 use Rattle.std.proofs.Common.{◌≡◌, ℕ, ◌+◌, ◌%◌, ◌<◌, ◌≤◌, Bool, List, [], ◌∷◌, ◌++◌, length, refl, sym, ◌∙◌, ap, subst, arith, inl, inr}
 use Rattle.std.proofs.Common.{length-append, append_assoc}
 use Rattle.std.specs.Prelude.{Option, Some, None, slice_get}
@@ -176,7 +176,7 @@ module _ (before : Values) (x y : List ℕ) where
         (subst (λ b. clear.IsSplit negated (value before u) x b) (sym second_of_two) split)),
   )
 
--- ---- behind a whole gate
+-- ---- after a whole gate
 
 module _ (before : Values) (sizes : List ℕ) (shares : Shares) (tapes : Tapes) (p : Protocol) (n u : ℕ) (v : Option ℕ) (gates : List model.Gate)
     (sound : Sound p) (ready : Ready (Joined p n u v ∷ gates) shares tapes) (before_sizes : sizes_of before ≡ sizes)
@@ -270,7 +270,7 @@ module _ (dealt_kinds kinds : List Kind) (inputs : Values) (dealt : Number → V
       → AllKinded dealt_kinds kinds (length (before ++ x ∷ [])) gates
   in_place before x gates h = subst (λ k. AllKinded dealt_kinds kinds k gates) (sym (one_longer before x)) h
 
-  -- what the others need behind a gate, in a state of theirs
+  -- what the others need after a gate, in a state of theirs
   abbrev Goes : (gates : List Gate) (before : Values) (sizes : List ℕ) (shares : Shares) (rest : List model.Gate) (tapes : Tapes) → Type 0
   Goes gates before sizes shares rest tapes =
       sizes_of before ≡ sizes → ((i : Number) → sizes_of (shares i) ≡ sizes) → AllHeld kinds before shares → Ready rest shares tapes →

@@ -1,4 +1,4 @@
--- Gates behind other gates, and the sizes of what they make.
+-- Gates after other gates, and the sizes of what they make.
 use Rattle.std.proofs.Common.{◌≡◌, ℕ, ◌+◌, ◌<◌, get_or, List, [], ◌∷◌, ◌++◌, length, drop, refl, sym, ◌∙◌, ap, arith, length-append}
 use Rattle.std.proofs.lemmas.List.{get_or_append_left, drop_more}
 use Rattle.proto_core.specs.declared.party.Number.{Number}
@@ -7,7 +7,7 @@ use Rattle.gates.specs.Clear.{Values}
 use Rattle.gates.specs.Counts.{size_of}
 use Rattle.shared_gates.specs.Model.{sizes_made, AllSizesSuit, run_gate, run_gates, sizes_after}
 
--- the gate at a place, and those behind it
+-- the gate at a place, and those after it
 pub next-gate :
     (gates : List Gate) (place : ℕ) (gate : Gate) → place < length gates → gate ≡ get_or gates place gate →
     drop place gates ≡ gate ∷ drop (place + 1) gates

@@ -1,6 +1,6 @@
 -- The gates of a run are sound and private, and their sizes are as they want them.
 use Rattle.std.proofs.Common.{◌≡◌, ℕ, zero, suc, ◌+◌, ◌*◌, ◌<◌, ◌≤◌, List, [], ◌∷◌, ◌++◌, length, refl, sym, ◌∙◌, ap, subst, arith, length-append, length-drop}
-use Rattle.std.specs.Prelude.{Some}
+use Rattle.std.specs.Prelude.{Some, slice_get}
 use Rattle.std.specs.List.{flat_map}
 use Rattle.std.specs.Int.{w64, bit_not}
 use Rattle.std.proofs.lemmas.List.{length-map, length-take-le, length-set, length-replicate}
@@ -8,7 +8,7 @@ use Rattle.std.proofs.lemmas.List.Concat.{flat_map-cons}
 use Rattle.share_ring.specs.RingsKeepLaws.{add_ring_laws, xor_ring_laws}
 use Rattle.proto_core.specs.declared.party.Number.{Number}
 use Rattle.proto_core.specs.declared.party.Number.TheVariants.{One, Two, Three}
-use Rattle.protocol_model.specs.Gates.{nth_value, size_at, sizes_of, Sized, AreSound, ArePrivate}
+use Rattle.protocol_model.specs.Gates.{nth_value, sizes_of, Sized, AreSound, ArePrivate}
 use Rattle.gates.specs.Blocks.{block_sizes}
 use Rattle.gates.specs.declared.gate.Gate.{Gate}
 use Rattle.gates.specs.declared.gate.Gate.TheVariants.{Input, Const, Add, Sub, MulPub, Mul, Xor, And, Not, Shl, Shr, Low, Cat, Part, Put, Rep, Spread}
@@ -45,7 +45,7 @@ none_below k h = absurd (never k h)
     never : (k : ℕ) → k < 0 → ⊥
     never k h = omega arith
 
-pub size_at-size : (sizes : List ℕ) (k : ℕ) → k < length sizes → size_at sizes k ≡ Some (size_of sizes k)
+pub size_at-size : (sizes : List ℕ) (k : ℕ) → k < length sizes → slice_get sizes k ≡ Some (size_of sizes k)
 size_at-size [] k h = none_below k h
 size_at-size (n ∷ sizes) zero h = refl
 size_at-size (n ∷ sizes) (suc k) h = size_at-size sizes k (omega arith)

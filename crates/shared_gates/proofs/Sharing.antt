@@ -93,7 +93,7 @@ module _ (r : Ring) where
   shares-at xs s sizes words sums =
       record { sizes = sizes; words = λ i. words-below (length xs) (s i) (sizes i) (words i); sum = sums }
 
-  -- one value behind another
+  -- one value after another
   pub shares-append :
       (xs ys : List ℕ) (s t : Number → List ℕ) → AreShares r xs s → AreShares r ys t → AreShares r (xs ++ ys) (λ i. s i ++ t i)
   shares-append xs ys s t h k =

@@ -1,4 +1,4 @@
--- The values that three miners hold behind a list of gates.
+-- The values that three miners hold after a list of gates.
 use Rattle.std.specs.Prelude.{◌≡◌, ℕ, List, [], ◌∷◌, ◌++◌, length}
 use Rattle.proto_core.specs.declared.party.Number.{Number}
 use Rattle.gates.specs.declared.gate.Gate.{Gate}
@@ -16,7 +16,7 @@ abbrev pub opened_values : Values → List Gate → List ℕ
 opened_values values [] = []
 opened_values values (gate ∷ gates) = opened_by_gate values gate ++ opened_values values gates
 
--- behind the values that were there stand values that fit the gates, and the miners hold these shares of all of them;
+-- after the values that were there stand values that fit the gates, and the miners hold these shares of all of them;
 -- and these words were opened
 pub record Computed (kinds : List Kind) (inputs before : Values) (gates : List Gate) (shares : Number → Values) (opened : List ℕ) : Type 0 where
   pub more : Values

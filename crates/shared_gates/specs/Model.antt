@@ -1,8 +1,8 @@
 -- Gates as the three miners run them: each interactive one is a protocol on all elements, block after block.
 use Rattle.std.specs.Prelude.{◌≡◌, ℕ, ◌+◌, ◌*◌, ◌<◌, ◌≤◌, List, [], ◌∷◌, ◌++◌, Some, None, length}
+use Rattle.proto_core.specs.Parties.{of_three}
 use Rattle.share_ring.specs.Rings.{add_ring, xor_ring}
 use Rattle.proto_core.specs.declared.party.Number.{Number}
-use Rattle.proto_core.specs.declared.party.Number.TheVariants.{One, Two, Three}
 use Rattle.proto_core.specs.Protocol.{Protocol}
 use Rattle.protocol_model.specs.Gates.{Joined, Local}
 use Rattle.protocol_model.specs.Gates as model
@@ -108,13 +108,11 @@ abbrev pub run_gates : (dealt : Number → Values) → (dealt_sizes sizes : List
 run_gates dealt ds sizes [] = []
 run_gates dealt ds sizes (gate ∷ gates) = run_gate dealt ds sizes gate ∷ run_gates dealt ds (sizes ++ sizes_made ds sizes gate) gates
 
--- the sizes of all values behind the gates
+-- the sizes of all values after the gates
 abbrev pub sizes_after : (dealt_sizes sizes : List ℕ) → List Gate → List ℕ
 sizes_after ds sizes [] = sizes
 sizes_after ds sizes (gate ∷ gates) = sizes_after ds (sizes ++ sizes_made ds sizes gate) gates
 
 -- the miner whose words are counted
 abbrev pub miner_of : Number → Miner
-miner_of One = Miner1
-miner_of Two = Miner2
-miner_of Three = Miner3
+miner_of = of_three Miner1 Miner2 Miner3

@@ -59,7 +59,7 @@ pub fn runs_are_ready()
         ((i : Number) → AreWords (tapes i)) → Ready (run_gates dealt dealt_sizes [] gates) (λ i. []) tapes }
 {}
 
-/// Law: behind a run of gates, from values that the miners were dealt, they hold values that fit the gates, whatever
+/// Law: after a run of gates, from values that the miners were dealt, they hold values that fit the gates, whatever
 /// words they draw, and the opened words are those of the values that are opened.
 pub fn runs_compute_values()
     ensures { (dealt_kinds kinds : List Kind) (inputs : Values) (dealt : Number → Values) (dealt_sizes : List ℕ) (gates : List GateValue) (tapes : Tapes) →

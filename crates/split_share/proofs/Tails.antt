@@ -6,9 +6,9 @@ use Rattle.proto_core.specs.declared.party.Number.TheVariants.{One, Two, Three}
 use Rattle.proto_core.specs.Elementwise.{minus, zeros}
 use Rattle.proto_core.specs.Protocol.{Joint}
 use Rattle.proto_core.specs.Resharing.{sum_of_three}
-use Rattle.proto_core.specs.Strand.{accepts, Ends, Acts, Sent}
+use Rattle.proto_core.specs.Strand.{accepts, Ends, Acts, Sent, one_field}
 use Rattle.proto_core.proofs.MessageFields.{accepts-one_words, accepted-one_words}
-use Rattle.split_share.specs.SplitStrand.{Held, held_of, signed_sum, words_shape, two_ends, three_ends, awaits12, awaits13, split_strand}
+use Rattle.split_share.specs.SplitStrand.{Held, held_of, signed_sum, two_ends, three_ends, awaits12, awaits13, split_strand}
 use Rattle.split_share.specs.Splitting.{rest_of_one, first_word, second_word, value_of, sum_or_difference}
 use Rattle.split_share.specs.SplittingLaws.{splits}
 use Rattle.split_share.specs.Parts.{AreShares}
@@ -94,8 +94,8 @@ module _ (negated : Bool) (n : ℕ) (j : Joint) where
 
 -- ---- a message is refused exactly where it has not the shape that the strand waits for
 
-pub accepts-words : (n : ℕ) (m : List ℕ) → length m ≡ n → accepts (words_shape n) m ≡ true
+pub accepts-words : (n : ℕ) (m : List ℕ) → length m ≡ n → accepts (one_field n) m ≡ true
 accepts-words n m e = accepts-one_words n m e
 
-pub accepted-words : (n : ℕ) (m : List ℕ) → accepts (words_shape n) m ≡ true → length m ≡ n
+pub accepted-words : (n : ℕ) (m : List ℕ) → accepts (one_field n) m ≡ true → length m ≡ n
 accepted-words n m h = accepted-one_words n m h

@@ -6,7 +6,7 @@ use Rattle.proto_core.specs.declared.party.Number.TheVariants.{One, Two, Three}
 use Rattle.proto_core.specs.declared.link.Link.TheVariants.{Link12, Link13}
 use Rattle.proto_core.specs.Lists.{at, each}
 use Rattle.proto_core.specs.Elementwise.{minus, zeros}
-use Rattle.proto_core.specs.Strand.{Words, Shape, shaped, Strand, Ends, Acts, Waits, Sent}
+use Rattle.proto_core.specs.Strand.{Strand, Ends, Acts, Waits, Sent, one_field}
 
 -- a word, or its negative where the splitting is negated
 abbrev pub signed : Bool → ℕ → ℕ
@@ -16,9 +16,6 @@ signed true x = add_ring.neg x
 -- u + got or its negative, modulo 2^64
 unfoldable pub signed_sum : Bool → ℕ → (u got : List ℕ) → List ℕ
 signed_sum negated n u got = each n (λ k. signed negated (add_ring.add (at u k) (at got k)))
-
-abbrev pub words_shape : ℕ → Shape
-words_shape n = shaped n (Words ∷ [])
 
 -- what miners 2 and 3 hold
 pub record Held : Type 0 where
@@ -40,10 +37,10 @@ abbrev pub three_ends : ℕ → Held → List ℕ → Strand (List (List ℕ))
 three_ends n held got = Ends (zeros xor_ring n ∷ signed_sum held.negated n held.share got ∷ [])
 
 abbrev pub awaits12 : ℕ → Held → Strand (List (List ℕ))
-awaits12 n held = Waits Link12 (words_shape n) (two_ends n held)
+awaits12 n held = Waits Link12 (one_field n) (two_ends n held)
 
 abbrev pub awaits13 : ℕ → Held → Strand (List (List ℕ))
-awaits13 n held = Waits Link13 (words_shape n) (three_ends n held)
+awaits13 n held = Waits Link13 (one_field n) (three_ends n held)
 
 -- miner 1 splits its share u into its word k, for miner 2, and u - k, for miner 3
 abbrev pub split_strand : Bool → ℕ → Number → (u words : List ℕ) → Strand (List (List ℕ))

@@ -1,25 +1,24 @@
 -- The protocol that splits a number shared modulo 2^64 into two words, shared by xor, whose sum or difference it is.
 use Rattle.std.specs.Prelude.{◌≡◌, ℕ, Bool, true, false, List, [], ◌∷◌}
+use Rattle.proto_core.specs.Parties.{of_three}
 use Rattle.share_ring.specs.Rings.{add_ring, xor_ring}
-use Rattle.proto_core.specs.declared.link.Link.TheVariants.{Link12, Link13, Link21, Link23, Link31, Link32}
+use Rattle.proto_core.specs.declared.link.Link.TheVariants.{Link12, Link13}
 use Rattle.proto_core.specs.declared.party.Number.{Number}
 use Rattle.proto_core.specs.declared.party.Number.TheVariants.{One, Two, Three}
 use Rattle.proto_core.specs.Elementwise.{plus, minus, zeros}
-use Rattle.proto_core.specs.Strand.{Mail}
+use Rattle.proto_core.specs.Strand.{Mail, one_field}
 use Rattle.proto_core.specs.Script.{Move, Sends, Takes}
 use Rattle.proto_core.specs.Protocol.{Joint, Protocol}
 use Rattle.proto_core.specs.Resharing.{sum_of_three}
-use Rattle.split_share.specs.SplitStrand.{signed_sum, words_shape, split_strand}
+use Rattle.split_share.specs.SplitStrand.{signed_sum, split_strand}
 
 abbrev pub split_draws : ℕ → Number → ℕ
-split_draws n One = n
-split_draws n Two = 0
-split_draws n Three = 0
+split_draws n = of_three n 0 0
 
 abbrev pub split_script : ℕ → Number → List Move
-split_script n One = Sends Link12 (words_shape n) ∷ Sends Link13 (words_shape n) ∷ []
-split_script n Two = Takes Link12 (words_shape n) ∷ []
-split_script n Three = Takes Link13 (words_shape n) ∷ []
+split_script n One = Sends Link12 (one_field n) ∷ Sends Link13 (one_field n) ∷ []
+split_script n Two = Takes Link12 (one_field n) ∷ []
+split_script n Three = Takes Link13 (one_field n) ∷ []
 
 -- ---- of all three, by miner 1's word k
 
@@ -30,10 +29,7 @@ rest_of_one n j = minus add_ring n (j.u One) (j.words One)
 abbrev pub split_messages : ℕ → Joint → Mail
 split_messages n j Link12 = j.words One ∷ []
 split_messages n j Link13 = rest_of_one n j ∷ []
-split_messages n j Link21 = []
-split_messages n j Link23 = []
-split_messages n j Link31 = []
-split_messages n j Link32 = []
+split_messages n j _ = []
 
 -- the shares of the first word: u_2 + k at miner 2
 abbrev pub first_word : ℕ → Joint → Number → List ℕ
@@ -55,10 +51,7 @@ split_tape n _ j m = j.words m
 abbrev pub split_received : (words : Number → List ℕ) → Mail
 split_received words Link12 = words One ∷ []
 split_received words Link13 = words One ∷ []
-split_received words Link21 = []
-split_received words Link23 = []
-split_received words Link31 = []
-split_received words Link32 = []
+split_received words _ = []
 
 abbrev pub split_protocol : Bool → Protocol
 split_protocol negated =

@@ -11,7 +11,7 @@ use Rattle.proto_core.specs.declared.party.Number.TheVariants.{One, Two, Three}
 use Rattle.proto_core.specs.Parties.{sender_of, receiver_of}
 use Rattle.proto_core.specs.Lists.{at, AreWords}
 use Rattle.proto_core.specs.Elementwise.{plus, minus, zeros}
-use Rattle.proto_core.specs.Strand.{accepts, Act, Sent, Ends, Ran, run, on_link, opened_in, Begins}
+use Rattle.proto_core.specs.Strand.{accepts, Act, Sent, Ends, Ran, run, on_link, opened_in, Begins, one_field}
 use Rattle.proto_core.specs.Net.{into, run_of, nothing, Finishes}
 use Rattle.proto_core.specs.Script.{EndsWith, Moves, Matched, UsesOwnLinks, sends_on}
 use Rattle.proto_core.specs.Protocol.{Joint, Fits, Lawful, with_words, strands_of, AreMessages, AreBlocks, IsBlock}
@@ -21,7 +21,7 @@ use Rattle.proto_core.proofs.ElementwiseLaws.{length-minus, length-zeros, AreWor
 use Rattle.proto_core.proofs.MessageFields.{accepts-one_words}
 use Rattle.proto_core.proofs.Beginnings.{begins-self}
 use Rattle.proto_core.proofs.Nodes.{into-is, mail-none, run-previous, run-next}
-use Rattle.split_share.specs.SplitStrand.{held_of, signed, signed_sum, words_shape, two_ends, three_ends, split_strand}
+use Rattle.split_share.specs.SplitStrand.{held_of, signed, signed_sum, two_ends, three_ends, split_strand}
 use Rattle.split_share.specs.Splitting.{split_draws, split_script, rest_of_one, split_messages, first_word, second_word, split_tape, split_received}
 use Rattle.split_share.specs.Splitting.{split_protocol, Splits}
 
@@ -123,7 +123,7 @@ module _ (b : Bool) where
     abbrev done_of : Number → Ran (List (List ℕ))
     done_of i = record { acts = sends_of i; left = Ends (outputs_of i); unread = nothing }
 
-    rest-fits : accepts (words_shape n) (rest_of_one n j) ≡ true
+    rest-fits : accepts (one_field n) (rest_of_one n j) ≡ true
     rest-fits = accepts-one_words n _ (length-minus add_ring n (j.u One) (j.words One))
 
     whole : (i : Number) → run_of (strands_of (split_protocol b) n j) (split_messages n j) i ≡ done_of i
@@ -132,11 +132,11 @@ module _ (b : Bool) where
         ∙ ap (λ m. record { acts = sends_of One; left = Ends (outputs_of One); unread = m }) (mail-none One)
     whole Two =
         ap (run (split_strand b n Two (j.u Two) (j.words Two))) (into-is Two (split_messages n j))
-        ∙ run-previous Two (words_shape n) (two_ends n (held_of (j.u Two) b)) (j.words One) [] [] (accepts-one_words n _ (fits.words One))
+        ∙ run-previous Two (one_field n) (two_ends n (held_of (j.u Two) b)) (j.words One) [] [] (accepts-one_words n _ (fits.words One))
         ∙ ap (λ m. record { acts = []; left = Ends (outputs_of Two); unread = m }) (mail-none Two)
     whole Three =
         ap (run (split_strand b n Three (j.u Three) (j.words Three))) (into-is Three (split_messages n j))
-        ∙ run-next Three (words_shape n) (three_ends n (held_of (j.u Three) b)) (rest_of_one n j) [] [] rest-fits
+        ∙ run-next Three (one_field n) (three_ends n (held_of (j.u Three) b)) (rest_of_one n j) [] [] rest-fits
         ∙ ap (λ m. record { acts = []; left = Ends (outputs_of Three); unread = m }) (mail-none Three)
 
     -- nothing that is sent waits for a message

@@ -24,7 +24,7 @@ alike_stands {A} r q h = ap (standing_with r.left) h.unread ∙ at r.left q.left
     at (Acts act s) t e = ap (λ x. standing_with x q.unread) (sym e)
     at (Waits l shape k) t e = ap (λ x. standing_with x q.unread) (sym e.1)
 
--- ---- one strand, and what is behind it
+-- ---- one strand, and what is after it
 
 module _ {A B : Type 0} (f g : A → Strand B) where
   abbrev GoAlike : Ran A → Type 0
@@ -80,7 +80,7 @@ pub left_telling : {A : Type 0} (notices : List Notice) (s : Strand A) (mail : M
 left_telling [] s mail = refl
 left_telling (n ∷ ns) s mail = left_telling ns s mail
 
--- ---- what is drawn behind a run
+-- ---- what is drawn after a run
 
 none_is_least : (n : ℕ) → 0 ≤ n
 none_is_least n = omega arith

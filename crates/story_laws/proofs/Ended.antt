@@ -45,7 +45,7 @@ waits_end : {A X : Type 0} (l : Link) (n : Shape) (k : List ℕ → Strand A) (a
 waits_end l n k a e = cc
 
 module _ {A B : Type 0} (f : A → Strand B) (b : B) where
-  -- the first has ended with this, and the second behind it
+  -- the first has ended with this, and the second after it
   pub record EndsBoth (r : Ran A) : Type 0 where
     pub first : A
     pub ended : r.left ≡ Ends first

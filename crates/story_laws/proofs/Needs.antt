@@ -68,7 +68,7 @@ module _ (i : Number) (dealt : Values) where
   abbrev ds : List ℕ
   ds = sizes_of dealt
 
-  -- what gates need behind values of these sizes
+  -- what gates need after values of these sizes
   abbrev pub needs : (sizes : List ℕ) → List Gate → ℕ
   needs sizes gates = needed (run_gates (λ k. dealt) ds sizes gates) i
 
@@ -106,7 +106,7 @@ module _ (i : Number) (dealt : Values) where
     abbrev from_here : ℕ → B → ℕ → Type 0
     from_here base b n = Is b (base + n)
 
-    -- behind gates that suit values of these sizes
+    -- after gates that suit values of these sizes
     abbrev Behind : Count → (base : ℕ) → (sizes : List ℕ) → List Gate → Type 0
     Behind later base sizes gates =
         (all : Values) → AllSizesSuit ds sizes gates → sizes_of all ≡ sizes_after ds sizes gates →
@@ -138,7 +138,7 @@ module _ (i : Number) (dealt : Values) where
       count_by b tape mail =
           if b then draws + drawn_behind (run (part tape) mail) (λ all unread. drawn_by_gates i dealt gates later all (drop draws tape) unread) else 0
 
-      -- the sizes of the values behind the gate
+      -- the sizes of the values after the gate
       abbrev then_sizes : List ℕ
       then_sizes = sizes_of values ++ sizes_made ds (sizes_of values) gate
 
@@ -208,7 +208,7 @@ module _ (w : World) (c : List Function) where
   went_gates m (Ok x) = refl
   went_gates m (Err e) = stopped_gates m e.1 e.0
 
-  -- its gates come behind those that were there
+  -- its gates come after those that were there
   gates_grow : (p : Place) (told : List ℕ) → Begins p.stage.gates (place_of (step_told w c p told)).stage.gates
   gates_grow p told =
       let s : Stage = telling_stage told p.stage in

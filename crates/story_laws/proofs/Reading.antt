@@ -97,7 +97,7 @@ reads_telling unfit notices strand count h =
       least = λ s mail k less. left_telling notices (strand (take k s)) mail ∙ h.least s mail k less;
     }
 
--- ---- a part that draws the first words of the tape, and what is behind it
+-- ---- a part that draws the first words of the tape, and what is after it
 
 module _ {A B : Type 0} (unfit : B) (d : ℕ) (part : Taping A) (front : (s t : List ℕ) → SameFront d t s → part t ≡ part s)
     (strand : A → Taping B) (count : A → Counting) (each : (a : A) → ReadsOnly unfit (strand a) (count a)) where
@@ -156,7 +156,7 @@ module _ {A B : Type 0} (unfit : B) (d : ℕ) (part : Taping A) (front : (s t : 
           ap (λ x. d + drawn_behind (run x mail) (behind t)) is
           ∙ ap (λ n. d + n) (behind_same r (behind t) (behind s) (λ a ended. (at a ended).1))
 
-  -- where the part has its words, and what is behind it too few
+  -- where the part has its words, and what is after it too few
   pub part_least : (s : List ℕ) (mail : Mail) (k : ℕ) → d ≤ k → k < then_count s mail → LacksWords unfit (then_strand (take k s)) mail
   part_least s mail k enough less =
       ap (λ x. (run (then_do x (λ a. strand a (drop d (take k s)))) mail).left) is

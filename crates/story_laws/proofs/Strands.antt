@@ -1,12 +1,13 @@
 -- Strands that wait at a miner's own links and send messages of the words of a frame by its own links, and what they come to.
 use Rattle.std.proofs.Common.{◌≡◌, ◌≢◌, ℕ, List, [], ◌∷◌, length, Bool, true, false, if◌then◌else◌, Option, Some, None, All, refl, sym, subst}
+use Rattle.std.specs.Option.{option_map_or}
 use Rattle.std.proofs.lemmas.List.Elements.{All-nil, All-cons}
 use Rattle.proto_core.specs.declared.party.Number.{Number}
 use Rattle.proto_core.specs.declared.link.Link.{Link}
 use Rattle.proto_core.specs.declared.refused.BadMessage.{BadMessage}
 use Rattle.proto_core.specs.Parties.{sender_of, receiver_of}
 use Rattle.proto_core.specs.Script.{Move, Sends, Takes, Moves, UsesOwnLinks}
-use Rattle.proto_core.specs.Standing.{Standing, AtItsEnd, Awaits, Refuses, at_fault, before_mail, fault_of, standing_with}
+use Rattle.proto_core.specs.Standing.{Standing, AtItsEnd, Awaits, Refuses, before_mail, fault_of, standing_with}
 use Rattle.proto_core.specs.Strand.{Notice, Shape, Mail, Act, Sent, Opened, Told, Strand, Ends, Acts, Waits, Ran, accepts, came, run, taken, on_link}
 use Rattle.proto_core.specs.Strand.{same_link, then_do}
 use Rattle.proto_core.proofs.MessageFields.{accepted-length}
@@ -88,7 +89,7 @@ module _ (i : Number) where
   IsAtItsLinks (Awaits l) = receiver_of l ≡ i
   IsAtItsLinks (Refuses l cause) = receiver_of l ≡ i
 
-  fault_at : (l : Link) (o : Option BadMessage) → receiver_of l ≡ i → IsAtItsLinks (at_fault l o)
+  fault_at : (l : Link) (o : Option BadMessage) → receiver_of l ≡ i → IsAtItsLinks (option_map_or (Refuses l) o (Awaits l))
   fault_at l None h = h
   fault_at l (Some cause) h = h
 

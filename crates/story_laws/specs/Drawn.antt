@@ -12,14 +12,14 @@ use Rattle.code_places.specs.Places.{Place, step_told}
 use Rattle.gate_node.specs.OwnGates.{own_gate, own_draws, can_run}
 use Rattle.own_code.specs.OwnCode.{gates_between, led_by}
 
--- ---- behind a run
+-- ---- after a run
 
 abbrev pub at_end : {A : Type 0} → Strand A → (A → ℕ) → ℕ
 at_end (Ends a) behind = behind a
 at_end (Acts act s) behind = 0
 at_end (Waits l shape k) behind = 0
 
--- what is drawn behind a run that has come to its end, by what it ends with and the messages that it leaves
+-- what is drawn after a run that has come to its end, by what it ends with and the messages that it leaves
 abbrev pub drawn_behind : {A : Type 0} → Ran A → (A → Mail → ℕ) → ℕ
 drawn_behind r behind = at_end r.left (λ a. behind a r.unread)
 
@@ -33,7 +33,7 @@ module _ (i : Number) (dealt : Values) where
   abbrev pub own_part : Gate → Values → (tape : List ℕ) → Strand Values
   own_part gate values tape = gates_strand i (own_gate i dealt values gate ∷ []) values tape
 
-  -- by gates, and then by what is done behind them
+  -- by gates, and then by what is done after them
   abbrev pub drawn_by_gates : List Gate → Count → Count
   drawn_by_gates [] later values tape mail = later values tape mail
   drawn_by_gates (gate ∷ gates) later values tape mail =

@@ -1,4 +1,4 @@
--- The dealer's words of a view: for the third miner, input by input, its share and the second one's, and then the words behind the need.
+-- The dealer's words of a view: for the third miner, input by input, its share and the second one's, and then the words after the need.
 use Rattle.std.proofs.Common.{
   ◌≡◌,
   ℕ,

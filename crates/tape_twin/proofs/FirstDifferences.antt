@@ -1,11 +1,20 @@
 -- Two inputs are alike exactly where they have no first difference.
-use Rattle.std.proofs.Common.{◌≡◌, ℕ, ◌+◌, ◌==◌, Bool, true, false, if◌then◌else◌, List, [], ◌∷◌, ◌++◌, length, Option, Some, None, bytes_eq}
+use Rattle.std.proofs.Common.{◌≡◌, ℕ, ◌+◌, ◌==◌, Bool, true, false, if◌then◌else◌, List, [], ◌∷◌, ◌++◌, length, map, get_or, Option, Some, None, bytes_eq}
 use Rattle.std.proofs.Common.{refl, sym, ◌∙◌, ap, inl, inr, arith, eqb-true, eq-eqb, ne_eqb}
 use Rattle.std.proofs.lemmas.Bool.{false≢true, and_from, and_parts}
 use Rattle.std.proofs.lemmas.Slice.Eq.{bytes_eq-Decides}
-use Rattle.value_file.specs.declared.value.DataType.{DataType}
+use Rattle.std.proofs.lemmas.List.{length-replicate}
+use Rattle.secrec_ast.specs.declared.expression.DataType.{DataType}
+use Rattle.secrec_ast.specs.declared.expression.DataType.TheVariants as datatype
+use Rattle.typed_tree.specs.declared.kinds.Shape.{Shape}
+use Rattle.typed_tree.specs.Shapes.{shape_of}
+use Rattle.language_model.specs.Effects.{GivenInput}
+use Rattle.language_model.specs.Evaluation.{same_type, same_truth, same_shape}
+use Rattle.language_model.specs.Words.{truth_word}
+use Rattle.clear_eval.specs.Offers.{public_given, part_given}
+use Rattle.value_file.specs.declared.value.DataType as told
 use Rattle.value_file.specs.declared.value.DataType.TheVariants as kind
-use Rattle.value_file.specs.declared.value.Shape.{Shape}
+use Rattle.value_file.specs.declared.value.Shape as form
 use Rattle.value_file.specs.declared.value.Shape.TheVariants.{Scalar, Array}
 use Rattle.value_file.specs.declared.value.Value.{Value}
 use Rattle.value_file.specs.declared.value.Value.TheVariants.{Number, Truth, Numbers, Truths}
@@ -18,95 +27,108 @@ use Rattle.typed_tree.specs.Programs.{TypedProgramTree}
 use Rattle.program_views.specs.Views.{run_on}
 use Rattle.program_views.specs.TapeMaps.{AreAlike}
 use Rattle.tape_twin.specs.Alike.{DifferHere, PartsDiffer, WordsDiffer, BeginsWith, OneBegins}
-use Rattle.tape_twin.specs.FirstDifference.{same_bit, same_bits, same_type, same_shape, same_value, same_shown, same_entry, other_entry, Difference}
+use Rattle.tape_twin.specs.FirstDifference.{same_input, same_entry, other_entry, Difference}
 use Rattle.tape_twin.specs.FirstDifference.{at_entry, at_word, other_word, entry_first, difference}
 use Rattle.tape_twin.proofs.Runs.{alike-so}
 
--- ---- an entry is the same as itself
+-- ---- an input is the same as itself, and as no other
 
-bit-itself : (b : Bool) → same_bit b b ≡ true
-bit-itself true = refl
-bit-itself false = refl
-
-bits-itself : (bs : List Bool) → same_bits bs bs ≡ true
-bits-itself [] = refl
-bits-itself (b ∷ bs) = and_from (same_bit b b) (same_bits bs bs) (bit-itself b) (bits-itself bs)
+truth-itself : (b : Bool) → same_truth b b ≡ true
+truth-itself true = refl
+truth-itself false = refl
 
 type-itself : (t : DataType) → same_type t t ≡ true
-type-itself kind.Uint64 = refl
-type-itself kind.Bool = refl
+type-itself datatype.Uint64 = refl
+type-itself datatype.Bool = refl
 
-shape-itself : (s : Shape) → same_shape s s ≡ true
-shape-itself Scalar = refl
-shape-itself (Array n) = eq-eqb n n refl
+bytes-itself : (xs : List ℕ) → bytes_eq xs xs ≡ true
+bytes-itself xs = (bytes_eq-Decides xs xs).1 refl
 
-value-itself : (v : Value) → same_value v v ≡ true
-value-itself (Number n) = eq-eqb n n refl
-value-itself (Truth b) = bit-itself b
-value-itself (Numbers ns) = (bytes_eq-Decides ns ns).1 refl
-value-itself (Truths bs) = bits-itself bs
+input-itself : (x : GivenInput) → same_input x x ≡ true
+input-itself x =
+    and_from (bytes_eq x.text x.text) _ (bytes-itself x.text)
+    (and_from (same_truth x.secret x.secret) _ (truth-itself x.secret)
+    (and_from (same_shape x.shape x.shape) (bytes_eq x.words x.words)
+    (and_from (same_type x.shape.element x.shape.element) (same_truth x.shape.array x.shape.array) (type-itself x.shape.element) (truth-itself x.shape.array))
+    (bytes-itself x.words)))
 
-shown-itself : (v : PublicValue) → same_shown v v ≡ true
-shown-itself (Known v) = value-itself v
-shown-itself (Hidden t s) = and_from (same_type t t) (same_shape s s) (type-itself t) (shape-itself s)
+truth-same : (b c : Bool) → same_truth b c ≡ true → b ≡ c
+truth-same true true h = refl
+truth-same true false h = absurd (false≢true h)
+truth-same false true h = absurd (false≢true h)
+truth-same false false h = refl
+
+type-same : (t u : DataType) → same_type t u ≡ true → t ≡ u
+type-same datatype.Uint64 datatype.Uint64 h = refl
+type-same datatype.Uint64 datatype.Bool h = absurd (false≢true h)
+type-same datatype.Bool datatype.Uint64 h = absurd (false≢true h)
+type-same datatype.Bool datatype.Bool h = refl
+
+shape-same : (s t : Shape) → same_shape s t ≡ true → s ≡ t
+shape-same s t h =
+    let both = and_parts (same_type s.element t.element) (same_truth s.array t.array) h in
+    ap (λ (element : DataType). shape_of element s.array) (type-same s.element t.element both.0)
+    ∙ ap (λ (array : Bool). shape_of t.element array) (truth-same s.array t.array both.1)
+
+abbrev given : (text : List ℕ) (secret : Bool) → Shape → (words : List ℕ) → GivenInput
+given text secret shape words = record { text = text; secret = secret; shape = shape; words = words }
+
+input-same : (x y : GivenInput) → same_input x y ≡ true → x ≡ y
+input-same x y h =
+    let a = and_parts (bytes_eq x.text y.text) _ h in
+    let b = and_parts (same_truth x.secret y.secret) _ a.1 in
+    let c = and_parts (same_shape x.shape y.shape) (bytes_eq x.words y.words) b.1 in
+    ap (λ (text : List ℕ). given text x.secret x.shape x.words) ((bytes_eq-Decides x.text y.text).0 a.0)
+    ∙ ap (λ (secret : Bool). given y.text secret x.shape x.words) (truth-same x.secret y.secret b.0)
+    ∙ ap (λ (shape : Shape). given y.text y.secret shape x.words) (shape-same x.shape y.shape c.0)
+    ∙ ap (λ (words : List ℕ). given y.text y.secret y.shape words) ((bytes_eq-Decides x.words y.words).0 c.1)
+
+-- ---- the entry is read off the input that it is to a run
+
+abbrev known-back : DataType → (array : Bool) → (words : List ℕ) → Value
+known-back datatype.Uint64 false words = Number (get_or words 0 0)
+known-back datatype.Uint64 true words = Numbers words
+known-back datatype.Bool false words = Truth (get_or words 0 0 == 1)
+known-back datatype.Bool true words = Truths (map (λ w. w == 1) words)
+
+abbrev type-back : DataType → told.DataType
+type-back datatype.Uint64 = kind.Uint64
+type-back datatype.Bool = kind.Bool
+
+abbrev shape-back : (array : Bool) → (count : ℕ) → form.Shape
+shape-back false count = Scalar
+shape-back true count = Array count
+
+abbrev value-back : (secret : Bool) → Shape → (words : List ℕ) → PublicValue
+value-back false shape words = Known (known-back shape.element shape.array words)
+value-back true shape words = Hidden (type-back shape.element) (shape-back shape.array (length words))
+
+truths-back : (bs : List Bool) → map (λ w. w == 1) (map truth_word bs) ≡ bs
+truths-back [] = refl
+truths-back (true ∷ bs) = ap (λ (cs : List Bool). true ∷ cs) (truths-back bs)
+truths-back (false ∷ bs) = ap (λ (cs : List Bool). false ∷ cs) (truths-back bs)
+
+shown-back : (name : List ℕ) (v : PublicValue)
+    → value-back (public_given name v).secret (public_given name v).shape (public_given name v).words ≡ v
+shown-back name (Known (Number n)) = refl
+shown-back name (Known (Truth true)) = refl
+shown-back name (Known (Truth false)) = refl
+shown-back name (Known (Numbers ns)) = refl
+shown-back name (Known (Truths bs)) = ap (λ (cs : List Bool). Known (Truths cs)) (truths-back bs)
+shown-back name (Hidden kind.Uint64 Scalar) = refl
+shown-back name (Hidden kind.Uint64 (Array n)) = ap (λ (k : ℕ). Hidden kind.Uint64 (Array k)) (length-replicate n 0)
+shown-back name (Hidden kind.Bool Scalar) = refl
+shown-back name (Hidden kind.Bool (Array n)) = ap (λ (k : ℕ). Hidden kind.Bool (Array k)) (length-replicate n 0)
+
+text-given : (name : List ℕ) (v : PublicValue) → (public_given name v).text ≡ name
+text-given name (Known v) = refl
+text-given name (Hidden t s) = refl
+
+-- ---- an entry is the same as itself, and as no other
 
 entry-itself : (e : PublicEntry) → same_entry e e ≡ true
 unfolding same_entry
-entry-itself e = and_from (bytes_eq e.name e.name) (same_shown e.value e.value) ((bytes_eq-Decides e.name e.name).1 refl) (shown-itself e.value)
-
--- ---- and to no other
-
-bit-same : (b c : Bool) → same_bit b c ≡ true → b ≡ c
-bit-same true true h = refl
-bit-same true false h = absurd (false≢true h)
-bit-same false true h = absurd (false≢true h)
-bit-same false false h = refl
-
-bits-same : (bs cs : List Bool) → same_bits bs cs ≡ true → bs ≡ cs
-bits-same [] [] h = refl
-bits-same [] (c ∷ cs) h = absurd (false≢true h)
-bits-same (b ∷ bs) [] h = absurd (false≢true h)
-bits-same (b ∷ bs) (c ∷ cs) h =
-    let both = and_parts (same_bit b c) (same_bits bs cs) h in
-    ap (λ (x : Bool). x ∷ bs) (bit-same b c both.0) ∙ ap (λ (xs : List Bool). c ∷ xs) (bits-same bs cs both.1)
-
-type-same : (t u : DataType) → same_type t u ≡ true → t ≡ u
-type-same kind.Uint64 kind.Uint64 h = refl
-type-same kind.Uint64 kind.Bool h = absurd (false≢true h)
-type-same kind.Bool kind.Uint64 h = absurd (false≢true h)
-type-same kind.Bool kind.Bool h = refl
-
-shape-same : (s r : Shape) → same_shape s r ≡ true → s ≡ r
-shape-same Scalar Scalar h = refl
-shape-same Scalar (Array n) h = absurd (false≢true h)
-shape-same (Array m) Scalar h = absurd (false≢true h)
-shape-same (Array m) (Array n) h = ap (λ (k : ℕ). Array k) (eqb-true m n h)
-
-value-same : (v w : Value) → same_value v w ≡ true → v ≡ w
-value-same (Number m) (Number n) h = ap (λ (k : ℕ). Number k) (eqb-true m n h)
-value-same (Truth b) (Truth c) h = ap (λ (k : Bool). Truth k) (bit-same b c h)
-value-same (Numbers ms) (Numbers ns) h = ap (λ (k : List ℕ). Numbers k) ((bytes_eq-Decides ms ns).0 h)
-value-same (Truths bs) (Truths cs) h = ap (λ (k : List Bool). Truths k) (bits-same bs cs h)
-value-same (Number m) (Truth c) h = absurd (false≢true h)
-value-same (Number m) (Numbers ns) h = absurd (false≢true h)
-value-same (Number m) (Truths cs) h = absurd (false≢true h)
-value-same (Truth b) (Number n) h = absurd (false≢true h)
-value-same (Truth b) (Numbers ns) h = absurd (false≢true h)
-value-same (Truth b) (Truths cs) h = absurd (false≢true h)
-value-same (Numbers ms) (Number n) h = absurd (false≢true h)
-value-same (Numbers ms) (Truth c) h = absurd (false≢true h)
-value-same (Numbers ms) (Truths cs) h = absurd (false≢true h)
-value-same (Truths bs) (Number n) h = absurd (false≢true h)
-value-same (Truths bs) (Truth c) h = absurd (false≢true h)
-value-same (Truths bs) (Numbers ns) h = absurd (false≢true h)
-
-shown-same : (v w : PublicValue) → same_shown v w ≡ true → v ≡ w
-shown-same (Known v) (Known w) h = ap (λ (x : Value). Known x) (value-same v w h)
-shown-same (Known v) (Hidden u r) h = absurd (false≢true h)
-shown-same (Hidden t s) (Known w) h = absurd (false≢true h)
-shown-same (Hidden t s) (Hidden u r) h =
-    let both = and_parts (same_type t u) (same_shape s r) h in
-    ap (λ (x : DataType). Hidden x s) (type-same t u both.0) ∙ ap (λ (x : Shape). Hidden u x) (shape-same s r both.1)
+entry-itself e = input-itself (part_given e)
 
 abbrev entry-of : List ℕ → PublicValue → PublicEntry
 entry-of name value = record { name = name; value = value }
@@ -114,9 +136,11 @@ entry-of name value = record { name = name; value = value }
 entry-same : (d e : PublicEntry) → same_entry d e ≡ true → d ≡ e
 unfolding same_entry
 entry-same d e h =
-    let both = and_parts (bytes_eq d.name e.name) (same_shown d.value e.value) h in
-    ap (λ (name : List ℕ). entry-of name d.value) ((bytes_eq-Decides d.name e.name).0 both.0)
-    ∙ ap (λ (value : PublicValue). entry-of e.name value) (shown-same d.value e.value both.1)
+    let same = input-same (part_given d) (part_given e) h in
+    let name = sym (text-given d.name d.value) ∙ ap (λ (g : GivenInput). g.text) same ∙ text-given e.name e.value in
+    let value =
+    sym (shown-back d.name d.value) ∙ ap (λ (g : GivenInput). value-back g.secret g.shape g.words) same ∙ shown-back e.name e.value in
+    ap (λ (x : List ℕ). entry-of x d.value) name ∙ ap (λ (v : PublicValue). entry-of e.name v) value
 
 entry-other : (d e : PublicEntry) → (d ≡ e → ⊥) → same_entry d e ≡ false
 entry-other d e differ = at (same_entry d e) refl

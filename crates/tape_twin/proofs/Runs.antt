@@ -70,7 +70,7 @@ pub runs-on-seen :
 runs-on-seen i first second gates others t seen are one other there =
     runs-on-same second others seen t (subst (λ (s : FourTapes). SameLengths s t) (sym there) (correspond i first gates t are one).kept) other
 
--- the second map, behind the first, by the gates of the second run on the tapes of the first
+-- the second map, after the first, by the gates of the second run on the tapes of the first
 pub twin-is :
     (i : Number) (p : TypedProgramTree) (first second : List Entry) (t seen made : FourTapes) (budget : ℕ) (one other : Report) →
     AreTapes t → CanRun first one.gates t → one ≡ run_on p first (lengths_of t) budget → other ≡ run_on p second (lengths_of t) budget →

@@ -8,7 +8,7 @@ use Rattle.program_views.specs.Views.{run_on}
 use Rattle.tape_twin.specs.declared.twin_err.TwinErr.{TwinErr}
 use Rattle.tape_twin.specs.declared.twin_err.TwinErr.TheVariants.{PublicDiffers, OpenedDiffers, Memory}
 
--- behind what two public parts have in common: the first entries are not the same, or one part ends; the name is the first part's, or the
+-- after what two public parts have in common: the first entries are not the same, or one part ends; the name is the first part's, or the
 -- second one's where the first ends
 abbrev pub DifferHere : (rest other : List PublicEntry) → (name : List ℕ) → Type 0
 DifferHere [] [] name = ⊥
@@ -24,7 +24,7 @@ pub record PartsDiffer (first second : List PublicEntry) (name : List ℕ) : Typ
   pub second_is : second ≡ common ++ other
   pub here : DifferHere rest other name
 
--- behind so many words that they have in common, two lists have these words
+-- after so many words that they have in common, two lists have these words
 pub record WordsDiffer (first second : List ℕ) (place x y : ℕ) : Type 0 where
   pub common : List ℕ
   pub rest : List ℕ

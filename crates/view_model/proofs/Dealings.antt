@@ -50,7 +50,7 @@ module _ (d : Domain) (v : Value) (words : List ℕ) (size : length words ≡ dr
       by_domain domain.Public h = refl
       by_domain domain.Private h = masks_twice (ring_of (type_of v)) (ring_laws (type_of v)) (elements_of v) words (twice _ _ _ h (length-elements_of v)) i are
 
-  -- with any words behind them, and behind what corresponds to them
+  -- with any words after them, and after what corresponds to them
   part_is_made : (i : Number) (later later2 : List ℕ) → part_of i d v (words ++ later) ≡ made_part i (shown d v) (seen_for i d v words ++ later2)
   part_is_made i later later2 = by_domain d size
     where

@@ -1,5 +1,6 @@
 -- What a miner sees of a run of gates, and what the simulator makes of it.
 use Rattle.std.specs.Prelude.{ℕ, List, [], take}
+use Rattle.proto_core.specs.Strand.{Mail}
 use Rattle.proto_core.specs.declared.party.Number.{Number}
 use Rattle.protocol_model.specs.Gates as model
 use Rattle.protocol_model.specs.Gates.{needed, gates_script}
@@ -23,15 +24,20 @@ pub record Seen : Type 0 where
   pub drew : List ℕ
   pub got : List Arrival
 
+-- of these gates, with these input shares, where the messages of all links are this mail
+abbrev pub seen_with : Number → List ShareEntry → List model.Gate → Mail → FourTapes → Delivery → Seen
+seen_with i inputs gates mail t delivery =
+    record {
+      inputs = inputs;
+      drew = take (needed gates i) (miners_of t i);
+      got = arrivals i mail (order_of (λ k. gates_script k gates) delivery);
+    }
+
 -- of a run in which the inputs are dealt
 abbrev pub seen_by : Number → List Entry → List Gate → FourTapes → Delivery → Seen
 seen_by i entries gates t delivery =
-    record {
-      inputs = dealt_entries i entries t.dealer;
-      drew = take (needed (gates_dealt entries t.dealer gates) i) (miners_of t i);
-      got = arrivals i (run_messages (gates_dealt entries t.dealer gates) no_values (miners_of t))
-          (order_of (λ k. gates_script k (gates_dealt entries t.dealer gates)) delivery);
-    }
+    seen_with i (dealt_entries i entries t.dealer) (gates_dealt entries t.dealer gates)
+    (run_messages (gates_dealt entries t.dealer gates) no_values (miners_of t)) t delivery
 
 -- ---- the simulator: no private word among its arguments
 
@@ -40,12 +46,8 @@ gates_made i part dealer gates = run_gates (λ k. private_shares (made_entries i
 
 abbrev pub made_for : Number → List PublicEntry → List Gate → (opened : List ℕ) → FourTapes → Delivery → Seen
 made_for i part gates opened s delivery =
-    record {
-      inputs = made_entries i part s.dealer;
-      drew = take (needed (gates_made i part s.dealer gates) i) (miners_of s i);
-      got = arrivals i (made_messages i (gates_made i part s.dealer gates) [] opened (miners_of s))
-          (order_of (λ k. gates_script k (gates_made i part s.dealer gates)) delivery);
-    }
+    seen_with i (made_entries i part s.dealer) (gates_made i part s.dealer gates)
+    (made_messages i (gates_made i part s.dealer gates) [] opened (miners_of s)) s delivery
 
 -- what the run of gates opens
 abbrev pub opened_by_all : List Entry → List Gate → FourTapes → List ℕ

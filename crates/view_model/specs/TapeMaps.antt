@@ -1,5 +1,6 @@
 -- The tapes that a miner's view of a whole run is made of, the dealer's with them, and the way back.
 use Rattle.std.specs.Prelude.{◌≡◌, ◌≤◌, ℕ, Bool, nat_le, if◌then◌else◌, List, [], length}
+use Rattle.proto_core.specs.Parties.{of_three}
 use Rattle.proto_core.specs.declared.party.Number.{Number}
 use Rattle.proto_core.specs.declared.party.Number.TheVariants.{One, Two, Three}
 use Rattle.proto_core.specs.Lists.{AreWords}
@@ -15,9 +16,7 @@ use Rattle.tape_file.specs.Tapes.{FourTapes}
 use Rattle.view_model.specs.Dealing.{dealt_to, private_sizes, seen_dealer}
 
 abbrev pub miners_of : FourTapes → Tapes
-miners_of t One = t.one
-miners_of t Two = t.two
-miners_of t Three = t.three
+miners_of t = of_three t.one t.two t.three
 
 abbrev pub four_of : List ℕ → Tapes → FourTapes
 four_of dealer tapes = record { dealer = dealer; one = tapes One; two = tapes Two; three = tapes Three }

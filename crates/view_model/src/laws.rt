@@ -75,7 +75,7 @@ pub fn twins_are_as_many()
 {}
 
 /// Law: what the three miners are dealt of the private inputs are shares of these, numbers modulo 2^64 and truth values under
-/// xor; so behind a run they hold values that fit the gates over these inputs, and open those that are opened.
+/// xor; so after a run they hold values that fit the gates over these inputs, and open those that are opened.
 pub fn dealt_runs_compute_values()
     ensures dealt { (entries : List Entry) (dealer : List ℕ) →
         All HasWords entries → AreWords dealer → need_of entries ≤ length dealer →

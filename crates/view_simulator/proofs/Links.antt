@@ -52,7 +52,7 @@ blocks-links p i block same (n ∷ sizes) =
     ∙ ap (λ here. here ++ links_in (blocks_script p sizes i)) (same n)
     ∙ ap (λ later. block ++ later) (blocks-links p i block same sizes)
 
--- and then what comes behind it
+-- and then what comes after it
 joined-links :
     (p : Protocol) (i : Number) (block : List Move) → ((n : ℕ) → links_in (p.script n i) ≡ block) → (n : ℕ) (behind : List script.Move) →
     links_in ((blocked p).script n i ++ behind) ≡ repeat (length (block_sizes n)) block ++ links_in behind

@@ -9,7 +9,7 @@ use Rattle.value_file.specs.declared.public.PublicValue.{PublicValue}
 use Rattle.value_file.specs.declared.public.PublicValue.TheVariants.{Known, Hidden}
 use Rattle.value_file.specs.declared.public.PublicEntry.{PublicEntry}
 use Rattle.view_model.specs.Dealing.{hidden_then, hidden_sizes, hidden_draws}
-use Rattle.program_views.specs.Views.{opening_then, openings, hidden_need}
+use Rattle.program_views.specs.Views.{openings, hidden_need}
 
 -- what is made of a list, and then of one entry more
 pub one_more :
@@ -33,13 +33,10 @@ sizes_append (e ∷ es) fs = ap (hidden_then e.value) (sizes_append es fs) ∙ s
 
 -- ---- openings
 
-opening_append : (e : Event) (xs ys : List (List Element)) → opening_then e (xs ++ ys) ≡ opening_then e xs ++ ys
-opening_append (Open elements) xs ys = refl
-opening_append (Publish text elements) xs ys = refl
-
 pub openings_append : (es fs : List Event) → openings (es ++ fs) ≡ openings es ++ openings fs
 openings_append [] fs = refl
-openings_append (e ∷ es) fs = ap (opening_then e) (openings_append es fs) ∙ opening_append e (openings es) (openings fs)
+openings_append (Open elements ∷ es) fs = ap (λ (os : List (List Element)). elements ∷ os) (openings_append es fs)
+openings_append (Publish text elements ∷ es) fs = openings_append es fs
 
 -- ---- the words that the dealer needs
 

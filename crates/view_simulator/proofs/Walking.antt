@@ -13,7 +13,7 @@ use Rattle.view_simulator.specs.Blocks.{block_moves}
 use Rattle.view_simulator.specs.Sizes.{exchanged, SizesFit, AreKept}
 use Rattle.view_simulator.proofs.Links.{gate-links}
 
--- the links of a run of gates behind values of these sizes
+-- the links of a run of gates after values of these sizes
 abbrev pub run_links : (shares : Number → Values) → (dealt sizes : List ℕ) → List Gate → Number → List Move
 run_links shares dealt sizes gates i = links_in (gates_script i (run_gates shares dealt sizes gates))
 

@@ -48,7 +48,7 @@ IsViewOrRefusal seen answer (Err (Stalled miner link)) = answer ≡ network.Stal
 IsViewOrRefusal seen answer (Err Memory) = Unit {0}
 
 module _ (i : Number) (source : ProgramTree) (p : TypedProgramTree) (entries : List Entry) (t : FourTapes) (budget : ℕ) (delivery : Delivery) where
-  -- the words that the run opens, with more behind them
+  -- the words that the run opens, with more after them
   abbrev pub opened_and : (more : List ℕ) → List ℕ
   opened_and more = (run_on p entries (lengths_of t) budget).opened ++ more
 

@@ -5,7 +5,7 @@ ghost use Rattle.program_views.specs.Views.{hidden_need};
 
 use value_file::{PublicEntry, PublicValue};
 
-/// How many of so many words are left behind those that the dealer draws for an input: two for each element of a hidden one.
+/// How many of so many words are left after those that the dealer draws for an input: two for each element of a hidden one.
 fn left_behind(value: &PublicValue, words: u64) -> Option<u64>
     ensures some { IfSome result (λ left. words ≡ hidden_draws value.now + left) }
     ensures none { IfNone result (words < hidden_draws value.now) }

@@ -6,7 +6,7 @@ use proto_core::Number;
 use std::alloc::{AllocError, Global};
 use value_file::{PublicEntry, PublicPart, PublicValue, Words};
 
-/// So many words from the front, or all where there are fewer, and those behind them.
+/// So many words from the front, or all where there are fewer, and those after them.
 #[tactic(auto, using(crate::proofs::InputPieces::cut_steps))]
 fn cut(words: &[u64], count: u64) -> (&[u64], &[u64])
     ensures front { result.0.now ≡ take count words.now }
@@ -19,7 +19,7 @@ fn cut(words: &[u64], count: u64) -> (&[u64], &[u64])
     }
 }
 
-/// The words behind those of an input, of which a hidden one takes two for each element.
+/// The words after those of an input, of which a hidden one takes two for each element.
 fn behind<'a>(value: &PublicValue, words: &'a [u64]) -> &'a [u64]
     ensures { result.now ≡ drop (hidden_draws value.now) words.now }
 {
@@ -81,7 +81,7 @@ fn made_entry(
 }
 
 /// The input shares that the simulator makes for a miner, of the dealer's words that a view is made of. A public input stands there
-/// as it is; of a hidden one of n elements miners 1 and 3 have the next n words, and miner 2 the n words behind these. Where words are
+/// as it is; of a hidden one of n elements miners 1 and 3 have the next n words, and miner 2 the n words after these. Where words are
 /// wanting a share has those that there are.
 pub fn made_entries(
     alloc: Global,

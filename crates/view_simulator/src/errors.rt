@@ -15,7 +15,7 @@ pub enum SimulateErr {
     OpenedShort { have: u64 },
     /// The entry of this number, from 0, has a link of which all messages that were sent were delivered before.
     EmptyLink { entry: u64, link: Link, sent: u64 },
-    /// Behind the last entry this miner, the lowest that hasn't ended, still waits for a message on this link.
+    /// After the last entry this miner, the lowest that hasn't ended, still waits for a message on this link.
     Stalled { miner: Number, link: Link },
     /// There is no memory left.
     Memory,

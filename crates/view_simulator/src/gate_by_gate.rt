@@ -17,7 +17,7 @@ use gates::{Gate, blocks};
 use proto_core::Number;
 use std::alloc::{AllocError, Global};
 
-/// The moves of so many blocks, behind those that came before.
+/// The moves of so many blocks, after those that came before.
 fn push_blocks(count: u64, block: &[Move], script: &mut Vec<Move>) -> Result<(), AllocError>
     ensures { OnOk result (script.new.items ≡ script.old.items ++ repeat count block.now) }
 {
@@ -27,7 +27,7 @@ fn push_blocks(count: u64, block: &[Move], script: &mut Vec<Move>) -> Result<(),
     Ok(())
 }
 
-/// What each miner sends and takes in a gate whose messages are about so many elements, behind what it did before.
+/// What each miner sends and takes in a gate whose messages are about so many elements, after what it did before.
 fn add_gate(size: u64, gate: &Gate, scripts: &mut Scripts) -> Result<(), AllocError>
     ensures { OnOk result ((i : NumberValue) → moves_of scripts.new i
         ≡ moves_of scripts.old i ++ repeat (length (block_sizes size)) (block_moves gate.now i)) }
@@ -41,7 +41,7 @@ fn add_gate(size: u64, gate: &Gate, scripts: &mut Scripts) -> Result<(), AllocEr
 
 /// What each miner sends and takes in a run of gates, by their sizes alone. `dealt` are the sizes of what was dealt, in elements.
 ///
-/// Each gate that sends messages has to take fewer than 2^64 elements. Fails only where memory is wanting.
+/// Each gate that sends messages has to take fewer than 2^64 elements. Fails only where memory runs out.
 pub fn scripts(alloc: Global, dealt: &[u64], gates: &[Gate]) -> Result<Scripts, AllocError>
     requires { SizesFit dealt.now [] gates.now }
     ensures { IfOk result (λ scripts. (shares : NumberValue → Values) →

@@ -17,7 +17,7 @@ pub fn told_runs_can_be_made()
         ToldRunsCanBeMade source p part opened s budget }
 {}
 
-/// Law: with the public part of a file's inputs, the words that the run on them opens, also with more words behind these, and the mapped
+/// Law: with the public part of a file's inputs, the words that the run on them opens, also with more words after these, and the mapped
 /// tapes, the net of the simulator is that of the run; and what the simulator answers is the miner's view of the run where the delivery
 /// is accepted, and else the refusal of the run, or that memory ran short.
 pub fn runs_are_simulated()

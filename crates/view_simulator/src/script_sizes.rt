@@ -84,7 +84,7 @@ pub(crate) fn exchanged(sizes: &[Option<u64>], gate: &Gate) -> Option<u64>
     }
 }
 
-/// The sizes of what a gate makes, behind those of the values before it.
+/// The sizes of what a gate makes, after those of the values before it.
 pub(crate) fn push_sizes(
     dealt: &[u64],
     gate: &Gate,

@@ -31,7 +31,7 @@ pub struct SimulatedRun<'r> {
     pub delivery: &'r Delivery,
 }
 
-/// The view that the simulator makes for a miner of a run of an accepted program. Words that are told behind those that are opened are left
+/// The view that the simulator makes for a miner of a run of an accepted program. Words that are told after those that are opened are left
 /// alone.
 ///
 /// Where an opened value wants more words than were told, that is said, and else, where the delivery is refused, for which entry, or which

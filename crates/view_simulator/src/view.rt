@@ -1,7 +1,7 @@
 // The view of what a miner sees.
-ghost use Rattle.std.specs.Prelude.{◌≡◌, [], ◌++◌, Some, IfOk, OnOk};
+ghost use Rattle.std.specs.Prelude.{◌≡◌, [], ◌++◌, Some, IfOk, OnOk, ◌∷◌};
 ghost use Rattle.clear_eval.specs.Reports.{report_seen};
-ghost use Rattle.program_views.specs.Views.{opening_then, openings, view_with};
+ghost use Rattle.program_views.specs.Views.{openings, view_with};
 ghost use Rattle.view_simulator.specs.Making.{seen_of};
 
 use crate::made::Made;
@@ -14,7 +14,7 @@ use view_text::View;
 
 // The elements that were opened, if any were.
 fn push_opening(alloc: Global, opened: &mut Vec<Elements>, event: &Event) -> Result<(), AllocError>
-    ensures { OnOk result (opened.new.items ≡ opened.old.items ++ opening_then event.now []) }
+    ensures { OnOk result (opened.new.items ≡ opened.old.items ++ openings (event.now ∷ [])) }
 {
     match event {
         Event::Open(elements) => {

@@ -111,7 +111,7 @@ module _ (i : Number) (p : TypedProgramTree) (entries : List Entry) (t : FourTap
   accepts : walked nodes 0 nothing at ≡ Accepted
   accepts =
       subst (λ gs. walked nodes 0 nothing (order_of (λ k. gates_script k gs) delivery) ≡ net (λ k. gates_script k gs) delivery) same_gates
-      ((run).counted delivery)
+      ((run).counted_from (order_of (λ k. gates_script k (gates_to_run d r)) delivery) 0 nothing (λ l. tt))
       ∙ net_accepts
 
   come : arrived nodes i nothing at ≡ arrivals i (run_messages gates no_values (miners_of t)) at

@@ -3,7 +3,7 @@ use Rattle.std.specs.Prelude.{◌≡◌, ℕ, ◌-◌, List, [], ◌∷◌, map,
 use Rattle.sc_text.specs.declared.elements.Element.{Element}
 use Rattle.proto_core.specs.declared.party.Number.{Number}
 use Rattle.proto_core.specs.declared.link.Link.{Link}
-use Rattle.proto_core.specs.Strand.{Notice, Shown, Published, Handed, Strand, Ends, Ran, told_in}
+use Rattle.proto_core.specs.Strand.{Notice, Shown, Strand, Ends, Ran, told_in, Published, Handed}
 use Rattle.proto_core.specs.Net.{nothing, run_of, all_delivered}
 use Rattle.protocol_model.specs.Arrivals.{arrived}
 use Rattle.protocol_model.specs.Network.{Accepted, Delivery, order_of}
@@ -31,14 +31,11 @@ use Rattle.delivered_run.specs.OwnCode.{Ended, Reached}
 use Rattle.delivered_run.specs.OwnRuns.{own_nodes}
 
 -- the openings among what a miner tells
-abbrev pub shown_then : Notice → List (List Element) → List (List Element)
-shown_then (Shown form words) more = elements_told form words ∷ more
-shown_then (Published name form words) more = more
-shown_then (Handed name form words) more = more
-
 abbrev pub shown_in : List Notice → List (List Element)
 shown_in [] = []
-shown_in (notice ∷ notices) = shown_then notice (shown_in notices)
+shown_in (Shown form words ∷ notices) = elements_told form words ∷ shown_in notices
+shown_in (Published name form words ∷ notices) = shown_in notices
+shown_in (Handed name form words ∷ notices) = shown_in notices
 
 module _ (i : Number) (p : TypedProgramTree) (entries : List Entry) (t : FourTapes) (budget : ℕ) (delivery : Delivery) where
   -- three miners, each by its own shares and tape, with the code of these instances

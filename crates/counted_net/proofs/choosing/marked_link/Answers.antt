@@ -1,5 +1,6 @@
 use Rattle.std.proofs.Common.{◌+◌, drop, sym, ◌∙◌, ap, arith}
-use Rattle.protocol_model.specs.Network.{all_links, those, link_at}
+use Rattle.std.specs.Prelude.{filter, slice_get}
+use Rattle.protocol_model.specs.Network.{all_links}
 use Rattle.counted_net.specs.Nets.{is_marked}
 use Rattle.protocol_model.proofs.Choosing.{at_later, at_other}
 use Rattle.counted_net.proofs.choosing.marked_link.Goals as goal
@@ -16,5 +17,5 @@ loop-link-preserved c =
       | else-is_marked w ↦
           c.loop-link.invariant
           ∙ at_other p all_links i _ c.loop-link.left (omega arith) (sym c.is_marked.ensures ∙ w.if-is_marked.false)
-          ∙ sym (ap (λ n. link_at (those p (drop (i + 1) all_links)) n) w.left-is)
+          ∙ sym (ap (λ n. slice_get (filter p (drop (i + 1) all_links)) n) w.left-is)
     ]

@@ -2,7 +2,7 @@ use Rattle.std.proofs.Common.{rules, ◌≡◌, ◌∙◌, ◌-◌, suc, length,
 use Rattle.code_machine.specs.Views.{machine_seen}
 use Rattle.own_code.specs.Places.{told_by}
 use Rattle.gate_node.specs.Nodes.{filled}
-use Rattle.miner_core.proofs.Begins.{gates_quiet, begins_acts, begins_again, done_left}
+use Rattle.miner_core.proofs.Begins.{begins_acts, begins_again, comes_next, done_left, gates_quiet}
 use Rattle.miner_core.specs.Engines.{with_words}
 use Rattle.miner_core.proofs.engine.Engine.begin.Goals as goal
 
@@ -43,7 +43,7 @@ returns-clause-left g c =
     c.in_ok-speech.speech c.told_yet-before.result (c.wants_words.ensures.goes_on c.if-wants_words.false) c.told_yet-before.ensures.events
     c.told_yet-before.ensures.opened
     (λ words. λ last. c.in_ok-speech.ensures e.task.code words last
-    ∙ ap (λ o. told_by o (machine_seen e.task.code e.machine) words last) c.coming_step-coming.ensures.step) d
+    ∙ ap (λ o. told_by o (machine_seen e.task.code e.machine) words last) (c.coming_step-coming.ensures.step ∙ comes_next e.task.code e.machine)) d
 
 pub returns-then-wants_words-clause-sound : goal.returns-then-wants_words-clause-sound
 returns-then-wants_words-clause-sound g c =
