@@ -14,7 +14,7 @@ use Rattle.command_frame.specs.declared.plan.Plan.{Plan}
 use Rattle.command_frame.specs.declared.status.Status.{Status}
 use Rattle.command_frame.specs.declared.stop.Stop.{Stop}
 use Rattle.command_frame.specs.declared.stop.Stop.TheVariants as stops
-use Rattle.command_frame.specs.Answer.{Answer, Course, Effect, Written, after_writes, behind, decided_writes, effect_of, paths_in, whole_of, wholly, writes_in}
+use Rattle.command_frame.specs.Answer.{Answer, Course, Effect, Written, after_writes, behind, decided_writes, effect_of, paths_in, whole_of, writes_in}
 use Rattle.command_frame.specs.Decides.{Decides, FileFailed}
 use Rattle.command_frame.specs.Finish.{BreaksOff, Finishes, FinishesShort, OnlyAmong, PutPrefix, StopsFinishing, StopsMidway, WriteFaulted, WroteAll}
 use Rattle.command_frame.specs.Moments.{AreTold, Moment, Reach, Sources}
@@ -57,7 +57,7 @@ module _ (reach : Reach) (course : Course) (plan : Plan) (a b : Sources) (f : Fi
   still_told t = (decided t).1.told ∙ t.files
 
   in_whole : (So : Effect → Type 0) → AreTold reach a → So (behind course.first effect) → IsOkAnd (whole_of course) So
-  in_whole So t so = subst (λ (r : Answer). IsOkAnd (wholly course.first r) So) (sym (decided t).0) so
+  in_whole So t so = subst (λ (r : Answer). IsOkAnd (whole_of (record { first = course.first; answer = r })) So) (sym (decided t).0) so
 
   -- all files, those that were written first among them
   wrote_whole : AreTold reach a → WroteAll effect.writes b.files f → f.contents ≡ after_writes (course.first ++ effect.writes) a.files.contents

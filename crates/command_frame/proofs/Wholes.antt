@@ -16,7 +16,7 @@ use Rattle.command_frame.specs.declared.status.Status.TheVariants as statuses
 use Rattle.command_frame.specs.declared.stop.Stop.{Stop}
 use Rattle.command_frame.specs.declared.stop.Stop.TheVariants as stops
 use Rattle.command_frame.specs.Answer.{Answer, Cause, Course, Written, at_once, breach_of, cause_of, decided_writes, paths_in}
-use Rattle.command_frame.specs.Answer.{usage, wholly, writes_in}
+use Rattle.command_frame.specs.Answer.{usage, whole_of, writes_in}
 use Rattle.command_frame.specs.Decides.{AfterWrites, RefusesFor}
 use Rattle.command_frame.specs.Finish.{OnlyAmong, PutLine, StopsMidway}
 use Rattle.command_frame.specs.Moments.{AreSteady, AreTold, Moment, Reach}
@@ -69,7 +69,8 @@ stops_so paths reach Courses Others m m' stop all stops = record {
 answered_by : (course : Course) (s : Status) (c : Cause) → course.answer ≡ Err c → s ≡ c.status → IsAnswered course s
 answered_by course s c e h = rw e h
 
-done_by : (first : List Written) (answer : Answer) (m m' : Moment) (s : Status) → IsOkAnd (wholly first answer) (λ e. IsDone m m' e s)
+done_by : (first : List Written) (answer : Answer) (m m' : Moment) (s : Status)
+    → IsOkAnd (whole_of (record { first = first; answer = answer })) (λ e. IsDone m m' e s)
     → IsAnswered (record { first = first; answer = answer }) s
 done_by first (Ok e) m m' s d = d.status
 done_by first (Err c) m m' s d = absurd d
@@ -97,7 +98,8 @@ module _ {A : Type 0} (ask : Option A) (reach : Reach) (course : Course) (m m' :
 
   -- ---- the answer is carried out, or a fault is told
 
-  carries_end : (first : List Written) (answer : Answer) (s : Status) → IsOkAnd (wholly first answer) (λ e. IsDone m m' e s) → SameSink m.err m'.err
+  carries_end : (first : List Written) (answer : Answer) (s : Status)
+      → IsOkAnd (whole_of (record { first = first; answer = answer })) (λ e. IsDone m m' e s) → SameSink m.err m'.err
       → CarriedSo m m' s first answer
   carries_end first (Ok e) s d same = (d, same)
   carries_end first (Err c) s d same = absurd d
@@ -195,13 +197,15 @@ module _ {A : Type 0} (ask : Option A) (reach : Reach) (course : Course) (m m' :
           (subst (λ (ps : List (List ℕ)). Contains ps q) (sym (map-append (λ (w : Written). w.path) ws vs))
           (Contains-append_left (paths_in ws) (paths_in vs) q is))
 
-  done_same : (first : List Written) (answer : Answer) (s : Status) (q : List ℕ) → IsOkAnd (wholly first answer) (λ e. IsDone m m' e s)
+  done_same : (first : List Written) (answer : Answer) (s : Status) (q : List ℕ)
+      → IsOkAnd (whole_of (record { first = first; answer = answer })) (λ e. IsDone m m' e s)
       → (Contains (paths_in (first ++ decided_writes answer)) q → ⊥) → Same q
   done_same first (Ok e) s q d away =
       ap (λ (c : Contents). file_at c q) d.files ∙ others_after (first ++ e.writes) m.sources.files.contents q away
   done_same first (Err c) s q d away = absurd d
 
-  cut_same : (first : List Written) (answer : Answer) (q : List ℕ) → IsOkAnd (wholly first answer) (λ e. IsCut m m' e)
+  cut_same : (first : List Written) (answer : Answer) (q : List ℕ)
+      → IsOkAnd (whole_of (record { first = first; answer = answer })) (λ e. IsCut m m' e)
       → (Contains (paths_in (first ++ decided_writes answer)) q → ⊥) → Same q
   cut_same first (Ok e) q d away = ap (λ (c : Contents). file_at c q) d.files ∙ others_after (first ++ e.writes) m.sources.files.contents q away
   cut_same first (Err c) q d away = absurd d

@@ -88,17 +88,13 @@ after_writes (w ∷ ws) files = after_writes ws (with_file files w.path w.bytes)
 
 -- ---- a whole course
 
--- an effect behind files that were written before
+-- an effect after files that were written before
 abbrev pub behind : List Written → Effect → Effect
 behind first effect = record { writes = first ++ effect.writes; text = effect.text; status = effect.status }
 
-abbrev pub wholly : List Written → Answer → Answer
-wholly first (Ok effect) = Ok (behind first effect)
-wholly first (Err cause) = Err cause
-
 -- the answer, with all files that the course writes
 abbrev pub whole_of : Course → Answer
-whole_of course = wholly course.first course.answer
+whole_of course = course.answer >>= λ effect. Ok (behind course.first effect)
 
 -- the files that an answer writes
 abbrev pub decided_writes : Answer → List Written

@@ -1,8 +1,8 @@
 -- What a plan's writing and printing leaves.
-use Rattle.std.specs.Prelude.{ℕ, ◌≡◌, ◌≢◌, ◌≤◌, ◌⊎◌, List, ◌∷◌, ◌++◌, true, drop, take, Contains, IsSome, Result, Ok, Err}
+use Rattle.std.specs.Prelude.{ℕ, ◌≡◌, ◌≢◌, ◌≤◌, ◌⊎◌, List, ◌∷◌, ◌++◌, true, take, Contains, IsSome, Result, Ok, Err}
 use Rattle.outside.specs.Causes.{Rose}
 use Rattle.outside.specs.Files.{FilesState, OnlyAt, Wrote, file_at}
-use Rattle.outside.specs.Sink.{SinkState, SameSink, Appends, LosesBy}
+use Rattle.outside.specs.Sink.{SinkState, SameSink, Appends, PutsFront}
 use Rattle.outside.specs.declared.error.FileErr.{FileErr}
 use Rattle.outside.specs.declared.error.FileErr.TheVariants.{Failed, Memory}
 use Rattle.sc_text.specs.Fault.{file_line}
@@ -57,21 +57,11 @@ abbrev pub CountRose : FileErr → SinkState → SinkState → Type 0
 CountRose Failed old new = Rose old.faults new.faults
 CountRose Memory old new = Rose old.shortages new.shortages
 
--- the whole line was put, and nothing was lost
-pub record PutWhole (line : List ℕ) (old new : SinkState) : Type 0 where
-  pub put : Appends old new line
-  pub kept : old.told ≡ true → new.lost ≡ old.lost
-
--- the sink failed, or had no memory: a prefix of the line was put, and all that comes after it was lost
-pub record GaveUp (line : List ℕ) (old new : SinkState) (why : FileErr) : Type 0 where
-  pub rose : CountRose why old new
-  pub count : ℕ
-  pub put : Appends old new (take count line)
-  pub lost : old.told ≡ true → LosesBy why old.lost new.lost (drop count line)
-
--- it was tried to put this line, and nothing else
+-- it was tried to put this line, and nothing else: it was put whole and nothing was lost, or the sink failed, or had no memory, after a front of it
 abbrev pub PutLine : List ℕ → SinkState → SinkState → Type 0
-PutLine line old new = PutWhole line old new ⊎ ((why : FileErr) × GaveUp line old new why)
+PutLine line old new =
+    (Appends old new line × (old.told ≡ true → new.lost ≡ old.lost))
+    ⊎ ((why : FileErr) × CountRose why old new × PutsFront {T = Unit {0}} (Err why) line old new)
 
 -- the files before the one at this path are written, that one holds any bytes, and all else is as it was
 pub record StopsMidway (writes : List Written) (path : List ℕ) (old new : FilesState) : Type 0 where

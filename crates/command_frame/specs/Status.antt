@@ -1,5 +1,5 @@
 -- The exit statuses, and which of them come for which reason.
-use Rattle.std.specs.Prelude.{ℕ, Bool, true, false}
+use Rattle.std.specs.Prelude.{ℕ, Bool, true, false, ◌||◌}
 use Rattle.command_frame.specs.declared.status.Status.{Status}
 use Rattle.command_frame.specs.declared.status.Status.TheVariants.{Done, Trap, Usage, Program, Input, TapeFile, Schedule, Budget, Tape, File, Link}
 use Rattle.command_frame.specs.declared.status.Status.TheVariants.{Peer, Child, Disagree, NotAlike, OpenedShort, Write, Memory}
@@ -28,22 +28,9 @@ code_of Memory = 20
 abbrev pub is_end : Status → Bool
 is_end Done = true
 is_end Trap = true
-is_end Usage = false
-is_end Program = false
-is_end Input = false
-is_end TapeFile = false
-is_end Schedule = false
 is_end Budget = true
 is_end Tape = true
-is_end File = false
-is_end Link = false
-is_end Peer = false
-is_end Child = false
-is_end Disagree = false
-is_end NotAlike = false
-is_end OpenedShort = false
-is_end Write = false
-is_end Memory = false
+is_end _ = false
 
 -- a command that runs no program has one end
 abbrev pub is_done : Status → Bool
@@ -52,46 +39,14 @@ is_done _ = false
 
 -- a refusal of what files hold may have this status, by its cause; a dealer's tape that is too short is a refusal, a run's is an end
 abbrev pub can_refuse : Status → Bool
-can_refuse Done = false
-can_refuse Trap = false
-can_refuse Usage = false
 can_refuse Program = true
 can_refuse Input = true
 can_refuse TapeFile = true
 can_refuse Schedule = true
-can_refuse Budget = false
 can_refuse Tape = true
-can_refuse File = false
-can_refuse Link = false
-can_refuse Peer = false
-can_refuse Child = false
-can_refuse Disagree = false
 can_refuse NotAlike = true
 can_refuse OpenedShort = true
-can_refuse Write = false
-can_refuse Memory = false
-
--- what another miner did may stop a command with this status: a peer sent what it must not send, a child ended as no run does or a miner's
--- text is none, or two texts differ
-abbrev pub can_breach : Status → Bool
-can_breach Done = false
-can_breach Trap = false
-can_breach Usage = false
-can_breach Program = false
-can_breach Input = false
-can_breach TapeFile = false
-can_breach Schedule = false
-can_breach Budget = false
-can_breach Tape = false
-can_breach File = false
-can_breach Link = false
-can_breach Peer = true
-can_breach Child = true
-can_breach Disagree = true
-can_breach NotAlike = false
-can_breach OpenedShort = false
-can_breach Write = false
-can_breach Memory = false
+can_refuse _ = false
 
 -- a peer did
 abbrev pub of_peers : Status → Bool
@@ -103,3 +58,8 @@ abbrev pub of_texts : Status → Bool
 of_texts Child = true
 of_texts Disagree = true
 of_texts _ = false
+
+-- what another miner did may stop a command with this status: a peer sent what it must not send, a child ended as no run does or a miner's
+-- text is none, or two texts differ
+abbrev pub can_breach : Status → Bool
+can_breach status = of_peers status || of_texts status

@@ -10,7 +10,7 @@ use std::alloc::Global;
 /// Writes the files in order.
 ///
 /// `Failed` where one could not be written, `Memory` where there was no memory for it: those before it are written, that one holds any bytes,
-/// and none behind it was begun.
+/// and none after it was begun.
 pub fn write_files<F: Files>(
     alloc: Global,
     files: &mut F,
@@ -30,7 +30,7 @@ pub fn write_files<F: Files>(
 
 /// Writes the plan's files in order, then puts its text on `out`, and answers its status.
 ///
-/// `Failed` where a file could not be written: none behind it was begun and `out` is as before; or where the output failed: all
+/// `Failed` where a file could not be written: none after it was begun and `out` is as before; or where the output failed: all
 /// files are written, and it holds a prefix of the text. `Memory` for the same reasons, each for want of memory.
 pub fn finish_plan<F: Files, O: Sink>(
     alloc: Global,

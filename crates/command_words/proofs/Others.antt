@@ -1,4 +1,4 @@
--- The values behind the first one of an argument that may have several.
+-- The values after the first one of an argument that may have several.
 use Rattle.std.proofs.Common.{◌≡◌, ℕ, ◌-◌, List, [], ◌∷◌, length, map, take, drop, Option, Some, None, option_map, unwrap_or, refl, ap, sym, ◌∙◌, arith, Bor}
 use Rattle.std.proofs.lemmas.Grind.{common_steps}
 use Rattle.clap.specs.Words.{Text, all_of, matched_of, raw_values, rows_of}
@@ -6,7 +6,7 @@ use Rattle.clap.specs.declared.parser.matches.Found.{Found}
 use Rattle.clap.proofs.WalkLemmas.{raw_values-rows}
 use Rattle.command_words.specs.Ask.{others_of}
 
--- what is left behind a place, to its end
+-- what is left after a place, to its end
 pub rest_taken : {X : Type 0} (xs : List X) (k : ℕ) → take (length xs - k) (drop k xs) ≡ drop k xs
 rest_taken xs k = grind (arith, common_steps)
 

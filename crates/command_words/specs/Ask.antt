@@ -34,9 +34,6 @@ pub record DealAsk : Type 0 where
   pub tape : Text
   pub to : Text
 
-pub record CheckAsk : Type 0 where
-  pub program : Text
-
 pub record CompileAsk : Type 0 where
   pub program : Text
   pub code : Text
@@ -79,9 +76,6 @@ pub record TwinAsk : Type 0 where
   pub to : Text
   pub budget : ℕ
 
-pub record LoadAsk : Type 0 where
-  pub number : ℕ
-
 pub record GatherAsk : Type 0 where
   pub miner : Number
   -- the share files that owners dealt the miner
@@ -122,14 +116,14 @@ pub record TrioAsk : Type 0 where
 pub data Ask : Type 0 where
   run : RunAsk → Ask
   deal : DealAsk → Ask
-  check : CheckAsk → Ask
+  check : (program : Text) → Ask
   compile : CompileAsk → Ask
   eval : EvalAsk → Ask
   need : EvalAsk → Ask
   map_tape : MapAsk → Ask
   simulate : SimulateAsk → Ask
   twin : TwinAsk → Ask
-  load : LoadAsk → Ask
+  load : (number : ℕ) → Ask
   gather : GatherAsk → Ask
   join : JoinAsk → Ask
   miner : MinerAsk → Ask
@@ -152,7 +146,7 @@ most_words = 16777216
 unfoldable pub required_of : Text → List Row → Text
 required_of id rows = unwrap_or (first_of id rows) []
 
--- the values behind the first one of an argument that may have several
+-- the values after the first one of an argument that may have several
 unfoldable pub others_of : Text → List Row → List Text
 others_of id rows = drop 1 (unwrap_or (all_of id rows) [])
 
@@ -198,9 +192,6 @@ run_of rows = do
 
 unfoldable pub deal_of : List Row → Option DealAsk
 deal_of rows = Some (record { input = required_of (codes "input") rows; tape = required_of (codes "tape") rows; to = required_of (codes "to") rows })
-
-unfoldable pub check_of : List Row → Option CheckAsk
-check_of rows = Some (record { program = required_of (codes "program") rows })
 
 unfoldable pub compile_of : List Row → Option CompileAsk
 compile_of rows = Some (record { program = required_of (codes "program") rows; code = required_of (codes "code") rows })
@@ -255,11 +246,6 @@ twin_of rows = do
     budget = budget;
   })
 
-unfoldable pub load_of : List Row → Option LoadAsk
-load_of rows = do
-  number ← number_of (required_of (codes "number") rows)
-  Some (record { number = number })
-
 unfoldable pub gather_of : List Row → Option GatherAsk
 gather_of rows = do
   number ← miner_of (required_of (codes "me") rows)
@@ -296,19 +282,19 @@ trio_of rows = do
     budget = budget;
   })
 
--- the command of this name, with what `clap` matched behind its name
+-- the command of this name, with what `clap` matched after its name
 unfoldable pub named : Text → List Row → Option Ask
 named name rows =
     if bytes_eq name (codes "run") then option_map run (run_of rows)
     else if bytes_eq name (codes "deal") then option_map deal (deal_of rows)
-    else if bytes_eq name (codes "check") then option_map check (check_of rows)
+    else if bytes_eq name (codes "check") then Some (check (required_of (codes "program") rows))
     else if bytes_eq name (codes "compile") then option_map compile (compile_of rows)
     else if bytes_eq name (codes "eval") then option_map eval (eval_of rows)
     else if bytes_eq name (codes "need") then option_map need (eval_of rows)
     else if bytes_eq name (codes "map") then option_map map_tape (map_of rows)
     else if bytes_eq name (codes "simulate") then option_map simulate (simulate_of rows)
     else if bytes_eq name (codes "twin") then option_map twin (twin_of rows)
-    else if bytes_eq name (codes "load") then option_map load (load_of rows)
+    else if bytes_eq name (codes "load") then option_map load (number_of (required_of (codes "number") rows))
     else if bytes_eq name (codes "gather") then option_map gather (gather_of rows)
     else if bytes_eq name (codes "join") then option_map join (join_of rows)
     else if bytes_eq name (codes "miner") then option_map miner (miner_ask_of rows)
@@ -320,15 +306,10 @@ abbrev pub unless : {X : Type 0} → Kinds → X → Option X
 unless [] x = Some x
 unless (k ∷ ks) x = None
 
--- what `clap` matches in the words, unless it refuses them: the command's name, if one stands there, and what it matched behind the name
+-- what `clap` matches in the words, unless it refuses them: the command's name, if one stands there, and what it matched after the name
 unfoldable pub matched : List Text → Option (Option (Text × List Row))
 matched words = unless (fault_of secrec_app words) (subcommand_of secrec_app words)
 
--- words that name no command ask for none
-unfoldable pub named_in : Option (Text × List Row) → Option Ask
-named_in None = None
-named_in (Some met) = named met.0 met.1
-
--- the command that the words ask for; None is Usage
+-- the command that the words ask for; None is Usage, also where they name no command
 unfoldable pub words_of : List Text → Option Ask
-words_of words = matched words >>= named_in
+words_of words = matched words >>= λ met. met >>= λ m. named m.0 m.1

@@ -1,12 +1,13 @@
 -- Numbers, miners and seeds as text.
-use Rattle.std.specs.Prelude.{ℕ, Bool, List, length, ◌&&◌, ◌||◌, ◌==◌, ◌^◌, nat_lt, nat_le, if◌then◌else◌, Option, Some, None, option_and_then}
-use Rattle.std.specs.List.{list_all}
+use Rattle.std.specs.Prelude.{ℕ, Bool, List, [], ◌∷◌, length, ◌&&◌, ◌||◌, ◌==◌, ◌^◌, nat_lt, nat_le, if◌then◌else◌, Option, Some, None, option_and_then}
+use Rattle.std.specs.List.{find, list_all}
 use Rattle.std.specs.Result.{result_ok}
 use Rattle.std.specs.Char.{is_ascii_digit}
 use Rattle.std.specs.Str.Parse.{digits_value}
 use Rattle.hex.specs.Hex.{decode_sized}
 use Rattle.proto_core.specs.declared.party.Number.{Number}
 use Rattle.proto_core.specs.declared.party.Number.TheVariants.{One, Two, Three}
+use Rattle.proto_core.specs.Parties.{count_of}
 
 -- decimal digits with a value below 2^64: no sign, and leading zeros are fine
 unfoldable pub number_of : List ℕ → Option ℕ
@@ -14,16 +15,9 @@ number_of text =
     if nat_lt 0 (length text) && list_all is_ascii_digit text && nat_lt (digits_value 10 text) (2 ^ 64)
     then Some (digits_value 10 text) else None
 
-abbrev pub miner_numbered : ℕ → Option Number
-miner_numbered n =
-    if n == 1 then Some One
-    else if n == 2 then Some Two
-    else if n == 3 then Some Three
-    else None
-
 -- decimal digits with the value 1, 2 or 3
 unfoldable pub miner_of : List ℕ → Option Number
-miner_of text = option_and_then miner_numbered (number_of text)
+miner_of text = option_and_then (λ n. find (λ i. n == count_of i) (One ∷ Two ∷ Three ∷ [])) (number_of text)
 
 abbrev pub most_port : ℕ
 most_port = 65533

@@ -5,8 +5,8 @@ use Rattle.clap.specs.Words.{Text}
 use Rattle.clap.proofs.OnLiterals.{clap_on_literals}
 use Rattle.hex.proofs.OnLiterals.{hex_on_literals}
 use Rattle.command_words.specs.Ask.{Ask, Source, run, deal, check, compile, eval, need, map_tape, simulate, twin, load, file, seeded, in_turn}
-use Rattle.command_words.specs.Ask.{scheduled, shuffled, words_of, named_in, named, matched}
-use Rattle.command_words.specs.Ask.{run_of, deal_of, check_of, compile_of, eval_of, map_of, simulate_of, twin_of, load_of, source_of, seeded_source}
+use Rattle.command_words.specs.Ask.{scheduled, shuffled, words_of, named, matched}
+use Rattle.command_words.specs.Ask.{run_of, deal_of, compile_of, eval_of, map_of, simulate_of, twin_of, source_of, seeded_source}
 use Rattle.command_words.specs.Ask.{gather, gather_of, others_of}
 use Rattle.command_words.specs.Ask.{order_of, number_or, required_of}
 use Rattle.command_words.specs.Ask.{join, join_of, miner, miner_ask_of, trio, trio_of}
@@ -21,7 +21,7 @@ use Rattle.command_words.specs.Shapes.{word_rule, option_rule}
 unfoldable pub words_on_literals : ⊤
 unfolding clap_on_literals hex_on_literals secrec_app run_app deal_app check_app compile_app
     evaluation_app view_app map_app simulate_app twin_app load_app command_app bare_app eval_options
-    with_options word_rule option_rule words_of named_in named matched run_of deal_of check_of compile_of eval_of map_of simulate_of twin_of load_of
+    with_options word_rule option_rule words_of named matched run_of deal_of compile_of eval_of map_of simulate_of twin_of
     source_of seeded_source order_of number_or required_of number_of miner_of seed_of gather_app words_rule gather_of others_of
     join_app miner_app trio_app join_of miner_ask_of trio_of port_of
 words_on_literals = tt
@@ -176,7 +176,7 @@ after_dashes : words_of (codes "run" ∷ codes "--input=i" ∷ codes "--tape=t" 
 unfolding words_on_literals
 after_dashes = refl
 
-check_words : words_of (codes "check" ∷ codes "p.sc" ∷ []) ≡ Some (check (record { program = codes "p.sc" }))
+check_words : words_of (codes "check" ∷ codes "p.sc" ∷ []) ≡ Some (check (codes "p.sc"))
 unfolding words_on_literals
 check_words = refl
 
@@ -284,7 +284,7 @@ twin_words : words_of (codes "twin" ∷ codes "2" ∷ codes "p.sc" ∷ codes "--
 unfolding words_on_literals
 twin_words = refl
 
-load_words : words_of (codes "load" ∷ codes "--number" ∷ codes "18446744073709551615" ∷ []) ≡ Some (load (record { number = 18446744073709551615 }))
+load_words : words_of (codes "load" ∷ codes "--number" ∷ codes "18446744073709551615" ∷ []) ≡ Some (load 18446744073709551615)
 unfolding words_on_literals
 load_words = refl
 
@@ -343,7 +343,7 @@ miner_words : miner_with (codes "--me" ∷ codes "2" ∷ codes "--port" ∷ code
 unfolding words_on_literals
 miner_words = refl
 
--- its budget, and the last port behind which two more stand
+-- its budget, and the last port after which two more stand
 last_port : miner_with (codes "--me=2" ∷ codes "--port=065533" ∷ codes "--budget" ∷ codes "6" ∷ []) ≡ second_miner 65533 6
 unfolding words_on_literals
 last_port = refl

@@ -11,13 +11,11 @@ use Rattle.command_words.specs.declared.command.DeliveryOrder.{DeliveryOrder}
 use Rattle.command_words.specs.declared.command.DeliveryOrder.TheVariants as orders
 use Rattle.command_words.specs.declared.command.RunWords.{RunWords}
 use Rattle.command_words.specs.declared.command.DealWords.{DealWords}
-use Rattle.command_words.specs.declared.command.CheckWords.{CheckWords}
 use Rattle.command_words.specs.declared.command.CompileWords.{CompileWords}
 use Rattle.command_words.specs.declared.command.EvalWords.{EvalWords}
 use Rattle.command_words.specs.declared.command.MapWords.{MapWords}
 use Rattle.command_words.specs.declared.command.SimulateWords.{SimulateWords}
 use Rattle.command_words.specs.declared.command.TwinWords.{TwinWords}
-use Rattle.command_words.specs.declared.command.LoadWords.{LoadWords}
 use Rattle.command_words.specs.declared.command.GatherWords.{GatherWords}
 use Rattle.command_words.specs.declared.command.JoinWords.{JoinWords}
 use Rattle.command_words.specs.declared.command.MinerWords.{MinerWords}
@@ -26,9 +24,9 @@ use Rattle.command_words.specs.declared.command.Command.{Command}
 use Rattle.command_words.specs.declared.command.Command.TheVariants as commands
 use Rattle.command_words.specs.declared.command.WordsErr.{WordsErr}
 use Rattle.command_words.specs.declared.command.WordsErr.TheVariants.{Usage, Memory}
-use Rattle.command_words.specs.Ask.{Ask, CheckAsk, CompileAsk, DealAsk, EvalAsk, Order, RunAsk, Source, check, compile, deal, eval, file, in_turn, need, run}
+use Rattle.command_words.specs.Ask.{Ask, CompileAsk, DealAsk, EvalAsk, Order, RunAsk, Source, check, compile, deal, eval, file, in_turn, need, run}
 use Rattle.command_words.specs.Ask.{JoinAsk, MinerAsk, TrioAsk, join, miner, trio}
-use Rattle.command_words.specs.Ask.{GatherAsk, gather, LoadAsk, MapAsk, SimulateAsk, TwinAsk, load, map_tape, scheduled, seeded, shuffled, simulate, twin}
+use Rattle.command_words.specs.Ask.{GatherAsk, gather, MapAsk, SimulateAsk, TwinAsk, load, map_tape, scheduled, seeded, shuffled, simulate, twin}
 
 abbrev pub source_ask : TapeOrigin → Source
 source_ask (sources.File path) = file (string_bytes path)
@@ -52,9 +50,6 @@ run_ask w = record {
 
 abbrev pub deal_ask : DealWords → DealAsk
 deal_ask w = record { input = string_bytes w.input; tape = string_bytes w.tape; to = string_bytes w.to }
-
-abbrev pub check_ask : CheckWords → CheckAsk
-check_ask w = record { program = string_bytes w.program }
 
 abbrev pub compile_ask : CompileWords → CompileAsk
 compile_ask w = record { program = string_bytes w.program; code = string_bytes w.code }
@@ -97,9 +92,6 @@ twin_ask w = record {
   budget = w.budget;
 }
 
-abbrev pub load_ask : LoadWords → LoadAsk
-load_ask w = record { number = w.number }
-
 abbrev pub gather_ask : GatherWords → GatherAsk
 gather_ask w = record {
   miner = w.miner;
@@ -135,14 +127,14 @@ trio_ask w = record {
 abbrev pub ask_of : Command → Ask
 ask_of (commands.Run w) = run (run_ask w)
 ask_of (commands.Deal w) = deal (deal_ask w)
-ask_of (commands.Check w) = check (check_ask w)
+ask_of (commands.Check w) = check (string_bytes w.program)
 ask_of (commands.Compile w) = compile (compile_ask w)
 ask_of (commands.Eval w) = eval (eval_ask w)
 ask_of (commands.Need w) = need (eval_ask w)
 ask_of (commands.Map w) = map_tape (map_ask w)
 ask_of (commands.Simulate w) = simulate (simulate_ask w)
 ask_of (commands.Twin w) = twin (twin_ask w)
-ask_of (commands.Load w) = load (load_ask w)
+ask_of (commands.Load w) = load w.number
 ask_of (commands.Gather w) = gather (gather_ask w)
 ask_of (commands.Join w) = join (join_ask w)
 ask_of (commands.Miner w) = miner (miner_ask w)
@@ -157,7 +149,7 @@ Reads view wanted (Err Memory) = Unit {0}
 abbrev pub texts : List (String Global) → List Text
 texts words = map string_bytes words
 
--- a text behind a reference, if it is there
+-- a text after a reference, if it is there
 abbrev pub text_in : Option (Bor Text) → Option Text
 text_in = option_map (λ s. s.now)
 

@@ -289,7 +289,7 @@ fn trio_command<'a>(alloc: Global) -> Result<Command<'a>, AllocError>
     with_options(alloc, command, false, eval_options())
 }
 
-// The command with one more command behind it; without memory for either there is none.
+// The command with one more command after it; without memory for either there is none.
 fn with_command<'a>(
     command: Result<Command<'a>, AllocError>,
     inner: Result<Command<'a>, AllocError>,

@@ -39,7 +39,7 @@ fn matches_of<'a>(alloc: Global, words: &'a [String]) -> Result<ArgMatches<'a>, 
 /// lower-case hexadecimal digits, `run` has both or none of `--tape` and `--seed`, `--words` comes without `--seed`, or
 /// both `--schedule` and `--shuffle` are given. A request for help is `Usage`. `Memory` comes where memory ran out,
 /// whatever the words are.
-#[tactic(auto, unfolding(crate::specs::Ask::words_of, crate::specs::Ask::named_in))]
+#[tactic(auto, unfolding(crate::specs::Ask::words_of))]
 pub fn read(alloc: Global, words: &[String]) -> Result<Command, WordsErr>
     ensures { Reads ask_of (words_of (texts words.now)) result }
 {

@@ -1,12 +1,12 @@
 //! What a command's words give, once `clap` has matched them.
-ghost use Rattle.std.specs.Prelude.{◌≡◌, ◌≤◌, drop, map, option_map, IfOk, IfSome, string_bytes, codes};
+ghost use Rattle.std.specs.Prelude.{◌≡◌, ◌≤◌, Some, drop, map, option_map, IfOk, IfSome, string_bytes, codes};
 ghost use Rattle.clap.specs.Words.{found_of, first_of, rows_of};
-ghost use Rattle.command_words.specs.Ask.{required_of, default_budget, number_or, seeded_source, source_of, order_of, run_of, deal_of, check_of};
+ghost use Rattle.command_words.specs.Ask.{required_of, default_budget, number_or, seeded_source, source_of, order_of, run_of, deal_of};
 ghost use Rattle.command_words.specs.Ask.{gather, gather_of, others_of};
 ghost use Rattle.command_words.specs.Ask.{join, join_of, miner as miner_words, miner_ask_of, trio, trio_of};
-ghost use Rattle.command_words.specs.Ask.{compile_of, eval_of, map_of, simulate_of, twin_of, load_of, named};
+ghost use Rattle.command_words.specs.Ask.{compile_of, eval_of, map_of, simulate_of, twin_of, named};
 ghost use Rattle.command_words.specs.Ask.{run, deal, check, compile, eval, need, map_tape, simulate, twin, load};
-ghost use Rattle.command_words.specs.Numbers.{miner_of, port_of};
+ghost use Rattle.command_words.specs.Numbers.{miner_of, number_of, port_of};
 ghost use Rattle.command_words.specs.Views.{Reads, text_in, source_ask, order_ask, eval_ask, ask_of};
 
 use crate::command::{
@@ -44,7 +44,7 @@ fn own_texts(alloc: Global, texts: &[&str]) -> Result<Vec<String>, AllocError>
     Ok(own)
 }
 
-// The texts behind the first one.
+// The texts after the first one.
 #[tactic(auto, using(crate::proofs::Others::rest_taken))]
 fn after_first<'s, 'a>(texts: &'s [&'a str]) -> &'s [&'a str]
     ensures { result.now ≡ drop 1 texts.now }
@@ -52,7 +52,7 @@ fn after_first<'s, 'a>(texts: &'s [&'a str]) -> &'s [&'a str]
     if texts.is_empty() { texts } else { &texts[1..] }
 }
 
-// The values of `id` behind the first one.
+// The values of `id` after the first one.
 fn others(alloc: Global, matches: &ArgMatches, id: &str) -> Result<Vec<String>, AllocError>
     ensures { IfOk result (λ own. map string_bytes own.items ≡ others_of id.now (rows_of (found_of matches.now))) }
 {
@@ -149,7 +149,7 @@ fn budget_in(matches: &ArgMatches) -> Option<u64>
     number_or(DEFAULT_BUDGET, value(matches, "budget"))
 }
 
-// The miner whose number stands behind the command's name.
+// The miner whose number stands after the command's name.
 #[tactic(auto, unfolding(crate::specs::Ask::required_of))]
 fn miner_in(matches: &ArgMatches) -> Option<Number>
     ensures { result ≡ miner_of (required_of (codes "miner") (rows_of (found_of matches.now))) }
@@ -216,9 +216,8 @@ fn read_deal(alloc: Global, matches: &ArgMatches) -> Result<Command, WordsErr>
 }
 
 // `check`, with its word.
-#[tactic(auto, unfolding(crate::specs::Ask::check_of))]
 fn read_check(alloc: Global, matches: &ArgMatches) -> Result<Command, WordsErr>
-    ensures { Reads ask_of (option_map check (check_of (rows_of (found_of matches.now)))) result }
+    ensures { Reads ask_of (Some (check (required_of (codes "program") (rows_of (found_of matches.now))))) result }
 {
     Ok(Command::Check(CheckWords {
         program: required(alloc, matches, "program")?,
@@ -357,9 +356,9 @@ fn read_twin(alloc: Global, matches: &ArgMatches) -> Result<Command, WordsErr>
 }
 
 // `load`, with its word.
-#[tactic(auto, unfolding(crate::specs::Ask::load_of, crate::specs::Ask::required_of))]
+#[tactic(auto, unfolding(crate::specs::Ask::required_of))]
 fn read_load(matches: &ArgMatches) -> Result<Command, WordsErr>
-    ensures { Reads ask_of (option_map load (load_of (rows_of (found_of matches.now)))) result }
+    ensures { Reads ask_of (option_map load (number_of (required_of (codes "number") (rows_of (found_of matches.now))))) result }
 {
     match number(value(matches, "number").unwrap_or("")) {
         Some(number) => Ok(Command::Load(LoadWords { number })),
@@ -460,7 +459,7 @@ fn read_trio(alloc: Global, matches: &ArgMatches) -> Result<Command, WordsErr>
     }))
 }
 
-/// The command of this name, with what `clap` matched behind its name.
+/// The command of this name, with what `clap` matched after its name.
 #[tactic(auto, unfolding(crate::specs::Ask::named))]
 pub(crate) fn named(alloc: Global, name: &str, matches: &ArgMatches) -> Result<Command, WordsErr>
     ensures { Reads ask_of (named name.now (rows_of (found_of matches.now))) result }

@@ -18,7 +18,8 @@ use Rattle.gathered_shares.specs.declared.gathering.GatherErr.{GatherErr}
 use Rattle.gathered_shares.proofs.OneDealing.{gathered_is_dealt}
 use Rattle.program_commands.specs.Reading.{bad_input, read_or, share_at}
 use Rattle.program_commands.proofs.Held.{read_there}
-use Rattle.program_commands.proofs.Refusals.{ReadRefused, input_status, not_done, not_missing, refusing, share_refused, status_in_answer, status_of_cause, steps}
+use Rattle.program_commands.proofs.Refusals.{ReadRefused, input_status, not_done, not_missing, refusing, share_refused, status_in_answer, status_of_cause}
+use Rattle.program_commands.proofs.Refusals.{steps}
 use Rattle.gather_command.specs.Gather.{gather_effect, gather_of, shares_at, ungathered}
 use Rattle.gather_command.specs.Held.{GatherRefused, HoldsDealt, HoldsShares, WritesOneDealing, unlike_shares, unreadable_share}
 

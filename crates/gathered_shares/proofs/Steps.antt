@@ -1,13 +1,16 @@
 -- What a loop over entries or files adds at each place.
-use Rattle.std.proofs.Common.{◌≡◌, ℕ, suc, ◌+◌, ◌<◌, ◌≤◌, Bool, true, false, not, List, [], ◌∷◌, ◌++◌, length, map, get_or, take, drop, Option, Some, None, Ok, Err, Result}
+use Rattle.std.proofs.Common.{◌≡◌, ℕ, suc, ◌+◌, ◌<◌, ◌≤◌, Bool, true, false, not, List, [], ◌∷◌, ◌++◌, length, map, get_or, take, drop, Option, Some, None, Ok}
+use Rattle.std.proofs.Common.{Err, Result}
 use Rattle.std.proofs.Common.{refl, ap, sym, ◌∙◌, append_assoc, add-one}
 use Rattle.std.proofs.lemmas.List.{append-nil, drop_all, drop_more, take_all, take_more}
 use Rattle.std.specs.List.{list_any}
+use Rattle.std.specs.Option.{ok_or}
 use Rattle.std.specs.Str.{bytes_eq}
+use Rattle.value_file.specs.Input.{◌>>=◌}
 use Rattle.input_share.specs.declared.entry.ShareEntry.{ShareEntry}
 use Rattle.input_share.specs.ShareFile.{MinerFile}
 use Rattle.input_share.specs.Reading.{share_name_of}
-use Rattle.gathered_shares.specs.Gathering.{◌>>=◌, entries_in, fitting, joined_lens, lens_from, name_again}
+use Rattle.gathered_shares.specs.Gathering.{entries_in, joined_lens, lens_from, name_again}
 use Rattle.gathered_shares.specs.declared.gathering.GatherErr.{GatherErr}
 use Rattle.gathered_shares.specs.declared.gathering.GatherErr.TheVariants.{OtherLengths}
 
@@ -80,20 +83,21 @@ name-end entries i before wanted past so_far =
 
 module _ (files : List MinerFile) (i : ℕ) (f : MinerFile) (lens : List ℕ) (wanted : Result (List ℕ) GatherErr) (here : i < length files)
     (at : f ≡ get_or files i f) (so_far : lens_from (i + 1) lens (drop i files) ≡ wanted) where
-  step : lens_from (i + 1) lens (drop i files) ≡ (fitting (i + 1) (joined_lens lens f.lens) >>= λ both. lens_from (i + 1 + 1) both (drop (i + 1) files))
+  step : lens_from (i + 1) lens (drop i files)
+      ≡ (ok_or (joined_lens lens f.lens) (OtherLengths (i + 1)) >>= λ both. lens_from (i + 1 + 1) both (drop (i + 1) files))
   step = rw (drop_more files i f here, ← at) refl
 
   -- lengths that go with those before them
   pub lens-more : (both : List ℕ) → Some both ≡ joined_lens lens f.lens → lens_from (i + 1 + 1) both (drop (i + 1) files) ≡ wanted
   lens-more both joined =
-      let next : (fitting (i + 1) (joined_lens lens f.lens) >>= λ b. lens_from (i + 1 + 1) b (drop (i + 1) files))
+      let next : (ok_or (joined_lens lens f.lens) (OtherLengths (i + 1)) >>= λ b. lens_from (i + 1 + 1) b (drop (i + 1) files))
       ≡ lens_from (i + 1 + 1) both (drop (i + 1) files) = rw (← joined) refl in
       sym next ∙ sym step ∙ so_far
 
   -- lengths that don't
   pub lens-other : None ≡ joined_lens lens f.lens → wanted ≡ Err (OtherLengths (i + 1))
   lens-other joined =
-      let next : (fitting (i + 1) (joined_lens lens f.lens) >>= λ b. lens_from (i + 1 + 1) b (drop (i + 1) files)) ≡ Err (OtherLengths (i + 1)) =
+      let next : (ok_or (joined_lens lens f.lens) (OtherLengths (i + 1)) >>= λ b. lens_from (i + 1 + 1) b (drop (i + 1) files)) ≡ Err (OtherLengths (i + 1)) =
       rw (← joined) refl in
       sym so_far ∙ step ∙ next
 

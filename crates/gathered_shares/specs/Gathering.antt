@@ -1,24 +1,19 @@
 -- What a miner makes of the share files that several owners of inputs dealt it: one file.
 use Rattle.std.specs.Prelude.{ℕ, ◌≡◌, ◌+◌, ◌^◌, ◌==◌, ◌&&◌, List, [], ◌∷◌, ◌++◌, map, nat_lt, slice_index, if◌then◌else◌}
 use Rattle.std.specs.Prelude.{Option, Some, None, Result, Ok, Err}
-use Rattle.std.specs.List.{list_any}
+use Rattle.std.specs.List.{flat_map, list_any}
+use Rattle.std.specs.Option.{ok_or}
 use Rattle.std.specs.Str.{bytes_eq}
+use Rattle.value_file.specs.Input.{◌>>=◌}
 use Rattle.input_share.specs.declared.entry.ShareEntry.{ShareEntry}
 use Rattle.input_share.specs.ShareFile.{MinerFile}
 use Rattle.input_share.specs.Reading.{share_name_of}
 use Rattle.gathered_shares.specs.declared.gathering.GatherErr.{GatherErr}
 use Rattle.gathered_shares.specs.declared.gathering.GatherErr.TheVariants.{NameTwice, OtherLengths, Memory}
 
--- a step and then another, where the first has an answer
-infixl 10 ◌>>=◌
-abbrev pub ◌>>=◌ : {A B : Type 0} → Result A GatherErr → (A → Result B GatherErr) → Result B GatherErr
-(Ok x) >>= next = next x
-(Err e) >>= next = Err e
-
 -- the entries of the files, end to end
 abbrev pub entries_in : List MinerFile → List ShareEntry
-entries_in [] = []
-entries_in (file ∷ files) = file.entries ++ entries_in files
+entries_in files = flat_map (λ file. file.entries) files
 
 -- the first of the names that is one of those before it, where these stand before them all
 unfoldable pub name_again : (before names : List (List ℕ)) → Option (List ℕ)
@@ -40,14 +35,10 @@ joined_lens lens more =
     && nat_lt (slice_index lens 0 + slice_index more 0) (2 ^ 64)
     then Some ((slice_index lens 0 + slice_index more 0) ∷ slice_index lens 1 ∷ slice_index lens 2 ∷ slice_index lens 3 ∷ []) else None
 
-abbrev pub fitting : (place : ℕ) → Option (List ℕ) → Result (List ℕ) GatherErr
-fitting place (Some lens) = Ok lens
-fitting place None = Err (OtherLengths place)
-
 -- the lengths so far, and those of the files from this place on
 abbrev pub lens_from : (place : ℕ) → List ℕ → List MinerFile → Result (List ℕ) GatherErr
 lens_from place lens [] = Ok lens
-lens_from place lens (file ∷ files) = fitting place (joined_lens lens file.lens) >>= λ both. lens_from (place + 1) both files
+lens_from place lens (file ∷ files) = ok_or (joined_lens lens file.lens) (OtherLengths place) >>= λ both. lens_from (place + 1) both files
 
 -- the entries end to end, no name twice, and the lengths of all; the files count from 0, and a name comes before a length
 unfoldable pub gathered : MinerFile → List MinerFile → Result MinerFile GatherErr

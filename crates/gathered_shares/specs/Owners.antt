@@ -1,5 +1,6 @@
 -- Owners of inputs who deal apart, and the one dealing that a miner gathers.
 use Rattle.std.specs.Prelude.{ℕ, ◌≤◌, ◌+◌, List, [], ◌∷◌, ◌++◌, length, take, drop, map, All}
+use Rattle.std.specs.List.{flat_map}
 use Rattle.proto_core.specs.declared.party.Number.{Number}
 use Rattle.value_file.specs.declared.inputs.Entry.{Entry}
 use Rattle.input_share.specs.Dealing.{dealt, need_of}
@@ -30,18 +31,15 @@ dealt_by miner miners owner = dealt miner owner.inputs owner.words (lens_of (len
 
 -- all inputs, end to end
 abbrev pub all_inputs : List Owner → List Entry
-all_inputs [] = []
-all_inputs (owner ∷ owners) = owner.inputs ++ all_inputs owners
+all_inputs owners = flat_map (λ owner. owner.inputs) owners
 
 -- the words that the owners use, end to end
 abbrev pub words_used : List Owner → List ℕ
-words_used [] = []
-words_used (owner ∷ owners) = take (need_of owner.inputs) owner.words ++ words_used owners
+words_used owners = flat_map (λ owner. take (need_of owner.inputs) owner.words) owners
 
 -- the words that they leave
 abbrev pub words_left : List Owner → List ℕ
-words_left [] = []
-words_left (owner ∷ owners) = drop (need_of owner.inputs) owner.words ++ words_left owners
+words_left owners = flat_map (λ owner. drop (need_of owner.inputs) owner.words) owners
 
 -- the tape of one dealer that deals all inputs as the owners do: the words that they use, and then those that they leave
 abbrev pub one_tape : List Owner → List ℕ

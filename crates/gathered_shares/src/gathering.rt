@@ -64,7 +64,7 @@ fn copied(alloc: Global, entry: &ShareEntry) -> Result<ShareEntry, AllocError>
     })
 }
 
-// Adds entries behind those that are there.
+// Adds entries after those that are there.
 fn add_entries(
     alloc: Global,
     all: &mut Vec<ShareEntry>,

@@ -3,6 +3,7 @@ use Rattle.std.proofs.Common.{◌≡◌, ◌<◌, ◌^◌, ℕ, List, [], ◌∷
 use Rattle.std.proofs.Common.{slice_index, refl, ap, subst, arith}
 use Rattle.std.specs.Prelude.{nat_lt, nat_le, if◌then◌else◌, Option, Some, None, IfSome, option_map, option_and_then, Result, Ok, Err, IfOk, ⊤}
 use Rattle.std.specs.List.{list_any}
+use Rattle.std.specs.Option.{ok_or}
 use Rattle.std.proofs.Common.{Ordering, Less, Equal, Greater}
 use Rattle.std.specs.Ordering.{match_ordering, nat_cmp}
 use Rattle.std.specs.Cmp.Lexicographic.{slice_cmp}
@@ -29,10 +30,10 @@ use Rattle.value_file.specs.declared.public.PublicEntry.{PublicEntry}
 use Rattle.value_file.specs.declared.read_err.Field.TheVariants as field
 use Rattle.value_file.specs.declared.read_err.ReadErr.{ReadErr}
 use Rattle.value_file.specs.declared.read_err.ReadErr.TheVariants.{Syntax, BadField, TooLong}
-use Rattle.value_file.specs.Input.{AreEntries, IsEntry, ◌>>=◌, data_type_in, domain_in, elements_of, entries_after, entry_of, field_or, found_or, head_of}
+use Rattle.value_file.specs.Input.{AreEntries, IsEntry, ◌>>=◌, data_type_of, domain_of, elements_of, entries_after, entry_of, field_or, head_of}
 use Rattle.value_file.specs.Input.{inputs_in, name_in, name_of, new_name, read_of, value_in, within_limit}
 use Rattle.value_file.specs.Json.{json_of, list_in, text_in, text_of}
-use Rattle.value_file.specs.PublicFile.{public_count, public_elements_of, public_entry_of, public_name_of, public_value_of, public_within_limit}
+use Rattle.value_file.specs.PublicFile.{public_count, public_elements_of, public_entry_of, public_name_of, public_value_of}
 use Rattle.value_file.specs.PublicFile.{read_public_of, shape_in}
 use Rattle.value_file.specs.Values.{all_in, count_of, joined, number_in, value_from, value_of}
 use Rattle.input_share.specs.OfWords.{ArePublicRead, AreRead, IsOfWords, IsShownOfWords}
@@ -65,7 +66,7 @@ pub ok_then : {A B : Type 0} (P : A → Type 0) (Q : B → Type 0) (r : Result A
 ok_then P Q (Ok x) f h up = up x h
 ok_then P Q (Err e) f h up = tt
 
-pub found_ok : {A : Type 0} (P : A → Type 0) (refusal : ReadErr) (o : Option A) → IfSome o P → IfOk (found_or refusal o) P
+pub found_ok : {A : Type 0} (P : A → Type 0) (refusal : ReadErr) (o : Option A) → IfSome o P → IfOk (ok_or o refusal) P
 found_ok P refusal (Some x) h = h
 found_ok P refusal None h = tt
 
@@ -254,16 +255,22 @@ name_so earlier d =
     if_then (λ _. ⊤) (IsFresh earlier) (new_name earlier) (text_in (codes "name") d) (any (text_in (codes "name") d))
     (λ text _. fresh_so earlier text)
 
+abbrev domain_at : Data → Option Domain
+domain_at d = option_and_then domain_of (text_in (codes "domain") d)
+
+abbrev data_type_at : Data → Option DataType
+data_type_at d = option_and_then data_type_of (text_in (codes "type") d)
+
 pub head_so : (place : ℕ) (earlier : List (List ℕ)) (d : Data) → IfOk (head_of place earlier d) (λ head. IsFresh earlier head.name)
 head_so place earlier d =
     ok_then (IsFresh earlier) (λ head. IsFresh earlier head.name) (field_or place field.Name (name_in earlier d)) _
     (found_ok (IsFresh earlier) (BadField (Some place) field.Name) (name_in earlier d) (name_so earlier d))
     (λ name fresh.
-    ok_then (λ _. ⊤) (λ head. IsFresh earlier head.name) (field_or place field.Domain (domain_in d)) _
-    (found_ok (λ _. ⊤) (BadField (Some place) field.Domain) (domain_in d) (any (domain_in d)))
+    ok_then (λ _. ⊤) (λ head. IsFresh earlier head.name) (field_or place field.Domain (domain_at d)) _
+    (found_ok (λ _. ⊤) (BadField (Some place) field.Domain) (domain_at d) (any (domain_at d)))
     (λ domain _.
-    ok_then (λ _. ⊤) (λ head. IsFresh earlier head.name) (field_or place field.Type (data_type_in d)) _
-    (found_ok (λ _. ⊤) (BadField (Some place) field.Type) (data_type_in d) (any (data_type_in d)))
+    ok_then (λ _. ⊤) (λ head. IsFresh earlier head.name) (field_or place field.Type (data_type_at d)) _
+    (found_ok (λ _. ⊤) (BadField (Some place) field.Type) (data_type_at d) (any (data_type_at d)))
     (λ kind _. fresh)))
 
 abbrev IsGoodEntry : List (List ℕ) → Entry → Type 0
@@ -282,7 +289,7 @@ entry_good place earlier d small =
     (λ h. (record { fresh = fresh; short = ltb-false 65536 (count_of value) h }, words))))
 
 module _ {E : Type 0} (one : ℕ → List (List ℕ) → Data → Result E ReadErr) (name : E → List ℕ) (count : E → ℕ) (P : E → Type 0) where
-  -- an entry that is read, behind entries of these names
+  -- an entry that is read, after entries of these names
   abbrev pub IsGood : List (List ℕ) → E → Type 0
   IsGood earlier e = IsEntry earlier (name e) (count e) × P e
 
@@ -300,13 +307,13 @@ module _ {E : Type 0} (one : ℕ → List (List ℕ) → Data → Result E ReadE
     pub inputs_so : (d : Data) → AreSmall d → IfOk (inputs_in one name d) AreGood
     unfolding inputs_in
     inputs_so d small =
-        ok_then SmallItems AreGood (found_or (BadField None field.Inputs) (list_in (codes "inputs") d)) (entries_after one name [])
+        ok_then SmallItems AreGood (ok_or (list_in (codes "inputs") d) (BadField None field.Inputs)) (entries_after one name [])
         (found_ok SmallItems (BadField None field.Inputs) (list_in (codes "inputs") d) (list_small (codes "inputs") d small))
         (λ ds all. after_so [] ds all (tt, All-nil P))
 
-    file_so : (bytes : List ℕ) → IfOk (found_or Syntax (json_of bytes) >>= inputs_in one name) AreGood
+    file_so : (bytes : List ℕ) → IfOk (ok_or (json_of bytes) Syntax >>= inputs_in one name) AreGood
     file_so bytes =
-        ok_then AreSmall AreGood (found_or Syntax (json_of bytes)) (inputs_in one name) (found_ok AreSmall Syntax (json_of bytes) (data_small bytes)) inputs_so
+        ok_then AreSmall AreGood (ok_or (json_of bytes) Syntax) (inputs_in one name) (found_ok AreSmall Syntax (json_of bytes) (data_small bytes)) inputs_so
 
 pub read_of_words : (bytes : List ℕ) (entries : List Entry) → read_of bytes ≡ Ok entries → AreRead entries
 unfolding read_of
@@ -332,7 +339,7 @@ abbrev IsGoodPublic : List (List ℕ) → PublicEntry → Type 0
 IsGoodPublic earlier e = IsEntry earlier e.name (public_count e.value) × IsShownOfWords e.value
 
 public_entry_good : (place : ℕ) (earlier : List (List ℕ)) (d : Data) → AreSmall d → IfOk (public_entry_of place earlier d) (IsGoodPublic earlier)
-unfolding public_entry_of public_within_limit
+unfolding public_entry_of within_limit
 public_entry_good place earlier d small =
     ok_then (λ head. IsFresh earlier head.name) (IsGoodPublic earlier) (head_of place earlier d) _ (head_so place earlier d)
     (λ head fresh.

@@ -1,5 +1,6 @@
 -- The text of a public part is read as that part: it is the text of data without floats, whose strings are UTF-8.
-use Rattle.std.proofs.Common.{◌≡◌, ℕ, ◌<◌, ◌≤◌, ◌^◌, ◌&&◌, not, zero, suc, All, List, [], ◌∷◌, ◌++◌, map, Bool, true, false, None, Some, Ok, option_map, option_and_then}
+use Rattle.std.proofs.Common.{◌≡◌, ℕ, ◌<◌, ◌≤◌, ◌^◌, ◌&&◌, not, zero, suc, All, List, [], ◌∷◌, ◌++◌, map, Bool, true, false, None, Some, Ok, option_map}
+use Rattle.std.proofs.Common.{option_and_then}
 use Rattle.std.proofs.Common.{refl, ap, sym, ◌∙◌, arith}
 use Rattle.std.specs.Prelude.{codes, if◌then◌else◌}
 use Rattle.std.specs.List.{list_all, list_any}

@@ -12,20 +12,20 @@ use Rattle.proto_core.specs.Parties.{count_of as number_of}
 use Rattle.value_file.specs.Json.{json_of, text_of}
 use Rattle.value_file.specs.Values.{type_of, count_of, size_of, number_in}
 use Rattle.value_file.specs.Public.{number_data}
-use Rattle.value_file.specs.Input.{domain_of, new_name, entries_after, inputs_in, AreEntries}
+use Rattle.value_file.specs.Input.{domain_of, new_name, entries_after, inputs_in, within_limit, AreEntries}
 use Rattle.value_file.proofs.RoundTrip.{all_in-map, value_of-data, shape_of-data, type_of-data}
 use Rattle.input_share.specs.declared.entry.Part.{Part}
 use Rattle.input_share.specs.declared.entry.Part.TheVariants.{Public, Private}
 use Rattle.input_share.specs.declared.entry.ShareEntry.{ShareEntry}
 use Rattle.input_share.specs.ShareFile.{MinerFile}
 use Rattle.input_share.specs.Written.{part_data, entry_data, file_data}
-use Rattle.input_share.specs.Reading.{share_entry_of, share_name_of, share_within_limit, part_count, wanted_miner, file_in, read_share_of}
+use Rattle.input_share.specs.Reading.{share_entry_of, share_name_of, part_count, wanted_miner, file_in, read_share_of}
 use Rattle.input_share.specs.Reading.{share_count_of, IsWhole, IsWholePart, AreWritable}
 
 -- an entry
 entry_of-data : (place : ℕ) (earlier : List (List ℕ)) (name : List ℕ) (p : Part) → new_name earlier name ≡ Some name → IsWholePart p → part_count p ≤ 65536
     → share_entry_of place earlier (part_data name p) ≡ Ok (record { name = name; part = p })
-unfolding share_entry_of share_within_limit domain_of
+unfolding share_entry_of within_limit domain_of
 entry_of-data place earlier name (Public v) fresh whole short = rw (fresh, type_of-data (type_of v), value_of-data v, le-ltb 65536 (count_of v) short) refl
 entry_of-data place earlier name (Private s) fresh whole short =
     let same = eq-eqb (length s.words) (size_of s.shape) whole in
@@ -38,7 +38,7 @@ entry_of-data place earlier name (Private s) fresh whole short =
       le-ltb 65536 (size_of s.shape) short,
     ) refl
 
--- the entries behind those that were read before
+-- the entries after those that were read before
 entries_after-data : (before es : List ShareEntry) → AreEntries share_name_of share_count_of before es → All IsWhole es
     → entries_after share_entry_of share_name_of before (items_of (map entry_data es)) ≡ Ok (before ++ es)
 entries_after-data before [] good whole = ap Ok (sym (append-nil before))

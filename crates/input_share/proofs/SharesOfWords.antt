@@ -1,6 +1,7 @@
 -- A share file that is read may stand in a file, and its public numbers and its share words are words of 64 bits.
 use Rattle.std.proofs.Common.{◌≡◌, ◌==◌, ℕ, List, All, length, codes, None, Some, Ok, subst}
 use Rattle.std.specs.Prelude.{nat_lt, IfSome, IfOk, ⊤}
+use Rattle.std.specs.Option.{ok_or}
 use Rattle.std.proofs.lemmas.Bool.{eqb-true, ltb-false}
 use Rattle.serde_json.specs.Data.{Data}
 use Rattle.value_file.specs.declared.value.DataType.{DataType}
@@ -9,7 +10,7 @@ use Rattle.value_file.specs.declared.value.Domain.TheVariants as domains
 use Rattle.value_file.specs.declared.value.Shape.{Shape}
 use Rattle.value_file.specs.declared.read_err.Field.TheVariants as field
 use Rattle.value_file.specs.declared.read_err.ReadErr.TheVariants.{Syntax, BadField, TooLong}
-use Rattle.value_file.specs.Input.{field_or, found_or, head_of, inputs_in, value_in}
+use Rattle.value_file.specs.Input.{field_or, head_of, inputs_in, value_in, within_limit}
 use Rattle.value_file.specs.Json.{json_of, list_in}
 use Rattle.value_file.specs.PublicFile.{shape_in}
 use Rattle.value_file.specs.Values.{all_in, number_in, size_of}
@@ -18,7 +19,7 @@ use Rattle.input_share.specs.declared.entry.Part.TheVariants.{Public}
 use Rattle.input_share.specs.declared.entry.ShareEntry.{ShareEntry}
 use Rattle.input_share.specs.OfWords.{IsOfWords, IsPartOfWords, AreSharesRead}
 use Rattle.input_share.specs.Reading.{file_in, lens_in, miner_in, numbers_in, of_length, part_count, part_of, private_part_of, read_share_of}
-use Rattle.input_share.specs.Reading.{share_count_of, share_entry_of, share_in, share_name_of, share_within_limit, IsWholePart}
+use Rattle.input_share.specs.Reading.{share_count_of, share_entry_of, share_in, share_name_of, IsWholePart}
 use Rattle.input_share.specs.ShareFile.{MinerFile}
 use Rattle.input_share.proofs.OfWords.{AreSmall, SmallItems, IsBelow, IsFresh, IsGood, AreGood, any, if_both, if_then, ok_then, ok_else, found_ok}
 use Rattle.input_share.proofs.OfWords.{all_small, data_small, field_small, head_so, inputs_so, list_small}
@@ -66,7 +67,7 @@ abbrev IsGoodShare : List (List ℕ) → ShareEntry → Type 0
 IsGoodShare = IsGood share_entry_of share_name_of share_count_of HasGoodPart
 
 entry_so : (place : ℕ) (earlier : List (List ℕ)) (d : Data) → AreSmall d → IfOk (share_entry_of place earlier d) (IsGoodShare earlier)
-unfolding share_entry_of share_within_limit
+unfolding share_entry_of within_limit
 entry_so place earlier d small =
     ok_then (λ head. IsFresh earlier head.name) (IsGoodShare earlier) (head_of place earlier d) _ (head_so place earlier d)
     (λ head fresh.
@@ -95,10 +96,10 @@ file_so wanted d small =
     ok_then AreGoodShares IsReadFile (inputs_in share_entry_of share_name_of d) _
     (inputs_so share_entry_of share_name_of share_count_of HasGoodPart entry_so d small)
     (λ entries are.
-    ok_then (λ _. ⊤) IsReadFile (found_or (BadField None field.Lens) (lens_in d)) _
+    ok_then (λ _. ⊤) IsReadFile (ok_or (lens_in d) (BadField None field.Lens)) _
     (found_ok (λ _. ⊤) (BadField None field.Lens) (lens_in d) (any (lens_in d)))
     (λ lens _.
-    ok_then (λ _. ⊤) IsReadFile (found_or (BadField None field.Miner) (miner_in wanted d)) _
+    ok_then (λ _. ⊤) IsReadFile (ok_or (miner_in wanted d) (BadField None field.Miner)) _
     (found_ok (λ _. ⊤) (BadField None field.Miner) (miner_in wanted d) (any (miner_in wanted d)))
     (λ miner _. read_so entries are)))
 
@@ -106,4 +107,4 @@ pub share_read_of_words : (wanted : ℕ) (bytes : List ℕ) (file : MinerFile) �
 unfolding read_share_of
 share_read_of_words wanted bytes file is =
     subst (λ r. IfOk r IsReadFile) is
-    (ok_then AreSmall IsReadFile (found_or Syntax (json_of bytes)) (file_in wanted) (found_ok AreSmall Syntax (json_of bytes) (data_small bytes)) (file_so wanted))
+    (ok_then AreSmall IsReadFile (ok_or (json_of bytes) Syntax) (file_in wanted) (found_ok AreSmall Syntax (json_of bytes) (data_small bytes)) (file_so wanted))

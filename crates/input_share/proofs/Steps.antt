@@ -52,6 +52,6 @@ more done next left after whole x before step now =
 pub all : {X : Type 0} (done left whole : List X) → done ++ left ≡ whole → left ≡ [] → done ≡ whole
 all done left whole before none = sym (append-nil done) ∙ ap (λ l. done ++ l) (sym none) ∙ before
 
--- what is left behind a place, to its end
+-- what is left after a place, to its end
 pub rest_taken : {X : Type 0} (xs : List X) (k : ℕ) → take (length xs - k) (drop k xs) ≡ drop k xs
 rest_taken xs k = grind (arith, common_steps)

@@ -4,9 +4,8 @@ use Rattle.serde_json.specs.Data.{Data, string, array, object, no_members, membe
 use Rattle.serde_json.specs.View.{items_of}
 use Rattle.serde_json.specs.Written.{compact_text}
 use Rattle.proto_core.specs.Parties.{count_of as number_of}
-use Rattle.value_file.specs.declared.value.Value.{Value}
-use Rattle.value_file.specs.Values.{type_of}
-use Rattle.value_file.specs.Public.{number_data, value_data, type_data, shape_data}
+use Rattle.value_file.specs.declared.public.PublicValue.TheVariants.{Known}
+use Rattle.value_file.specs.Public.{number_data, type_data, shape_data, entry_data_of}
 use Rattle.input_share.specs.declared.entry.Part.{Part}
 use Rattle.input_share.specs.declared.entry.Part.TheVariants.{Public, Private}
 use Rattle.input_share.specs.declared.entry.Shared.{Shared}
@@ -16,15 +15,6 @@ use Rattle.input_share.specs.ShareFile.{MinerFile}
 -- an array, each element written in the same way
 abbrev pub list_data : {A : Type 0} → (A → Data) → List A → Data
 list_data one xs = array (items_of (map one xs))
-
-abbrev pub public_data : List ℕ → Value → Data
-public_data name value =
-    object
-    (member (codes "domain") (string (codes "public"))
-    (member (codes "name") (string name)
-    (member (codes "type") (type_data (type_of value))
-    (member (codes "value") (value_data value)
-    no_members))))
 
 abbrev pub private_data : List ℕ → Shared → Data
 private_data name shared =
@@ -38,7 +28,7 @@ private_data name shared =
 
 -- an input, public or private
 abbrev pub part_data : List ℕ → Part → Data
-part_data name (Public value) = public_data name value
+part_data name (Public value) = entry_data_of name (Known value)
 part_data name (Private shared) = private_data name shared
 
 abbrev pub entry_data : ShareEntry → Data

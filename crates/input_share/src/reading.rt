@@ -135,7 +135,7 @@ fn part_count(part: &Part) -> u64
 }
 
 /// The entry at this place, whose name is remembered.
-#[tactic(auto, unfolding(crate::specs::Reading::share_entry_of, crate::specs::Reading::share_within_limit))]
+#[tactic(auto, unfolding(crate::specs::Reading::share_entry_of, value_file::specs::Input::within_limit))]
 fn entry<'v>(
     alloc: Global,
     place: u64,

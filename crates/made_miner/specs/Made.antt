@@ -79,7 +79,7 @@ run_code (Some how) code = idle_code
 abbrev pub made_story : RawCode → MinerFile → (tape : List ℕ) → (budget : ℕ) → Story
 made_story code share tape budget = first_story (run_code (undealt share) code) share tape budget
 
--- of its tape these words were drawn, and as many are left behind them as the source has
+-- of its tape these words were drawn, and as many are left after them as the source has
 pub record IsMadeOf (i : Number) (code : RawCode) (share : MinerFile) (budget : ℕ) (old new : TapesState) (m : StreamState) : Type 0 where
   pub going : m.lost ≡ None
   pub taken : List ℕ

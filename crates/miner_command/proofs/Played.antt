@@ -56,7 +56,7 @@ module _ (ask : MinerAsk) (given : Given) (f f' : FilesState) (a c : LinksState)
         sends = λ t. (h.ok t).sent;
       }
 
-  -- memory was wanting for what is to be written
+  -- memory ran out for what is to be written
   pub plays_unplanned : (told : NodeText) → Runs ask.me (own_of ask given) a c (Ok told) → Plays ask given f f' a c (Err stops.Memory)
   plays_unplanned told h = record { answers = tt; sends = λ t. all_sent ask.me a.sent c.sent out.to_next out.to_previous (h.ok t).sent }
 

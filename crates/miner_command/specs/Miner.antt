@@ -62,9 +62,6 @@ answer_at ask acts (NoFrame place) = Err (bad_peer (faults.BadFrame place))
 answer_at ask acts (Refused link cause) = Err (bad_peer (message_fault link cause))
 answer_at ask acts CutOff = Err cut_off
 
-abbrev pub node_answer : MinerAsk → Serving → Answer
-node_answer ask r = answer_at ask r.acts r.outcome
-
 -- ---- the whole
 
 abbrev pub own_of : MinerAsk → Given → Own
@@ -75,17 +72,20 @@ own_of ask given =
 unfoldable pub miner_of : MinerAsk → Contents → (coming : ℕ → List ℕ) → Answer
 miner_of ask files coming = do
   given ← given_at ask files
-  node_answer ask (own_serving ask.me (own_of ask given) coming)
+  let node : Serving = own_serving ask.me (own_of ask given) coming in answer_at ask node.acts node.outcome
+
+abbrev pub node_answer : MinerAsk → Serving → Answer
+node_answer ask r = answer_at ask r.acts r.outcome
 
 -- ---- what is sent
 
-abbrev pub nothing_sent : Outgoing
-nothing_sent = record { to_next = []; to_previous = [] }
-
 abbrev pub sent_with : MinerAsk → Result Given Cause → (coming : ℕ → List ℕ) → Outgoing
 sent_with ask (Ok given) coming = own_bytes ask.me (own_of ask given) coming
-sent_with ask (Err cause) coming = nothing_sent
+sent_with ask (Err cause) coming = record { to_next = []; to_previous = [] }
 
 -- to the next miner and to the previous one; nothing before the files are read and checked
 unfoldable pub sent_of : MinerAsk → Contents → (coming : ℕ → List ℕ) → Outgoing
 sent_of ask files coming = sent_with ask (given_at ask files) coming
+
+abbrev pub nothing_sent : Outgoing
+nothing_sent = record { to_next = []; to_previous = [] }

@@ -19,7 +19,7 @@ given_with files tape = record { code = code_seen files.code; share = files.shar
 abbrev pub given_seen : Option (List ℕ) → MinerFiles → Given
 given_seen file files = given_with files (words_in file 8 files.tape.words)
 
--- the answer is what is decided, seen by `view`; memory may be wanting, and nothing else is reached
+-- the answer is what is decided, seen by `view`; memory may run out, and nothing else is reached
 abbrev pub Judges : {X Y : Type 0} → (X → Y) → Result X Stop → Result Y Cause → Type 0
 Judges view (Ok x) decided = decided ≡ Ok (view x)
 Judges view (Err stops.Memory) decided = Unit {0}

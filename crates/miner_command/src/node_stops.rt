@@ -41,7 +41,7 @@ fn peer_stop(alloc: Global, fault: NodeFault) -> Stop
     breached(Status::Peer, format!(in alloc; "{fault}"))
 }
 
-// Why a node has no text: its links failed, a peer sent what it must not send, or memory was wanting.
+// Why a node has no text: its links failed, a peer sent what it must not send, or memory ran out.
 fn node_stop(alloc: Global, refusal: NodeErr) -> Stop
     ensures { IsNodeStop refusal result }
 {

@@ -33,7 +33,7 @@ module _ (p : TypedProgramTree) (entries : List Entry) (budget : ℕ) (given : D
         runs_as a b entries (Err e) (Err e) (λ t. IsOrRefused p entries t budget given (Q t) (Err e))
         (λ t. IsOrRefused p entries t budget given (R t) (Err e)) h h.cause (λ t k. error_so t (Q t) (R t) e k)
 
-    -- memory was wanting after it
+    -- memory ran out after it
     pub memory_after : {A B : Type 0} (x : A) (Q : FourTapes → Type 0) (R : FourTapes → B → Type 0) → RunsFrom a b entries (Ok x) Q
         → RunsFrom a b {A = B} entries (Err (fault.Delivery Memory)) (λ t. IsOrRefused p entries t budget given (R t) (Err (fault.Delivery Memory)))
     memory_after {A} {B} x Q R h =

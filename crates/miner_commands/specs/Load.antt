@@ -14,7 +14,6 @@ use Rattle.program_run.specs.Reports.{eval_with}
 use Rattle.viewed_run.specs.Deliveries.{delivered_of}
 use Rattle.viewed_run.specs.DeliveredRun.{DeliveredRun}
 use Rattle.command_frame.specs.Answer.{Answer, Effect}
-use Rattle.command_words.specs.Ask.{LoadAsk}
 use Rattle.program_commands.specs.Ends.{ending_status}
 use Rattle.program_commands.specs.Eval.{end_status, eval_text}
 
@@ -58,5 +57,5 @@ loaded_effect ran =
     }
 
 -- it is never refused
-unfoldable pub load_of : LoadAsk → Answer
-load_of ask = Ok (load_effect ask.number)
+unfoldable pub load_of : (number : ℕ) → Answer
+load_of number = Ok (load_effect number)

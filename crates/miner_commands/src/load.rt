@@ -3,7 +3,6 @@ ghost use Rattle.std.specs.Prelude.{◌≡◌, [], IfOk, IfErr, string_bytes};
 ghost use Rattle.command_frame.specs.Answer.{effect_of};
 ghost use Rattle.command_frame.specs.Reads.{PlanNames};
 ghost use Rattle.command_frame.specs.declared.stop.Stop.TheVariants.{Memory};
-ghost use Rattle.command_words.specs.Views.{load_ask};
 ghost use Rattle.protocol_model.specs.Network.{Default};
 ghost use Rattle.program_run.specs.Accepted.{IsAccepted};
 ghost use Rattle.typed_tree.specs.Programs.{typed_program_tree};
@@ -102,7 +101,7 @@ fn run_load(alloc: Global, load: Workload) -> Result<DeliveredRun, Stop>
 /// Runs the workload of the number and says what is to be printed: what the miners opened and published, how they ended, and how many
 /// messages were delivered. Nothing but want of memory stops it.
 pub fn plan_load(alloc: Global, words: &LoadWords) -> Result<Plan, Stop>
-    ensures effect { IfOk result (λ plan. effect_of plan ≡ load_effect (load_ask words.now).number) }
+    ensures effect { IfOk result (λ plan. effect_of plan ≡ load_effect words.now.number) }
     ensures memory { IfErr result (λ stop. stop ≡ Memory) }
     ensures names { IfOk result (PlanNames []) }
 {

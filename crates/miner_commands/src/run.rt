@@ -72,7 +72,7 @@ fn run_seeded(
     }
 }
 
-// Why a run with the tape file at this path gives nothing: its order of delivery is refused, words of the file couldn't be read, or memory was wanting.
+// Why a run with the tape file at this path gives nothing: its order of delivery is refused, words of the file couldn't be read, or memory ran out.
 fn course_stop(alloc: Global, refusal: CourseErr, tape: &str) -> Stop
     ensures { IsCourseStop tape.now refusal result }
 {

@@ -1,5 +1,6 @@
 -- Two hellos are sent, and two read.
-use Rattle.std.proofs.Common.{◌≡◌, ◌≢◌, ℕ, ◌<◌, ◌==◌, Bool, List, [], ◌++◌, take, drop, length, Result, Ok, Err, Option, Some, None, refl, sym, ap, ◌∙◌, true, false, if◌then◌else◌, arith, subst}
+use Rattle.std.proofs.Common.{◌≡◌, ◌≢◌, ℕ, ◌<◌, ◌==◌, Bool, List, [], ◌++◌, take, drop, length, Result, Ok, Err, Option, Some, None, refl, sym, ap, ◌∙◌, true}
+use Rattle.std.proofs.Common.{false, if◌then◌else◌, arith, subst}
 use Rattle.std.proofs.lemmas.Bool.{eqb-true, eqb-false}
 use Rattle.std.proofs.lemmas.List.{append-nil, take-append-drop}
 use Rattle.outside.specs.Links.{LinksState, Sent, Came}

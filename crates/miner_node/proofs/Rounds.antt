@@ -26,7 +26,8 @@ use Rattle.miner_node.specs.Peers.{Sends, SendsFronts}
 use Rattle.miner_node.specs.Serving.{Serving, hello_to, after_greeting, serving, serving_messages, frames, frames_to_next, frames_to_previous}
 use Rattle.miner_node.specs.Serving.{bytes_to_next, bytes_to_previous}
 use Rattle.miner_node.specs.Answers.{HasGreeted, Greets, IsUnread, ReadsMessage}
-use Rattle.miner_node.specs.Turns.{SendsNew, IsAtEase, Delivers, IsUndelivered, TakesMessage, IsServing, HasFinished, Finishes, StopsServing, TurnGoes, TurnAnswers, EndsTurns}
+use Rattle.miner_node.specs.Turns.{SendsNew, IsAtEase, Delivers, IsUndelivered, TakesMessage, IsServing, HasFinished, Finishes, StopsServing, TurnGoes}
+use Rattle.miner_node.specs.Turns.{TurnAnswers, EndsTurns}
 use Rattle.miner_node.specs.Serves.{IsRefusedSo, DeliversOne, HasServed, HasStopped, Exchanges}
 use Rattle.miner_node.proofs.Faulting.{later_self, later_on, fault_on}
 use Rattle.miner_node.proofs.Turning.{fronts_before, unsent_turn, sent_now, read_now, later_now, fronts_now, finishes, serves_on, undelivered}

@@ -19,7 +19,7 @@ use Rattle.miner_node.specs.Serving.{serving, bytes_to_next, bytes_to_previous}
 -- ---- where a node stops
 
 -- a node that comes to this outcome, and sends the next miner and the previous one these bytes, stops for this cause: where it is the
--- outcome's, all of them were sent; where the links failed or memory was wanting, a front for each
+-- outcome's, all of them were sent; where the links failed or memory ran out, a front for each
 module _ (i : Number) (old new : LinksState) (outcome : Outcome) (next previous : List ℕ) where
   abbrev pub IsStop : NodeErr → Type 0
   IsStop LinkFault = IsFault old new (old.told ≡ true → outcome ≡ CutOff) × (old.told ≡ true → SendsFronts i old.sent new.sent next previous)

@@ -88,13 +88,17 @@ serving i hello s coming = after_greeting i s (greeting i hello coming)
 abbrev pub frames : List (List ℕ) → List ℕ
 frames messages = flat_map frame_bytes messages
 
+-- to a peer: a hello, and then the frames of what is sent on the link to it
+abbrev pub bytes_on : (link : Link) → (peer : Number) → Hello → List Act → List ℕ
+bytes_on link peer hello acts = hello_bytes (hello_to hello peer) ++ frames (on_link link acts)
+
+-- the same for each of the two
 abbrev pub frames_to_next : Number → List Act → List ℕ
 frames_to_next i acts = frames (on_link (to_next i) acts)
 
 abbrev pub frames_to_previous : Number → List Act → List ℕ
 frames_to_previous i acts = frames (on_link (to_previous i) acts)
 
--- a hello, and then the frames of what is sent
 abbrev pub bytes_to_next : Number → Hello → List Act → List ℕ
 bytes_to_next i hello acts = hello_bytes (hello_to hello (next_of i)) ++ frames_to_next i acts
 

@@ -33,7 +33,7 @@ module _ (i : Number) (before after : StreamState) (old new : TapesState) where
     pub tape : after.story.tape ≡ before.story.tape ++ taken
     pub left : left_for i new ≡ after.ahead
 
-  -- words were drawn; and this holds for each tape that begins with all that were, and has as many behind them as are left
+  -- words were drawn; and this holds for each tape that begins with all that were, and has as many after them as are left
   pub record Along {A : Type 0} (result : Result A NodeErr) (Q : List ℕ → Type 0) : Type 0 where
     pub taken : List ℕ
     pub drew : Drew old new (count_of i) taken
@@ -51,12 +51,12 @@ node_answer (Err (stream.BadMessage link cause)) = Err (BadMessage link cause)
 node_answer (Err (stream.NotAwaited link)) = Err Memory
 node_answer (Err (stream.Lost why)) = Err Memory
 
--- why it stopped: where memory is wanting the miner may have lost its tape
+-- why it stopped: where memory runs out the miner may have lost its tape
 abbrev pub StoppedBy : NodeErr → StreamState → ServeErr → Type 0
 StoppedBy e m (Node x) = x ≡ e
 StoppedBy e m TapeFault = (e ≡ Memory) × (m.lost ≡ Some lost.TapeFault)
 
--- the miner's run has ended so, or the node stopped for this cause: with each tape that begins with all words drawn, and has as many behind them as are left
+-- the miner's run has ended so, or the node stopped for this cause: with each tape that begins with all words drawn, and has as many after them as are left
 module _ (i : Number) (hello : Hello) (old new : LinksState) (before after : TapesState) (m : StreamState) where
   pub record EndsSo (taken : List ℕ) (last : StreamState) (ending : Ending) : Type 0 where
     pub gone : HasGone i m last before after taken
@@ -66,7 +66,7 @@ module _ (i : Number) (hello : Hello) (old new : LinksState) (before after : Tap
   abbrev pub StopsFor : (taken : List ℕ) → NodeErr → Type 0
   StopsFor taken e = (tape : List ℕ) → IsTapeOf (m.story.tape ++ taken) (left_for i after) tape → HasStopped i hello old new (with_tape m tape) e
 
-  -- where the tape failed, it has sent what it may have where memory is wanting; the source counted a fault, and was not steady
+  -- where the tape failed, it has sent what it may have where memory runs out; the source counted a fault, and was not steady
   abbrev pub StopsSo : (taken : List ℕ) → ServeErr → Type 0
   StopsSo taken (Node e) = StopsFor taken e
   StopsSo taken TapeFault = StopsFor taken Memory × IsTapeFault before after

@@ -188,7 +188,7 @@ pub struct ServedStream<P: Party> {
 /// `BadFrame` and `BadMessage` exactly the bytes were sent that all that was read leads to; after `LinkFault`, `TapeFault` and `Memory` a front of those
 /// for each peer. On links that are steady `LinkFault` comes exactly where a peer's bytes end before an awaited hello or frame, or within it.
 /// `TapeFault` comes only where the source counted a fault in this call, and never where it is steady. What is said holds for each tape
-/// that begins with the words drawn, and has as many behind them as are left.
+/// that begins with the words drawn, and has as many after them as are left.
 pub fn serve_from<P: Party, L: Links, T: TapeSource>(
     alloc: Global,
     miner: StreamMiner<P>,

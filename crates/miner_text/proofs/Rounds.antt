@@ -21,7 +21,7 @@ use Rattle.miner_text.proofs.Words.{IsLine, line_words, line_written, line_plain
 abbrev pub shown : MinerLine → List ℕ
 shown l = spaced (line_words l)
 
--- the parts of a text between its newlines; nothing stands behind the last one
+-- the parts of a text between its newlines; nothing stands after the last one
 abbrev pub parts_of : List MinerLine → List (List ℕ)
 parts_of [] = [] ∷ []
 parts_of (l ∷ ls) = shown l ∷ parts_of ls

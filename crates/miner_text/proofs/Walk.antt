@@ -12,7 +12,7 @@ use Rattle.miner_text.specs.declared.line.MinerLine.TheVariants as lines
 use Rattle.miner_text.specs.declared.reading.Kind.TheVariants.{Wrong, Inner, Last}
 use Rattle.miner_text.specs.inner.Pushing.{Pushed}
 
--- lines that were read, and those that come behind them
+-- lines that were read, and those that come after them
 abbrev pub behind : List MinerLine → Result (List MinerLine) ℕ → Result (List MinerLine) ℕ
 behind old (Ok new) = Ok (old ++ new)
 behind old (Err k) = Err k
@@ -43,7 +43,7 @@ unfolding read_of
 no_parts bytes [] e h = ap (lines_from 1) (sym e)
 no_parts bytes (p ∷ ps) e h = absurd (omega (arith, h))
 
--- ---- what stands behind the end
+-- ---- what stands after the end
 
 more_there : (k : ℕ) (end : End) (b c : List ℕ) (cs : List (List ℕ)) → at_the_end k end (b ∷ c ∷ cs) ≡ Err (k + 1)
 more_there k end [] c cs = refl

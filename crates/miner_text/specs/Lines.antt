@@ -25,6 +25,6 @@ line_text (lines.Told event) = event_line event
 line_text (lines.Share share) = share_line share
 line_text (lines.Ended end) = end_line end
 
--- lines, one behind the other
+-- lines, one after the other
 unfoldable pub text_of : List MinerLine → List ℕ
 text_of ls = flat_map line_text ls

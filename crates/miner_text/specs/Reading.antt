@@ -46,24 +46,24 @@ line_in (w ∷ ws) =
     else if bytes_eq (codes "end") w then option_map lines.Ended (end_in ws)
     else None
 
--- a line in front of those that are read behind it
+-- a line in front of those that are read after it
 abbrev pub in_front : MinerLine → Result (List MinerLine) ℕ → Result (List MinerLine) ℕ
 in_front line (Ok more) = Ok (line ∷ more)
 in_front line (Err k) = Err k
 
--- behind the end nothing may stand
+-- after the end nothing may stand
 abbrev pub at_the_end : ℕ → End → List (List ℕ) → Result (List MinerLine) ℕ
 at_the_end k end ([] ∷ []) = Ok (lines.Ended end ∷ [])
 at_the_end k end _ = Err (k + 1)
 
--- line k, then what stands behind it and what is read of that
+-- line k, then what stands after it and what is read of that
 abbrev pub at_line : ℕ → Option MinerLine → List (List ℕ) → Result (List MinerLine) ℕ → Result (List MinerLine) ℕ
 at_line k None behind more = Err k
 at_line k (Some (lines.Told event)) behind more = in_front (lines.Told event) more
 at_line k (Some (lines.Share share)) behind more = in_front (lines.Share share) more
 at_line k (Some (lines.Ended end)) behind more = at_the_end k end behind
 
--- the lines from number k on; the last part is what stands behind the last newline
+-- the lines from number k on; the last part is what stands after the last newline
 abbrev pub lines_from : ℕ → List (List ℕ) → Result (List MinerLine) ℕ
 lines_from k [] = Err k
 lines_from k (l ∷ []) = Err k

@@ -16,7 +16,7 @@ use view_reader::{lines_in, words_in_line};
 enum Kind {
     /// No line of a miner's text.
     Wrong,
-    /// A line behind which others come.
+    /// A line after which others come.
     Inner,
     /// The line of the end.
     Last,
@@ -29,7 +29,7 @@ fn line_in(alloc: Global, line: &[u8]) -> Result<Option<MinerLine>, AllocError>
     parts::line_in(alloc, &words)
 }
 
-/// Puts a line behind those that are there, or says that it is none.
+/// Puts a line after those that are there, or says that it is none.
 fn push_line(alloc: Global, line: &[u8], lines: &mut Vec<MinerLine>) -> Result<Kind, AllocError>
     ensures { IfOk result (λ kind. Pushed kind lines.old.items lines.new.items (line_in (words_in_line line.now))) }
 {
@@ -47,8 +47,8 @@ fn push_line(alloc: Global, line: &[u8], lines: &mut Vec<MinerLine>) -> Result<K
 /// Reads a miner's text: lines `open`, `publish` and `share` in any order, then the line `end`, each with its newline. Numbers are
 /// decimal without leading zeros and below 2^64; one space stands before each word but the first.
 ///
-/// `BadText` names the first line, counted from 1, that is of another form, has no newline or stands behind the end; where the text
-/// stops early, the line behind its last.
+/// `BadText` names the first line, counted from 1, that is of another form, has no newline or stands after the end; where the text
+/// stops early, the line after its last.
 pub fn read(alloc: Global, bytes: &[u8]) -> Result<Vec<MinerLine>, TextErr>
     ensures { Reads (read_of bytes.now) result }
 {

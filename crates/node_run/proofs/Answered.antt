@@ -32,7 +32,7 @@ use Rattle.node_run.proofs.Idles.{made, are_alike, stops_alike}
 use Rattle.node_run.proofs.Ends.{has_text}
 
 module _ (i : Number) (own : Own) (a : LinksState) where
-  -- memory was wanting before the peers were joined
+  -- memory ran out before the peers were joined
   pub unbegun : Runs i own a a (Err stop.Memory)
   unbegun = record { ok = tt; err = λ t. none_sent i a.sent a.sent _ _ refl }
 
@@ -44,7 +44,7 @@ module _ (i : Number) (own : Own) (a : LinksState) where
       pub ends_so : (told : NodeText) → HasTold i (undealt own.share) s ending told → Runs i own a c (Ok told)
       ends_so told is = record { ok = has_text i own a c s ending told (undealt own.share) h is; err = tt }
 
-      -- memory was wanting for its text
+      -- memory ran out for its text
       pub untold : Runs i own a c (Err stop.Memory)
       untold =
           record {
@@ -146,7 +146,7 @@ module _ (i : Number) (own : OwnPart) (hello : Hello) (m : StreamState) (s t : T
         }
 
     module _ (x : A) (k : Serves i hello a c t u m (Ok x) miner ending) where
-      -- memory was wanting for its text
+      -- memory ran out for its text
       pub untold_from : RunsFrom i (own_seen own) a c s u (Err (Node stop.Memory))
       untold_from =
           record {

@@ -5,7 +5,7 @@ use Rattle.outside.specs.Tapes.{TapesState, Drew}
 use Rattle.sc_text.specs.declared.end.End.{End}
 use Rattle.sc_text.specs.declared.end.Ending.{Ending}
 use Rattle.proto_core.specs.declared.party.Number.{Number}
-use Rattle.proto_core.specs.Parties.{count_of}
+use Rattle.proto_core.specs.Parties.{count_of, next_of, previous_of, to_next as link_to_next, to_previous as link_to_previous}
 use Rattle.proto_core.specs.Strand.{Act, Strand, told_in}
 use Rattle.bytecode.specs.Raw.{RawCode}
 use Rattle.input_share.specs.ShareFile.{MinerFile}
@@ -24,7 +24,7 @@ use Rattle.miner_node.specs.declared.node_err.NodeErr.TheVariants.{Memory}
 use Rattle.miner_node.specs.declared.node_err.ServeErr.{ServeErr}
 use Rattle.miner_node.specs.declared.node_err.ServeErr.TheVariants.{Node, TapeFault}
 use Rattle.miner_node.specs.Peers.{Sends}
-use Rattle.miner_node.specs.Serving.{Finished, Serving, serving, bytes_to_next, bytes_to_previous}
+use Rattle.miner_node.specs.Serving.{Finished, Serving, bytes_on, serving}
 use Rattle.miner_node.specs.Answers.{IsStop}
 use Rattle.made_miner.specs.Made.{hello_of, strand_of}
 use Rattle.node_run.specs.declared.running.NodeText.{NodeText}
@@ -55,8 +55,10 @@ pub record Outgoing : Type 0 where
   pub to_previous : List ℕ
 
 abbrev pub served_bytes : Number → Own → List Act → Outgoing
-served_bytes me own acts =
-    record { to_next = bytes_to_next me (own_hello me own) acts; to_previous = bytes_to_previous me (own_hello me own) acts }
+served_bytes me own acts = record {
+  to_next = bytes_on (link_to_next me) (next_of me) (own_hello me own) acts;
+  to_previous = bytes_on (link_to_previous me) (previous_of me) (own_hello me own) acts;
+}
 
 abbrev pub own_bytes : Number → Own → (coming : ℕ → List ℕ) → Outgoing
 own_bytes me own coming = served_bytes me own (own_serving me own coming).acts
@@ -106,13 +108,13 @@ abbrev pub unbegun : Lost → ServeErr
 unbegun lost.Memory = Node Memory
 unbegun lost.TapeFault = TapeFault
 
--- what is answered where words of the tape couldn't be drawn is what may be where memory is wanting
+-- what is answered where words of the tape couldn't be drawn is what may be where memory runs out
 abbrev pub with_memory : Result NodeText ServeErr → Result NodeText NodeErr
 with_memory (Ok told) = Ok told
 with_memory (Err (Node e)) = Err e
 with_memory (Err TapeFault) = Err Memory
 
--- words were drawn, and it ran so with each tape that begins with them, and has as many behind them as are left; where words couldn't be drawn,
+-- words were drawn, and it ran so with each tape that begins with them, and has as many after them as are left; where words couldn't be drawn,
 -- the source counted a fault, and was not steady
 module _ (me : Number) (own : (tape : List ℕ) → Own) (old new : LinksState) (before after : TapesState) where
   pub record RunsFrom (result : Result NodeText ServeErr) : Type 0 where

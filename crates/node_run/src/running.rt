@@ -101,7 +101,7 @@ fn text_served<P: Party>(
 /// Else the error says why it stopped. After `PeerMismatch`, `BadFrame` and `BadMessage` exactly the bytes were sent that all that was read
 /// leads to; after `LinkFault`, `TapeFault` and `Memory` a front of those for each peer. A peer that can't be joined is a `LinkFault`.
 /// `TapeFault` comes only where the source counted a fault in this call, and never where it is steady. What is said holds for each tape that
-/// begins with the words drawn, and has as many behind them as are left.
+/// begins with the words drawn, and has as many after them as are left.
 pub fn run_node<P: Party, L: Links, T: TapeSource>(
     alloc: Global,
     own: OwnPart,

@@ -1,5 +1,6 @@
 // Files in memory, by path.
-ghost use Rattle.std.specs.Prelude.{◌≡◌, ◌≢◌, ◌<◌, ◌≤◌, ◌++◌, ℕ, List, take, Some, None, length, true, false, IsSomeAnd, option_map, IfOk, OnOk, OnErr, IfSome, IfNone};
+ghost use Rattle.std.specs.Prelude.{◌≡◌, ◌≢◌, ◌<◌, ◌≤◌, ◌++◌, ℕ, List, take, Some, None, length, true, false, IsSomeAnd, option_map, IfOk, OnOk, OnErr, IfSome};
+ghost use Rattle.std.specs.Prelude.{IfNone};
 ghost use Rattle.outside.specs.Files.{file_at, with_file, IsBelow, BytesFrom, EndsBefore};
 ghost use Rattle.outside.specs.MemFile.{contents_of, size_in};
 

@@ -7,11 +7,12 @@ use Rattle.typed_tree.specs.Programs.{TypedProgramTree}
 use Rattle.value_file.specs.declared.inputs.Entry.{Entry}
 use Rattle.value_file.specs.Input.{read_of as inputs_read_of}
 use Rattle.language_model.specs.Reports.{Report}
-use Rattle.program_commands.specs.Eval.{end_of, report_at, report_effect, report_for}
+use Rattle.program_commands.specs.Eval.{end_of, evaluation_of, report_at, report_effect, report_for}
 use Rattle.program_commands.specs.Judging.{Finding, FoundAt, its_program}
 use Rattle.program_commands.specs.Programs.{program_at}
 use Rattle.program_commands.specs.Reading.{bad_input, inputs_at}
 use Rattle.program_commands.specs.Held.{HoldsTyped, EvalRefused, of_program, bad_entries}
+use Rattle.program_commands.proofs.Evals.{evaluation_by_report}
 use Rattle.program_commands.proofs.Accepting.{program_cases, refused_by_program}
 use Rattle.program_commands.proofs.Refusals.{Refuses, ReadRefused, steps, input_status, inputs_refused, no_ending, not_missing, refusing, status_in_answer}
 use Rattle.program_commands.proofs.Refusals.{status_of_cause}
@@ -47,10 +48,10 @@ module _ (found : Finding) (ask : EvalAsk) (files : Contents) (h : FoundAt (its_
         | inr (p, there, rest) ↦ at_inputs c is p (program_cases found files ask.program h (Ok p) there) rest
       ]
 
-  pub report_refused_only : (text : Report → List ℕ) → (report_at found ask files >>= λ report. Ok (report_effect text report)) ≡ r
+  pub report_refused_only : (text : Report → List ℕ) → evaluation_of text found ask files ≡ r
       → EvalRefused ask files (status_in_answer r)
   report_refused_only text is =
-      elim (steps (report_at found ask files) (λ report. Ok (report_effect text report)) r is) [
+      elim (steps (report_at found ask files) (λ report. Ok (report_effect text report)) r (sym (evaluation_by_report text found ask files) ∙ is)) [
         | inl (c, e, is_r) ↦ at_report c is_r e
         | inr (report, e, done) ↦ no_ending (status_in_answer r) (end_of report).how why (ap status_in_answer (sym done))
       ]

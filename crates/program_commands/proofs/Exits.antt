@@ -51,7 +51,7 @@ unnamed_refusal paths cause (stops.Refused r) for = record { named = λ line is.
 unnamed_refusal paths cause (stops.Breached b) for = absurd for
 unnamed_refusal paths cause (stops.Failed object) for = absurd for
 
--- ---- tapes, whose paths hang on their source, and what is read behind them
+-- ---- tapes, whose paths hang on their source, and what is read after them
 
 pub tapes_named : (source : Source) (ps : List (List ℕ)) (stop : Stop) → StopNames (source_paths source) stop → StopNames (source_paths source ++ ps) stop
 tapes_named (file path) ps stop names = names_first path ps stop names

@@ -21,16 +21,16 @@ read_there files path bytes e = rw e refl
 
 -- what the text of a file is judged to be
 judged_there : (files : Contents) (path bytes : List ℕ) (judged : Judged) → file_at files path ≡ Some bytes → IsJudged bytes judged
-    → JudgedAt (Some path) files judged
+    → JudgedAt path files judged
 judged_there files path bytes judged there is = λ other at. subst (λ (b : List ℕ). IsJudged b judged) (same other at) is
   where
     same : (other : List ℕ) → file_at files path ≡ Some other → bytes ≡ other
     same other at = let both : Some bytes ≡ Some other = sym there ∙ at in cc
 
-pub held_judged : (path : List ℕ) (files : Contents) (tree : ProgramTree) → HoldsProgram path files tree → JudgedAt (Some path) files (Ok tree)
+pub held_judged : (path : List ℕ) (files : Contents) (tree : ProgramTree) → HoldsProgram path files tree → JudgedAt path files (Ok tree)
 held_judged path files tree h = judged_there files path h.bytes (Ok tree) h.there h.accepted
 
-pub bad_judged : (path : List ℕ) (files : Contents) (h : HoldsBadProgram path files) → JudgedAt (Some path) files (Err h.fault)
+pub bad_judged : (path : List ℕ) (files : Contents) (h : HoldsBadProgram path files) → JudgedAt path files (Err h.fault)
 bad_judged path files h = judged_there files path h.bytes (Err h.fault) h.there h.refused
 
 pub held_tree : (path : List ℕ) (files : Contents) (tree : ProgramTree) → HoldsProgram path files tree → tree_at (Ok tree) files path ≡ Ok tree

@@ -37,7 +37,7 @@ not_there files path c is = go (file_at files path) is
 abbrev pub some : Judged
 some = Err (record { fault = BadByte; place = record { line = 1; column = 1 } })
 
-pub no_text : (files : Contents) (path : List ℕ) (c : Cause) → bytes_at files path ≡ Err c → JudgedAt (Some path) files some
+pub no_text : (files : Contents) (path : List ℕ) (c : Cause) → bytes_at files path ≡ Err c → JudgedAt path files some
 no_text files path c is = λ b there. absurd (wrong b there)
   where
     wrong : (b : List ℕ) → file_at files path ≡ Some b → ⊥

@@ -38,7 +38,7 @@ own_refusal cause (stops.Refused r) for = tt
 own_refusal cause (stops.Breached b) for = absurd for
 own_refusal cause (stops.Failed object) for = absurd for
 
--- a step behind a refused one isn't made
+-- a step after a refused one isn't made
 pub stops_behind : {X Y : Type 0} (stop : Stop) (decided : Result X Cause) (more : X → Result Y Cause) → StopsSo stop decided → StopsSo stop (decided >>= more)
 stops_behind stops.Memory decided more s = tt
 stops_behind stops.Usage decided more s = absurd s

@@ -12,7 +12,7 @@ use Rattle.reached_instances.specs.Reached.{IsReachedList}
 use Rattle.reached_instances.proofs.ReachedLists.{is_the_only_list}
 use Rattle.program_run.specs.Codes.{IsCodeOf}
 use Rattle.program_commands.specs.Compile.{code_bytes, compile_of, written_effect}
-use Rattle.program_commands.specs.Judging.{Finding, FoundAt, IsReachedAs, IsReachedBy, Sized, its_program}
+use Rattle.program_commands.specs.Judging.{Finding, FoundAt, IsReachedAs, Sized, its_program}
 use Rattle.program_commands.specs.Programs.{program_at, small_enough, tree_at}
 use Rattle.program_commands.proofs.Refusals.{steps}
 use Rattle.program_commands.proofs.Sizes.{tree_judged}
@@ -45,7 +45,7 @@ reached_found found path files p h is =
       | inr (tree, e, rest) ↦
           let by_tree : IsReachedAs (Ok tree) found.sized found.reached =
           subst (λ judged. IsReachedAs judged found.sized found.reached) (tree_judged files path found.judged tree e) h.reached in
-          subst (λ sized. IsReachedBy sized found.reached) (small found.sized p rest) by_tree
+          subst (λ (sized : Sized). IsReachedAs (Ok tree) sized found.reached) (small found.sized p rest) by_tree
     ]
 
 code_found : (found : Finding) (path : List ℕ) (files : Contents) (p : TypedProgramTree) (raw : RawCode) → FoundAt (its_program path) files found

@@ -154,7 +154,7 @@ tree_read files path bytes there (Ok tree) h r is = subst (TreeRead files path) 
 tree_read files path bytes there (Err fault) h r is =
     subst (TreeRead files path) is (inr (bad_status fault, record { bytes = bytes; there = there; fault = fault; refused = h }))
 
-pub tree_cases : (judged : Judged) (files : Contents) (path : List ℕ) → JudgedAt (Some path) files judged → (r : Result ProgramTree Cause)
+pub tree_cases : (judged : Judged) (files : Contents) (path : List ℕ) → JudgedAt path files judged → (r : Result ProgramTree Cause)
     → tree_at judged files path ≡ r → TreeRead files path r
 unfolding tree_at
 tree_cases judged files path h r is =

@@ -11,7 +11,7 @@ use Rattle.front_end.specs.Judgement.{Judged}
 use Rattle.command_frame.specs.Answer.{Cause, ◌>>=◌, bytes_at}
 use Rattle.reached_instances.specs.Instances.{Instance}
 use Rattle.front_end.specs.declared.program_fault.ProgramFault.{ProgramFault}
-use Rattle.program_commands.specs.Judging.{JudgedAt, Sized, IsSized, IsSizedAs, IsReachedBy, Finding, FoundAt, its_program}
+use Rattle.program_commands.specs.Judging.{JudgedAt, Sized, IsSized, IsSizedAs, IsReachedAs, Finding, FoundAt, its_program}
 use Rattle.program_commands.specs.Programs.{accepted, tree_at}
 use Rattle.program_commands.proofs.Judged.{any_size}
 
@@ -66,7 +66,7 @@ size_found files path found tree h is = subst (λ (j : Judged). IsSizedAs j foun
 -- ---- what is found
 
 -- what a program reaches that is small enough
-pub reaching : (tree : ProgramTree) (sized : Sized) → IsSized tree sized → (reached : List Instance) × IsReachedBy sized reached
+pub reaching : (tree : ProgramTree) (sized : Sized) → IsSized tree sized → (reached : List Instance) × IsReachedAs (Ok tree) sized reached
 reaching tree (Ok p) (typed, within) = (within.list, within.reached)
 reaching tree (Err error) is = ([], tt)
 
@@ -74,7 +74,7 @@ reaching tree (Err error) is = ([], tt)
 abbrev pub refused_text : (judged : Judged) → Finding
 refused_text judged = record { judged = judged; sized = any_size; reached = [] }
 
-pub is_refused : (files : Contents) (path : List ℕ) (fault : ProgramFault) → JudgedAt (Some path) files (Err fault)
+pub is_refused : (files : Contents) (path : List ℕ) (fault : ProgramFault) → JudgedAt path files (Err fault)
     → FoundAt (its_program path) files (refused_text (Err fault))
 is_refused files path fault at = record { judged = at; sized = tt; reached = tt }
 

@@ -55,22 +55,19 @@ need_text report = codes "need" ++ elements_text (used report) ++ codes "\n"
 abbrev pub report_effect : (Report → List ℕ) → Report → Effect
 report_effect text report = record { writes = []; text = text report; status = end_status report }
 
--- Each file is read and then checked: the program and its size, then the input; then the program is evaluated.
+-- Each file is read and then checked: the program and its size, then the input; then the program is evaluated, and this text of the report printed.
+unfoldable pub evaluation_of : (Report → List ℕ) → Finding → EvalAsk → Contents → Answer
+evaluation_of text found ask files = do
+  program ← program_at found files ask.program
+  entries ← inputs_at files ask.input
+  Ok (report_effect text (report_for program entries ask.budget))
+
+-- the report alone, read in the same way
 unfoldable pub report_at : Finding → EvalAsk → Contents → Result Report Cause
 report_at found ask files = do
   program ← program_at found files ask.program
   entries ← inputs_at files ask.input
   Ok (report_for program entries ask.budget)
-
-unfoldable pub eval_of : Finding → EvalAsk → Contents → Answer
-eval_of found ask files = do
-  report ← report_at found ask files
-  Ok (report_effect eval_text report)
-
-unfoldable pub needs_of : Finding → EvalAsk → Contents → Answer
-needs_of found ask files = do
-  report ← report_at found ask files
-  Ok (report_effect need_text report)
 
 -- the paths that `eval` and `need` read
 unfoldable pub eval_paths : EvalAsk → List (List ℕ)

@@ -1,5 +1,5 @@
 -- What the program that a command reads is: its judgement, and when there is one.
-use Rattle.std.specs.Prelude.{◌≡◌, ℕ, List, true, Option, Some, None, Result, Ok, Err}
+use Rattle.std.specs.Prelude.{◌≡◌, ℕ, List, true, Some, Result, Ok, Err}
 use Rattle.secrec_ast.specs.Programs.{ProgramTree}
 use Rattle.typed_tree.specs.Programs.{TypedProgramTree}
 use Rattle.name_resolution.specs.Functions.{typed_of}
@@ -13,10 +13,9 @@ use Rattle.command_frame.specs.declared.stop.Stop.{Stop}
 use Rattle.command_frame.specs.declared.stop.Stop.TheVariants as stops
 use Rattle.front_end.specs.Judgement.{Judged, IsJudged}
 
--- the judgement of the text at this path, if a path is given and a file is there
-abbrev pub JudgedAt : Option (List ℕ) → Contents → Judged → Type 0
-JudgedAt None files judged = Unit {0}
-JudgedAt (Some path) files judged = (bytes : List ℕ) → file_at files path ≡ Some bytes → IsJudged bytes judged
+-- the judgement of the text at this path, if a file is there
+abbrev pub JudgedAt : (path : List ℕ) → Contents → Judged → Type 0
+JudgedAt path files judged = (bytes : List ℕ) → file_at files path ≡ Some bytes → IsJudged bytes judged
 
 -- an accepted program as it is run: its typed tree, or what there is too much of in it
 abbrev pub Sized : Type 0
@@ -32,13 +31,9 @@ IsSizedAs (Ok tree) sized = IsSized tree sized
 IsSizedAs (Err fault) sized = Unit {0}
 
 -- the instances that a program reaches which is small enough
-abbrev pub IsReachedBy : Sized → List Instance → Type 0
-IsReachedBy (Ok program) reached = IsReachedList program reached
-IsReachedBy (Err error) reached = Unit {0}
-
 abbrev pub IsReachedAs : Judged → Sized → List Instance → Type 0
-IsReachedAs (Ok tree) sized reached = IsReachedBy sized reached
-IsReachedAs (Err fault) sized reached = Unit {0}
+IsReachedAs (Ok tree) (Ok program) reached = IsReachedList program reached
+IsReachedAs _ _ reached = Unit {0}
 
 -- what a command asks of a program: nothing, or what the text at a path is
 pub data Question : Type 0 where
@@ -60,7 +55,7 @@ pub record IsFinding (judgement : Judged → Type 0) (found : Finding) : Type 0 
 -- the answer to the question
 abbrev pub FoundAt : Question → Contents → Finding → Type 0
 FoundAt nothing files found = Unit {0}
-FoundAt (its_program path) files found = IsFinding (JudgedAt (Some path) files) found
+FoundAt (its_program path) files found = IsFinding (JudgedAt path files) found
 
 abbrev pub HasFinding : Question → Contents → Type 0
 HasFinding question files = (found : Finding) × FoundAt question files found

@@ -2,7 +2,7 @@
 use Rattle.std.specs.Prelude.{ℕ, List, ◌++◌}
 use Rattle.command_frame.specs.Answer.{Written}
 
--- a path behind the prefix
+-- a path after the prefix
 unfoldable pub path_to : (prefix suffix : List ℕ) → List ℕ
 path_to prefix suffix = prefix ++ suffix
 

@@ -37,15 +37,13 @@ bad_tape place = record { status = TapeFile; line = fault_line (faults.BadTape p
 
 -- a field of an entry; those at top are none
 abbrev pub entry_field : Field → Option EntryField
-entry_field fields.Inputs = None
 entry_field fields.Name = Some entry_fields.Name
 entry_field fields.Domain = Some entry_fields.Domain
 entry_field fields.Type = Some entry_fields.Type
 entry_field fields.Value = Some entry_fields.Value
 entry_field fields.Shape = Some entry_fields.Shape
 entry_field fields.Share = Some entry_fields.Share
-entry_field fields.Lens = None
-entry_field fields.Miner = None
+entry_field _ = None
 
 -- the fault of a field at top
 abbrev pub top_fault : Field → InputFault
@@ -55,8 +53,7 @@ top_fault _ = input_faults.NoInputs
 
 abbrev pub fault_in : Option ℕ → Option EntryField → Field → InputFault
 fault_in (Some entry) (Some field) what = input_faults.BadField entry field
-fault_in (Some entry) None what = top_fault what
-fault_in None field what = top_fault what
+fault_in _ _ what = top_fault what
 
 abbrev pub field_fault : Option ℕ → Field → InputFault
 field_fault entry what = fault_in entry (entry_field what) what
@@ -120,9 +117,8 @@ delivery_at files (shuffled seed) = Ok (Shuffled (stream_word seed 4))
 
 -- the paths that are read for the order
 abbrev pub order_paths : Order → List (List ℕ)
-order_paths in_turn = []
 order_paths (scheduled path) = path ∷ []
-order_paths (shuffled seed) = []
+order_paths _ = []
 
 -- the paths that are read for the tapes
 abbrev pub source_paths : Source → List (List ℕ)

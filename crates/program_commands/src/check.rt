@@ -1,8 +1,7 @@
 // The command `check`.
-ghost use Rattle.std.specs.Prelude.{◌≡◌, [], true, IfOk, IfErr};
+ghost use Rattle.std.specs.Prelude.{◌≡◌, [], true, string_bytes, IfOk, IfErr};
 ghost use Rattle.command_frame.specs.Answer.{effect_of};
 ghost use Rattle.command_frame.specs.Reads.{EndsDone, OnlyRead, Gives, KeepsTo, StopsReading};
-ghost use Rattle.command_words.specs.Views.{check_ask};
 ghost use Rattle.program_commands.specs.Check.{check_of, check_paths, check_text};
 ghost use Rattle.program_commands.specs.Judging.{Finding, FoundAt, HasFinding, its_program, Tells};
 
@@ -27,12 +26,12 @@ fn text(alloc: Global) -> Result<Vec<u8>, AllocError>
 pub fn plan_check<F: Files>(alloc: Global, files: &mut F, words: &CheckWords) -> Result<Plan, Stop>
     ensures files { OnlyRead (F.state files.old) (F.state files.new) }
     ensures anyhow { IfErr result (StopsReading (F.state files.old) (F.state files.new)) }
-    ensures answer { (found : Finding) → FoundAt (its_program (check_ask words.now).program) (F.state files.old).contents found →
+    ensures answer { (found : Finding) → FoundAt (its_program (string_bytes words.now.program)) (F.state files.old).contents found →
         Gives effect_of (F.state files.old) (F.state files.new) result
-        (check_of found (check_ask words.now) (F.state files.old).contents) }
+        (check_of found (string_bytes words.now.program) (F.state files.old).contents) }
     ensures found { (F.state files.old).told ≡ true → Tells (F.state files.old) result →
-        HasFinding (its_program (check_ask words.now).program) (F.state files.old).contents }
-    ensures names { KeepsTo (check_paths (check_ask words.now)) [] result }
+        HasFinding (its_program (string_bytes words.now.program)) (F.state files.old).contents }
+    ensures names { KeepsTo (check_paths (string_bytes words.now.program)) [] result }
     ensures ends { EndsDone result }
 {
     let _program = read_typed(alloc, files, &words.program)?;

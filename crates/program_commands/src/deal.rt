@@ -55,7 +55,7 @@ fn add_tape(
     add_write(alloc, writes, prefix, suffix, Content::Bytes(bytes))
 }
 
-/// The six files of a dealing in order, at paths behind the prefix: the share files of miners 1, 2 and 3, then their tape files.
+/// The six files of a dealing in order, at paths after the prefix: the share files of miners 1, 2 and 3, then their tape files.
 pub fn deal_writes(
     alloc: Global,
     prefix: &String,

@@ -4,7 +4,7 @@ ghost use Rattle.command_frame.specs.Answer.{effect_of};
 ghost use Rattle.command_frame.specs.Reads.{OnlyRead, Gives, KeepsTo, StopNames, StopsReading};
 ghost use Rattle.command_words.specs.Views.{eval_ask};
 ghost use Rattle.clear_eval.specs.Reports.{report_seen};
-ghost use Rattle.program_commands.specs.Eval.{report_at, eval_of, needs_of, need_text, used, eval_paths};
+ghost use Rattle.program_commands.specs.Eval.{report_at, evaluation_of, eval_text, need_text, used, eval_paths};
 ghost use Rattle.program_commands.specs.Judging.{Finding, FoundAt, HasFinding, its_program, Tells};
 
 use crate::ends::ending_status;
@@ -35,13 +35,13 @@ fn read_report<F: Files>(alloc: Global, files: &mut F, words: &EvalWords) -> Res
 }
 
 /// Reads and checks the files, evaluates the program, and says what is to be printed: what it opened and published, and how it ended.
-#[tactic(auto, unfolding(crate::specs::Eval::eval_of))]
+#[tactic(auto, using(crate::proofs::Evals::evaluation_by_report))]
 pub fn plan_eval<F: Files>(alloc: Global, files: &mut F, words: &EvalWords) -> Result<Plan, Stop>
     ensures files { OnlyRead (F.state files.old) (F.state files.new) }
     ensures anyhow { IfErr result (StopsReading (F.state files.old) (F.state files.new)) }
     ensures answer { (found : Finding) → FoundAt (its_program (eval_ask words.now).program) (F.state files.old).contents found →
         Gives effect_of (F.state files.old) (F.state files.new) result
-        (eval_of found (eval_ask words.now) (F.state files.old).contents) }
+        (evaluation_of eval_text found (eval_ask words.now) (F.state files.old).contents) }
     ensures found { (F.state files.old).told ≡ true → Tells (F.state files.old) result →
         HasFinding (its_program (eval_ask words.now).program) (F.state files.old).contents }
     ensures names { KeepsTo (eval_paths (eval_ask words.now)) [] result }
@@ -76,13 +76,13 @@ fn need_line(alloc: Global, report: &Report) -> Result<String, AllocError>
 }
 
 /// The same, and says that the words of the tapes are to be printed which the evaluation used up to its end.
-#[tactic(auto, unfolding(crate::specs::Eval::needs_of))]
+#[tactic(auto, using(crate::proofs::Evals::evaluation_by_report))]
 pub fn plan_need<F: Files>(alloc: Global, files: &mut F, words: &EvalWords) -> Result<Plan, Stop>
     ensures files { OnlyRead (F.state files.old) (F.state files.new) }
     ensures anyhow { IfErr result (StopsReading (F.state files.old) (F.state files.new)) }
     ensures answer { (found : Finding) → FoundAt (its_program (eval_ask words.now).program) (F.state files.old).contents found →
         Gives effect_of (F.state files.old) (F.state files.new) result
-        (needs_of found (eval_ask words.now) (F.state files.old).contents) }
+        (evaluation_of need_text found (eval_ask words.now) (F.state files.old).contents) }
     ensures found { (F.state files.old).told ≡ true → Tells (F.state files.old) result →
         HasFinding (its_program (eval_ask words.now).program) (F.state files.old).contents }
     ensures names { KeepsTo (eval_paths (eval_ask words.now)) [] result }

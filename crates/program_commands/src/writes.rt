@@ -7,7 +7,7 @@ use crate::paths::path_behind;
 use command_frame::{Content, PlannedWrite};
 use std::alloc::{AllocError, Global};
 
-/// Adds a file that is to be written, at a path behind the prefix.
+/// Adds a file that is to be written, at a path after the prefix.
 pub fn add_write(
     alloc: Global,
     writes: &mut Vec<PlannedWrite>,

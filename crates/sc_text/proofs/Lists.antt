@@ -1,4 +1,4 @@
--- What is in two lists, one behind the other.
+-- What is in two lists, one after the other.
 use Rattle.std.proofs.Common.{List, [], ◌∷◌, ◌++◌, ◌⊎◌, inl, inr}
 use Rattle.sc_text.specs.Lists.{Among}
 

@@ -5,13 +5,13 @@ use Rattle.std.proofs.lemmas.Grind.{common_steps}
 use Rattle.std.proofs.lemmas.List.Splits.{join_with_byte-slice_split, length-slice_split}
 use Rattle.std.proofs.lemmas.List.{append_assoc, take_more}
 use Rattle.std.proofs.lemmas.Slice.Eq.{bytes_eq-Decides}
-use Rattle.std.specs.List.{join_with_byte, count_by}
+use Rattle.std.specs.List.{find, join_with_byte, count_by}
 use Rattle.std.specs.Prelude.{Bool, true, false, ◌==◌, if◌then◌else◌, Option, Some, None, Result, Ok, Err, bytes_eq}
 use Rattle.proto_core.specs.declared.link.Link.{Link}
 use Rattle.proto_core.specs.declared.link.Link.TheVariants.{Link12, Link13, Link21, Link23, Link31, Link32}
 use Rattle.proto_core.specs.Parties.{link_text}
 use Rattle.schedule_file.specs.Text.{schedule_bytes}
-use Rattle.schedule_file.specs.Reading.{one_of, link_in, then_later, at_the_end, links_from, lines_in, links_of}
+use Rattle.schedule_file.specs.Reading.{link_in, then_later, at_the_end, links_from, lines_in, links_of}
 use Rattle.schedule_file.specs.FirstWrong.{IsFirstWrong}
 
 -- ---- one line
@@ -38,16 +38,16 @@ line_first Link32 rest = refl
 not_found : {P : Type 0} (l : Link) → None ≡ Some l → P
 not_found l e = cc
 
-one_read : (ls : List Link) (line : List ℕ) (l : Link) → one_of ls line ≡ Some l → line ≡ link_text l
+one_read : (ls : List Link) (line : List ℕ) (l : Link) → find (λ k. bytes_eq (link_text k) line) ls ≡ Some l → line ≡ link_text l
 one_read [] line l h = not_found l h
 one_read (k ∷ ks) line l h = by_test (bytes_eq (link_text k) line) refl (λ e. one_read ks line l e)
   where
-    by_test : (b : Bool) → bytes_eq (link_text k) line ≡ b → (one_of ks line ≡ Some l → line ≡ link_text l) → line ≡ link_text l
+    by_test : (b : Bool) → bytes_eq (link_text k) line ≡ b → (find (λ k. bytes_eq (link_text k) line) ks ≡ Some l → line ≡ link_text l) → line ≡ link_text l
     by_test true e more =
-        let found : Some k ≡ Some l = sym (ap (λ b. if b then Some k else one_of ks line) e) ∙ h in
+        let found : Some k ≡ Some l = sym (ap (λ b. if b then Some k else find (λ k. bytes_eq (link_text k) line) ks) e) ∙ h in
         let same : k ≡ l = cc in
         sym ((bytes_eq-Decides (link_text k) line).0 e) ∙ ap link_text same
-    by_test false e more = more (sym (ap (λ b. if b then Some k else one_of ks line) e) ∙ h)
+    by_test false e more = more (sym (ap (λ b. if b then Some k else find (λ k. bytes_eq (link_text k) line) ks) e) ∙ h)
 
 -- there is always a first part
 record Parted (bytes : List ℕ) : Type 0 where
@@ -100,7 +100,7 @@ pub some_bytes : (text : List ℕ) → false ≡ (length text == 0) → text ≢
 some_bytes [] e n = cc
 some_bytes (x ∷ xs) e n = cc
 
--- ---- links that were read, and what is read behind them
+-- ---- links that were read, and what is read after them
 
 abbrev pub behind : List Link → Result (List Link) ℕ → Result (List Link) ℕ
 behind links (Ok more) = Ok (links ++ more)
@@ -132,7 +132,7 @@ read_more bytes links l text rest e n h =
     ∙ one_more links (length links + 1) l (links_from (length links + 1 + 1) (lines_in rest))
     ∙ ap (λ k. behind (links ++ l ∷ []) (links_from (k + 1) (lines_in rest))) (sym n)
 
--- the bytes behind an entry
+-- the bytes after an entry
 behind_entry : (text : List ℕ) (l : Link) → text ≡ link_text l ++ 10 ∷ drop 3 text →
     (3 + length (drop 3 text) ≡ length text) × (take (length text - 3) (drop 3 text) ≡ drop 3 text)
 behind_entry text l e =
@@ -194,7 +194,7 @@ pub record FirstWrongFrom (text : List ℕ) (number wrong : ℕ) : Type 0 where
   pub counted : wrong ≡ length before + number
   pub at : IsWrong rest
 
--- a text whose lines are these, and its parts behind a first line that is a link
+-- a text whose lines are these, and its parts after a first line that is a link
 module _ (text line next : List ℕ) (lines : List (List ℕ)) (is : lines_in text ≡ line ∷ next ∷ lines) (l : Link) (found : link_in line ≡ Some l) where
   abbrev later : List ℕ
   later = join_with_byte 10 (next ∷ lines)

@@ -4,7 +4,7 @@ use Rattle.proto_core.specs.declared.link.Link.{Link}
 use Rattle.proto_core.specs.Parties.{link_text}
 use Rattle.schedule_file.specs.Text.{schedule_bytes}
 
--- the lines before it are links, and what stands behind them doesn't begin with a link and its newline
+-- the lines before it are links, and what stands after them doesn't begin with a link and its newline
 pub record IsFirstWrong (bytes : List ℕ) (number : ℕ) : Type 0 where
   pub before : List Link
   pub rest : List ℕ

@@ -1,25 +1,21 @@
 -- The reader of a schedule's text: the links, or the number of the first line that is none.
-use Rattle.std.specs.Prelude.{ℕ, ◌+◌, ◌==◌, if◌then◌else◌, List, [], ◌∷◌, Option, Some, None, Result, Ok, Err, bytes_eq}
-use Rattle.std.specs.List.{slice_split}
+use Rattle.std.specs.Prelude.{ℕ, ◌+◌, ◌==◌, List, [], ◌∷◌, Option, Some, None, Result, Ok, Err, bytes_eq}
+use Rattle.std.specs.List.{find, slice_split}
 use Rattle.proto_core.specs.declared.link.Link.{Link}
 use Rattle.proto_core.specs.declared.link.Link.TheVariants.{Link12, Link13, Link21, Link23, Link31, Link32}
 use Rattle.proto_core.specs.Parties.{link_text}
 
--- the first of these whose text this line is
-abbrev pub one_of : List Link → List ℕ → Option Link
-one_of [] line = None
-one_of (l ∷ ls) line = if bytes_eq (link_text l) line then Some l else one_of ls line
-
+-- the link whose text this line is
 abbrev pub link_in : List ℕ → Option Link
-link_in line = one_of (Link12 ∷ Link13 ∷ Link21 ∷ Link23 ∷ Link31 ∷ Link32 ∷ []) line
+link_in line = find (λ l. bytes_eq (link_text l) line) (Link12 ∷ Link13 ∷ Link21 ∷ Link23 ∷ Link31 ∷ Link32 ∷ [])
 
--- the link of the line of this number, and those of the lines behind it
+-- the link of the line of this number, and those of the lines after it
 abbrev pub then_later : ℕ → Option Link → Result (List Link) ℕ → Result (List Link) ℕ
 then_later number None later = Err number
 then_later number (Some l) (Ok ls) = Ok (l ∷ ls)
 then_later number (Some l) (Err wrong) = Err wrong
 
--- behind the last newline nothing may stand
+-- after the last newline nothing may stand
 abbrev pub at_the_end : ℕ → List ℕ → Result (List Link) ℕ
 at_the_end number [] = Ok []
 at_the_end number (byte ∷ bytes) = Err number

@@ -1,4 +1,4 @@
--- The text of a schedule: a line for each link, with a newline behind it.
+-- The text of a schedule: a line for each link, with a newline after it.
 use Rattle.std.specs.Prelude.{ℕ, List, [], ◌∷◌, ◌++◌}
 use Rattle.proto_core.specs.declared.link.Link.{Link}
 use Rattle.proto_core.specs.Parties.{link_text}

@@ -7,7 +7,7 @@ use std::alloc::{AllocError, AllocFailed};
 /// Why a text is not read as a schedule.
 #[derive(Clone, Copy, Debug)]
 pub enum ReadErr {
-    /// The first line that is no link, or has no newline behind it; the first line of the text has number 1.
+    /// The first line that is no link, or has no newline after it; the first line of the text has number 1.
     BadEntry { line: u64 },
     /// There is no memory left.
     Memory,

@@ -8,7 +8,7 @@ use crate::read_err::ReadErr;
 use proto_core::Link;
 use std::alloc::Global;
 
-/// The link with which a text begins, with the newline behind it.
+/// The link with which a text begins, with the newline after it.
 fn first_link(text: &[u8]) -> Option<Link>
     ensures found { IfSome result (λ link. text.now ≡ link_text link ++ 10 ∷ drop 3 text.now) }
     ensures none { IfNone result ((link : Link) (rest : List ℕ) → text.now ≢ link_text link ++ 10 ∷ rest) }
@@ -19,10 +19,10 @@ fn first_link(text: &[u8]) -> Option<Link>
     Link::from_text(&text[..2])
 }
 
-/// Reads a schedule: a line for each link, as `23` for the link from the second miner to the third, with a newline behind each line. No
+/// Reads a schedule: a line for each link, as `23` for the link from the second miner to the third, with a newline after each line. No
 /// bytes are the schedule without an entry.
 ///
-/// `BadEntry` comes exactly where a line is no link or has no newline behind it, and names the first such line, if memory lasts until there.
+/// `BadEntry` comes exactly where a line is no link or has no newline after it, and names the first such line, if memory lasts until there.
 pub fn read(alloc: Global, bytes: &[u8]) -> Result<Vec<Link>, ReadErr>
     ensures { IsReadAs (links_of bytes.now) result }
 {

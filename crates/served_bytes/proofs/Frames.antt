@@ -1,12 +1,13 @@
 -- A miner that reads its bytes frame by frame comes to what the bytes lead to.
 use Rattle.std.proofs.Common.{◌≡◌, ℕ, List, [], ◌∷◌, ◌++◌, refl, sym, ◌∙◌, ap, subst}
+use Rattle.std.specs.Option.{option_map_or}
 use Rattle.std.specs.Prelude.{Option, Some, None}
 use Rattle.std.proofs.lemmas.List.{append_assoc}
 use Rattle.proto_core.specs.declared.link.Link.{Link}
 use Rattle.proto_core.specs.declared.refused.BadMessage.{BadMessage}
 use Rattle.proto_core.specs.Net.{nothing, added}
 use Rattle.proto_core.specs.Strand.{Shape, Act, Mail, Strand, Ends, Acts, Waits, run}
-use Rattle.proto_core.specs.Standing.{Standing, AtItsEnd, Awaits, Refuses, at_fault, before_mail, fault_of, standing_with, standing_of}
+use Rattle.proto_core.specs.Standing.{Standing, AtItsEnd, Awaits, Refuses, before_mail, fault_of, standing_with, standing_of}
 use Rattle.proto_core.proofs.Beginnings.{append-none}
 use Rattle.proto_core.proofs.Strands.{run-took, run-refused, run-added, followed}
 use Rattle.proto_core.proofs.Refusing.{IsStood, run_is_stood}
@@ -108,7 +109,8 @@ module _ (framed : List ℕ → Framed) {A : Type 0} (s : Strand A) (bytes : Com
       refuses : (cause : BadMessage) → fault_of n m ≡ Some cause → OnMessage framed s bytes mail with_it (with_rest l more rest) (standing_of (run s with_it))
       refuses cause is =
           let stands = on ∙ ap (followed (run s mail)) (run-refused l n k (only l m) m [] here (refused_by n m cause is)) in
-          let at : standing_of (run s with_it) ≡ Refuses l cause = ap standing_of stands ∙ ap (before_mail l n) here ∙ ap (at_fault l) is in
+          let at : standing_of (run s with_it) ≡ Refuses l cause =
+          ap standing_of stands ∙ ap (before_mail l n) here ∙ ap (λ o. option_map_or (Refuses l) o (Awaits l)) is in
           let goes = goes_at (Whole m more) e ∙ ap (λ f. received_first l m (refused_or l f (served framed (k m) (with_rest l more rest)))) is in
           subst (λ v. OnMessage framed s bytes mail with_it (with_rest l more rest) v) (sym at)
           (stops mail rest (AtRefusal l cause) h (received_first l m (stopped (AtRefusal l cause))) goes refl refl)

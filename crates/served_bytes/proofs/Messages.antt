@@ -1,11 +1,12 @@
 -- What a miner does with bytes is what it does with the messages that are read of them.
 use Rattle.std.proofs.Common.{◌≡◌, ℕ, Bool, true, false, if◌then◌else◌, List, [], ◌∷◌, refl, sym, ◌∙◌, ap, subst, is_none}
+use Rattle.std.specs.Option.{option_map_or}
 use Rattle.std.specs.Prelude.{Option, Some, None}
 use Rattle.proto_core.specs.declared.link.Link.{Link}
 use Rattle.proto_core.specs.declared.refused.BadMessage.{BadMessage}
 use Rattle.proto_core.specs.Net.{nothing}
 use Rattle.proto_core.specs.Strand.{Shape, Act, accepts, same_link, rest_of, Mail, Strand, Ends, Acts, Waits, taken, run}
-use Rattle.proto_core.specs.Standing.{at_fault, before_mail, fault_of, standing_of}
+use Rattle.proto_core.specs.Standing.{before_mail, fault_of, standing_of, Refuses, Awaits}
 use Rattle.proto_core.proofs.Strands.{same-link_is, same-link_self, run-none, run-took, run-refused, standing}
 use Rattle.proto_core.proofs.Refusing.{faultless_is_accepted}
 use Rattle.served_bytes.specs.Front.{Framed, Whole, Malformed, Truncated}
@@ -102,7 +103,7 @@ module _ (framed : List ℕ → Framed) {A : Type 0} where
         run-refused l n k (with_first l m nothing) m [] here no in
         record {
           acts = ap (λ x. x.acts) stands;
-          stop = ap standing_of stands ∙ ap (before_mail l n) here ∙ ap (at_fault l) e;
+          stop = ap standing_of stands ∙ ap (before_mail l n) here ∙ ap (λ o. option_map_or (Refuses l) o (Awaits l)) e;
         }
 
     by_frame : (bytes : Coming) → ((m rest : List ℕ) → IsNodeOf (k m) (served framed (k m) (with_rest l rest bytes))) → (f : Framed)

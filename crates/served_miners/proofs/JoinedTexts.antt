@@ -2,6 +2,7 @@
 use Rattle.std.proofs.Common.{◌≡◌, ℕ, ◌+◌, Bool, true, List, [], ◌∷◌, ◌++◌, length, map, refl, sym, ◌∙◌, ap, append_assoc}
 use Rattle.std.specs.Prelude.{◌==◌, ◌&&◌, bytes_eq, Option, Some, None, Result, Ok, if◌then◌else◌}
 use Rattle.std.specs.List.{flat_map}
+use Rattle.std.specs.Option.{option_or}
 use Rattle.std.proofs.lemmas.Bool.Decides.{Decides-eqb}
 use Rattle.std.proofs.lemmas.Slice.Eq.{bytes_eq-Decides}
 use Rattle.sc_text.specs.declared.end.End.{End}
@@ -25,7 +26,7 @@ use Rattle.miner_text.specs.declared.line.MinerLine.{MinerLine}
 use Rattle.miner_text.specs.declared.line.MinerLine.TheVariants as lines
 use Rattle.miner_text.proofs.Rounds.{read_again}
 use Rattle.node_run.specs.Told.{line_told, lines_told}
-use Rattle.trio.specs.Joining.{Joined, Difference, alike, differs, or_else, first_difference, joined_line, words_in}
+use Rattle.trio.specs.Joining.{Joined, Difference, alike, differs, first_difference, joined_line, words_in}
 use Rattle.trio.specs.Joining.{end_of, longer, in_front, unless, joined_from, joined_of}
 use Rattle.trio.specs.Answers.{named, text_in, and_then, or_difference, join_third, join_second}
 use Rattle.served_miners.specs.Texts.{TextsOfARunAreItsText}
@@ -38,7 +39,7 @@ bytes_same xs = (bytes_eq-Decides xs xs).1 refl
 no_difference : (k : ℕ) (l m n : MinerLine) → alike l m ≡ true → alike l n ≡ true → first_difference k l (Some m) (Some n) ≡ None
 no_difference k l m n e f =
     let shown : MinerLine → Difference = λ o. record { line = k; first = line_text l; second = line_text o } in
-    ap (λ b. or_else (if b then None else Some (shown m)) (differs k l (Some n))) e
+    ap (λ b. option_or (if b then None else Some (shown m)) (differs k l (Some n))) e
     ∙ ap (λ b. if b then None else Some (shown n)) f
 
 step : (k : ℕ) (l m n : MinerLine) (ls ms ns : List MinerLine) → alike l m ≡ true → alike l n ≡ true →

@@ -10,10 +10,10 @@ use Rattle.view_text.specs.Text.{Opened, lines_bytes}
 use Rattle.view_text.proofs.RunLines.{opened_line}
 use Rattle.view_text.proofs.StagesRead.{lines_append}
 use Rattle.view_reader.specs.Opened.{opened_bytes}
-use Rattle.tape_twin.specs.Views.{opening_then, openings}
+use Rattle.tape_twin.specs.Views.{openings}
 
 -- one event more
-openings_more : (es : List Event) (e : Event) → openings (es ++ e ∷ []) ≡ openings es ++ opening_then e []
+openings_more : (es : List Event) (e : Event) → openings (es ++ e ∷ []) ≡ openings es ++ openings (e ∷ [])
 openings_more [] e = refl
 openings_more (Open elements ∷ es) e = ap (λ (os : List (List Element)). elements ∷ os) (openings_more es e)
 openings_more (Publish text elements ∷ es) e = openings_more es e
@@ -27,7 +27,7 @@ one_line_more os elements =
     ∙ ap (λ (line : List ℕ). opened_bytes os ++ line) (opened_line elements)
 
 taken_more : (events : List Event) (k : ℕ) (d e : Event) → k < length events → e ≡ get_or events k d
-    → openings (take (k + 1) events) ≡ openings (take k events) ++ opening_then e []
+    → openings (take (k + 1) events) ≡ openings (take k events) ++ openings (e ∷ [])
 taken_more events k d e lt is =
     ap openings (take_more events k d lt ∙ ap (λ (x : Event). take k events ++ x ∷ []) (sym is)) ∙ openings_more (take k events) e
 
@@ -35,10 +35,10 @@ pub opening_told : (events : List Event) (k : ℕ) (d e : Event) (elements : Lis
     → opened_bytes (openings (take (k + 1) events))
     ≡ opened_bytes (openings (take k events)) ++ 111 ∷ 112 ∷ 101 ∷ 110 ∷ (elements_text elements ++ 10 ∷ [])
 opening_told events k d e elements lt is opens =
-    ap opened_bytes (taken_more events k d e lt is ∙ ap (λ (x : Event). openings (take k events) ++ opening_then x []) opens)
+    ap opened_bytes (taken_more events k d e lt is ∙ ap (λ (x : Event). openings (take k events) ++ openings (x ∷ [])) opens)
     ∙ one_line_more (openings (take k events)) elements
 
-pub none_told : (events : List Event) (k : ℕ) (d e : Event) → k < length events → e ≡ get_or events k d → opening_then e [] ≡ []
+pub none_told : (events : List Event) (k : ℕ) (d e : Event) → k < length events → e ≡ get_or events k d → openings (e ∷ []) ≡ []
     → opened_bytes (openings (take (k + 1) events)) ≡ opened_bytes (openings (take k events))
 none_told events k d e lt is none =
     ap opened_bytes

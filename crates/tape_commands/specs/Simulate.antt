@@ -48,18 +48,6 @@ IsSimulateStop refusal.Memory stop = stop ≡ stops.Memory
 
 -- ---- the view
 
-module _ (ask : SimulateAsk) (program : TypedProgramTree) (part : List PublicEntry) (opened : List ℕ) (tapes : FourTapes) where
-  -- why the run stops of one who is told these words
-  abbrev pub stop_told : RunStop
-  stop_told = (told_run program part opened (lengths_of tapes) ask.budget).stop
-
-  -- what a delivery comes to, by the gates of that run
-  abbrev pub net_simulated : Delivery → NetAnswer
-  net_simulated delivery = net_told ask.miner program part opened tapes ask.budget delivery
-
-  abbrev pub view_simulated : Delivery → Option View
-  view_simulated delivery = simulated ask.miner program part opened tapes ask.budget delivery
-
 -- a run that ended has a view
 abbrev pub view_at : (path : List ℕ) → Option View → List Written
 view_at path None = []
@@ -78,9 +66,23 @@ simulate_of found ask files = do
   opened ← opened_at files ask.opened
   tapes ← tape_file_at files ask.sim
   delivery ← delivery_at files ask.order
-  _ ← by_told (length opened) (stop_told ask program part opened tapes)
-  _ ← by_net (net_simulated ask program part opened tapes delivery)
-  Ok (simulate_effect ask (view_simulated ask program part opened tapes delivery))
+  _ ← by_told (length opened) (told_run program part opened (lengths_of tapes) ask.budget).stop
+  _ ← by_net (net_told ask.miner program part opened tapes ask.budget delivery)
+  Ok (simulate_effect ask (simulated ask.miner program part opened tapes ask.budget delivery))
+
+-- ---- what the simulator comes to, by names of its own
+
+module _ (ask : SimulateAsk) (program : TypedProgramTree) (part : List PublicEntry) (opened : List ℕ) (tapes : FourTapes) where
+  -- why the run stops of one who is told these words
+  abbrev pub stop_told : RunStop
+  stop_told = (told_run program part opened (lengths_of tapes) ask.budget).stop
+
+  -- what a delivery comes to, by the gates of that run
+  abbrev pub net_simulated : Delivery → NetAnswer
+  net_simulated delivery = net_told ask.miner program part opened tapes ask.budget delivery
+
+  abbrev pub view_simulated : Delivery → Option View
+  view_simulated delivery = simulated ask.miner program part opened tapes ask.budget delivery
 
 -- the paths that `simulate` reads, and that it writes
 unfoldable pub simulate_paths : SimulateAsk → List (List ℕ)

@@ -7,14 +7,14 @@ use Rattle.tape_file.specs.Format.{bytes_of, word_at, words_at, tape_bytes, tape
 use Rattle.tape_file.specs.Tapes.{FourTapes, lengths_of, AreShort, IsWord}
 use Rattle.tape_file.proofs.WordLists.{length-bytes_of, length-words_at, words_at-append, words_at-bytes_of, bytes_of-words_at}
 
--- the words behind the first n bytes, with those bytes, are the first m bytes
+-- the words after the first n bytes, with those bytes, are the first m bytes
 pub take-words_at : (n count m : ℕ) (bytes : List ℕ) → ((i : ℕ) → get_or bytes i 0 < 256) → m ≡ n + 8 * count → m ≤ length bytes
     → take n bytes ++ bytes_of (words_at n count bytes) ≡ take m bytes
 take-words_at n count m bytes small e h =
     let read = bytes_of-words_at n count bytes small (omega arith) in
     rw (read, e) (sym (take-add n (8 * count) bytes))
 
--- words that were written behind a front are read again
+-- words that were written after a front are read again
 pub read-part : (front words rest : List ℕ) (place : ℕ) → place ≡ length front → All IsWord words
     → words_at place (length words) (front ++ (bytes_of words ++ rest)) ≡ words
 read-part front words rest place e fits =
@@ -94,7 +94,7 @@ record Parts (tapes : FourTapes) (file : List ℕ) : Type 0 where
   three : words_at (32 + 8 * (length tapes.dealer + length tapes.one + length tapes.two)) (length tapes.three) file ≡ tapes.three
   size : length file ≡ 32 + 8 * (length tapes.dealer + length tapes.one + length tapes.two + length tapes.three)
 
--- five lists joined, cut behind the first, second, third and fourth
+-- five lists joined, cut after the first, second, third and fourth
 cut_one : (h d a b c : List ℕ) → (((h ++ d) ++ a) ++ b) ++ c ≡ [] ++ (h ++ (d ++ (a ++ (b ++ c))))
 cut_one h d a b c = simp append_assoc
 

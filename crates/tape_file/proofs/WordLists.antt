@@ -38,13 +38,13 @@ pub word_at-word_bytes : (word : ℕ) (rest : List ℕ) → word < 2 ^ 64 → wo
 unfolding word_at word_bytes
 word_at-word_bytes word rest h = ap (λ (n : ℕ). n % 2 ^ 64) (little_number-reads_back 8 word rest h) ∙ mod-eq_of_lt h
 
--- a place behind a front
+-- a place after a front
 pub word_at-append : (front rest : List ℕ) (place k : ℕ) → place ≡ length front + k → word_at place (front ++ rest) ≡ word_at k rest
 unfolding word_at
 word_at-append front rest place k e =
     ap (λ (p : ℕ). little_number 8 (drop p (front ++ rest)) % 2 ^ 64) e ∙ ap (λ (bs : List ℕ). little_number 8 bs % 2 ^ 64) (drop-append-add front rest k)
 
--- words behind a front
+-- words after a front
 pub words_at-append : (count : ℕ) (front rest : List ℕ) (place k : ℕ) → place ≡ length front + k → words_at place count (front ++ rest) ≡ words_at k count rest
 unfolding words_at
 words_at-append zero front rest place k e = refl
@@ -53,7 +53,7 @@ words_at-append (suc count) front rest place k e =
     let behind = words_at-append count front rest (place + 8) (k + 8) (omega arith) in
     rw (here, behind) refl
 
--- words are read again, whatever stands behind them
+-- words are read again, whatever stands after them
 pub words_at-bytes_of : (words rest : List ℕ) → All IsWord words → words_at 0 (length words) (bytes_of words ++ rest) ≡ words
 unfolding words_at
 words_at-bytes_of [] rest fits = refl
@@ -76,7 +76,7 @@ words_at-suc place (suc count) bytes =
     let e : place + 8 + 8 * count ≡ place + 8 * suc count = omega arith in
     ap (λ (ws : List ℕ). word_at place bytes ∷ ws) (ih ∙ ap (λ (p : ℕ). words_at (place + 8) count bytes ++ word_at p bytes ∷ []) e)
 
--- a word read behind those that were read
+-- a word read after those that were read
 pub words_at-more : (place count : ℕ) (bytes words : List ℕ) (word : ℕ) → words ≡ words_at place count bytes
     → word ≡ word_at (place + 8 * count) bytes → words ++ word ∷ [] ≡ words_at place (count + 1) bytes
 words_at-more place count bytes words word before here =

@@ -32,7 +32,7 @@ unfoldable pub words_at : ℕ → ℕ → List ℕ → List ℕ
 words_at place zero bytes = []
 words_at place (suc count) bytes = word_at place bytes ∷ words_at (place + 8) count bytes
 
--- the tapes of these lengths, which stand behind the lengths
+-- the tapes of these lengths, which stand after the lengths
 unfoldable pub tapes_at : ℕ → ℕ → ℕ → ℕ → List ℕ → FourTapes
 tapes_at dealer one two three bytes = record {
   dealer = words_at 32 dealer bytes;

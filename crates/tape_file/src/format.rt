@@ -54,7 +54,7 @@ fn fault(bytes: &[u8]) -> Option<u64>
     )
 }
 
-/// The tapes of these lengths, which stand behind the lengths in a file.
+/// The tapes of these lengths, which stand after the lengths in a file.
 #[tactic(auto, unfolding(crate::specs::Format::tapes_at))]
 fn tapes(
     alloc: Global,

@@ -45,7 +45,7 @@ pub(crate) fn words(
     Ok(words)
 }
 
-/// Writes words behind what a file has.
+/// Writes words after what a file has.
 pub(crate) fn push_words(file: &mut Vec<u8>, words: &[u64]) -> Result<(), AllocError>
     ensures bytes { OnOk result (file.new.items ≡ file.old.items ++ bytes_of words.now) }
     ensures words { OnOk result (All IsWord words.now) }

@@ -1,5 +1,6 @@
 -- Words that are drawn from a file that is read.
-use Rattle.std.proofs.Common.{◌≡◌, ◌≢◌, true≢false, ℕ, zero, suc, ◌+◌, ◌-◌, ◌*◌, ◌<◌, ◌≤◌, List, [], ◌∷◌, ◌++◌, length, set, Bool, true, false, ◌&&◌, Option, Some, None, IfSome, IsSomeAnd, refl, sym, ap, ap₂, ◌∙◌, arith}
+use Rattle.std.proofs.Common.{◌≡◌, ◌≢◌, true≢false, ℕ, zero, suc, ◌+◌, ◌-◌, ◌*◌, ◌<◌, ◌≤◌, List, [], ◌∷◌, ◌++◌, length, set, Bool, true, false, ◌&&◌, Option}
+use Rattle.std.proofs.Common.{Some, None, IfSome, IsSomeAnd, refl, sym, ap, ap₂, ◌∙◌, arith}
 use Rattle.std.specs.Prelude.{slice_index, nat_le, if◌then◌else◌}
 use Rattle.std.proofs.lemmas.Bool.{and_parts}
 use Rattle.std.proofs.lemmas.Bool.Decides.{nat_tests}
@@ -30,7 +31,7 @@ left_is state held path size next left party =
 told_stays : {a b : FilesState} (path : List ℕ) (size : ℕ) → OnlyRead a b → is_told b path size ≡ is_told a path size
 told_stays path size read = ap₂ (λ (t : Bool) (file : Option (List ℕ)). t && has_bytes file size) read.same.told (same_file path read)
 
--- the rest of the words, behind those that were drawn
+-- the rest of the words, after those that were drawn
 words_drawn : (file : Option (List ℕ)) (size from count : ℕ) (drawn : List ℕ) → IfSome file (λ all. drawn ≡ words_at from (length drawn) all)
     → length drawn ≤ count → has_bytes file size ≡ true → words_in file from count ≡ drawn ++ words_in file (from + 8 * length drawn) (count - length drawn)
 words_drawn None size from count drawn are le has = absurd (true≢false (sym has))

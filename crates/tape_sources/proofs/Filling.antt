@@ -1,5 +1,6 @@
 -- A slice that is filled from a file, part by part.
-use Rattle.std.proofs.Common.{◌≡◌, ℕ, ◌+◌, ◌*◌, ◌<◌, ◌≤◌, true, List, [], ◌++◌, length, take, drop, get_or, ◌^◌, Option, Some, None, IfSome, IsSomeAnd, refl, sym, ap, ◌∙◌, subst, arith}
+use Rattle.std.proofs.Common.{◌≡◌, ℕ, ◌+◌, ◌*◌, ◌<◌, ◌≤◌, true, List, [], ◌++◌, length, take, drop, get_or, ◌^◌, Option, Some, None, IfSome, IsSomeAnd, refl}
+use Rattle.std.proofs.Common.{sym, ap, ◌∙◌, subst, arith}
 use Rattle.std.proofs.Math.Seq.{take-add, take-append-add, take-length}
 use Rattle.std.proofs.lemmas.List.{drop-drop, length-drop, length-take, length-take-le, take-append-le}
 use Rattle.std.proofs.lemmas.Slice.{take-put_mid}
@@ -28,7 +29,7 @@ same_file path p = ap (λ files. file_at files path) p.same.contents
 front_and_more : (front more : List ℕ) (n k : ℕ) → length front ≡ n → take (n + k) (front ++ more) ≡ front ++ take k more
 front_and_more front more n k size = rw (← size) (take-append-add front more k)
 
--- bytes that were read behind those before
+-- bytes that were read after those before
 pub more_filled : (file : Option (List ℕ)) (from done k room : ℕ) (before part : List ℕ)
     → IfSome file (λ all. take done before ≡ take done (drop from all)) → BytesFrom file (from + done) (take k part)
     → done ≤ length before → k ≤ length part
@@ -102,7 +103,7 @@ words_filled (Some all) from n bytes words filled size long read fits =
     numbers_are_words from n all bytes words (filled ∙ ap (λ (m : ℕ). take m (drop from all)) size) long read fits
     ∙ ap (λ (m : ℕ). words_at from m all) (sym long)
 
--- words that were read behind those before
+-- words that were read after those before
 pub more_words : (file : Option (List ℕ)) (from done count room : ℕ) (before part : List ℕ) → IfSome file (λ all. take done before ≡ words_at from done all)
     → IfSome file (λ all. part ≡ words_at (from + 8 * done) (length part) all) → length part ≡ count → done ≤ length before
     → IfSome file (λ all. take (done + count) (put_mid done room before part) ≡ words_at from (done + count) all)

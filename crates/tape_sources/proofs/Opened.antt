@@ -1,5 +1,6 @@
 -- What the beginning of a tape file says of all of it.
-use Rattle.std.proofs.Common.{◌≡◌, ℕ, ◌+◌, ◌*◌, ◌<◌, ◌≤◌, List, length, get_or, Option, Some, None, Ok, Err, IfSome, IsSomeAnd, option_map, unwrap_or, refl, sym, ap, ◌∙◌, arith}
+use Rattle.std.proofs.Common.{◌≡◌, ℕ, ◌+◌, ◌*◌, ◌<◌, ◌≤◌, List, length, get_or, Option, Some, None, Ok, Err, IfSome, IsSomeAnd, option_map, unwrap_or, refl}
+use Rattle.std.proofs.Common.{sym, ap, ◌∙◌, arith}
 use Rattle.std.proofs.lemmas.Bool.{le-ltb, lt-ltb}
 use Rattle.tape_file.specs.Format.{word_at, words_at, tapes_at, fault_of, lengths_fault, read_of, IsSized, IsSound}
 use Rattle.tape_file.specs.Format.{own_fault_of, own_length_fault, read_own_of, IsOwnSound}

@@ -53,7 +53,7 @@ numbers_are_words from n all bytes words part long read fits =
     (λ i lt. number_there from n i (get_or words i 0) all bytes part (omega (arith, long, lt)) (read i lt) (fits i)
     ∙ sym (get_or-words_at from n i all (omega (arith, long, lt))))
 
--- words behind words that were read
+-- words after words that were read
 pub words_more : (from done count : ℕ) (all before now : List ℕ) → before ≡ words_at from done all → now ≡ words_at (from + 8 * done) count all
     → before ++ now ≡ words_at from (done + count) all
 words_more from done count all before now first then = rw (first, then) (sym (words_at-split from done count all))

@@ -17,7 +17,7 @@ use Rattle.trio.specs.inner.Moves.{Moved, Tried, Begun, Waited, waits_of}
 use Rattle.trio.proofs.Calls.{moved_more, steps_more, rose_later}
 use Rattle.trio.proofs.Judging.{fault_found, halt_fault}
 
--- ---- starts, one behind the other
+-- ---- starts, one after the other
 
 pub begun_is : {A : Type 0} {a c : SpawnerState} (words : Number → List (List ℕ)) (child : A → Number → ℕ) (r : Result A SpawnErr) (err : SpawnErr)
     → r ≡ Err err → Begun a c words child (Err err) → Begun a c words child r

@@ -4,7 +4,7 @@ use Rattle.std.specs.Prelude.{Option, Some, None, Result, Ok, Err}
 use Rattle.std.proofs.lemmas.List.{drop_more, drop_all}
 use Rattle.sc_text.specs.declared.end.End.{End}
 use Rattle.miner_text.specs.declared.line.MinerLine.{MinerLine}
-use Rattle.trio.specs.Joining.{Joined, Difference, first_difference, joined_line, words_in, next, rest, end_of}
+use Rattle.trio.specs.Joining.{Joined, Difference, first_difference, joined_line, words_in, next, end_of}
 use Rattle.trio.specs.Joining.{longer, in_front, unless, joined_from, joined_of}
 
 pub line_there : (ls : List MinerLine) (place : ℕ) (d : MinerLine) → place < length ls → Some (get_or ls place d) ≡ next (drop place ls)
@@ -13,13 +13,13 @@ line_there ls place d h = ap next (sym (drop_more ls place d h))
 pub no_line_there : (ls : List MinerLine) (place : ℕ) → length ls ≤ place → None ≡ next (drop place ls)
 no_line_there ls place h = ap next (sym (drop_all place ls h))
 
-rest_drop : (ls : List MinerLine) (place : ℕ) → rest (drop place ls) ≡ drop (suc place) ls
+rest_drop : (ls : List MinerLine) (place : ℕ) → drop 1 (drop place ls) ≡ drop (suc place) ls
 rest_drop [] zero = refl
 rest_drop [] (suc place) = refl
 rest_drop (l ∷ ls) zero = refl
 rest_drop (l ∷ ls) (suc place) = rest_drop ls place
 
-rest_behind : (ls : List MinerLine) (place : ℕ) → rest (drop place ls) ≡ drop (place + 1) ls
+rest_behind : (ls : List MinerLine) (place : ℕ) → drop 1 (drop place ls) ≡ drop (place + 1) ls
 rest_behind ls place = rest_drop ls place ∙ ap (λ k. drop k ls) (sym (add-one place))
 
 longer_more : (xs ys : List ℕ) (r : Result Joined Difference) → longer xs (longer ys r) ≡ longer (xs ++ ys) r
@@ -55,7 +55,7 @@ module _ (first second third : List MinerLine) (place : ℕ) (text : List ℕ) w
       e
       ∙ ap (λ ls. longer text (joined_from (place + 1) ls (drop place second) (drop place third))) (drop_more first place d lt)
       ∙ ap (λ ls. longer text (unless (first_difference (place + 1) l two three)
-      (in_front (end_of l) (line_of l) (joined_from (place + 1 + 1) (drop (place + 1) first) ls (rest (drop place third)))))) (rest_behind second place)
+      (in_front (end_of l) (line_of l) (joined_from (place + 1 + 1) (drop (place + 1) first) ls (drop 1 (drop place third)))))) (rest_behind second place)
       ∙ ap (λ ls. longer text (unless (first_difference (place + 1) l two three)
       (in_front (end_of l) (line_of l) (joined_from (place + 1 + 1) (drop (place + 1) first) (drop (place + 1) second) ls)))) (rest_behind third place)
 

@@ -1,5 +1,6 @@
 -- Three texts that are put together: their common lines, and of shares what they add up to.
-use Rattle.std.specs.Prelude.{ℕ, ◌+◌, Bool, false, ◌==◌, ◌&&◌, if◌then◌else◌, List, [], ◌∷◌, ◌++◌, length, map, bytes_eq}
+use Rattle.std.specs.Prelude.{ℕ, ◌+◌, Bool, false, ◌==◌, ◌&&◌, if◌then◌else◌, List, [], ◌∷◌, ◌++◌, length, map, drop, bytes_eq}
+use Rattle.std.specs.Option.{option_or}
 use Rattle.std.specs.Prelude.{Option, Some, None, Result, Ok, Err}
 use Rattle.sc_text.specs.declared.elements.Element.{Element}
 use Rattle.sc_text.specs.declared.end.End.{End}
@@ -33,18 +34,10 @@ same_form s t =
 abbrev pub same_text : MinerLine → MinerLine → Bool
 same_text l m = bytes_eq (line_text l) (line_text m)
 
-abbrev pub share_of : MinerLine → Option ResultShare
-share_of (lines.Share s) = Some s
-share_of l = None
-
 -- two shares by their form, other lines as a whole
-abbrev pub by_form : Option ResultShare → Option ResultShare → (whole : Bool) → Bool
-by_form (Some s) (Some t) whole = same_form s t
-by_form (Some s) None whole = whole
-by_form None t whole = whole
-
 abbrev pub alike : MinerLine → MinerLine → Bool
-alike l m = by_form (share_of l) (share_of m) (same_text l m)
+alike (lines.Share s) (lines.Share t) = same_form s t
+alike l m = same_text l m
 
 -- a line that isn't there is the empty text, and like no line
 abbrev pub line_shown : Option MinerLine → List ℕ
@@ -58,13 +51,9 @@ alike_there l (Some m) = alike l m
 abbrev pub differs : ℕ → MinerLine → Option MinerLine → Option Difference
 differs k l other = if alike_there l other then None else Some (record { line = k; first = line_text l; second = line_shown other })
 
-abbrev pub or_else : {A : Type 0} → Option A → Option A → Option A
-or_else (Some x) later = Some x
-or_else None later = later
-
 -- line k of the first text against that of the second, else of the third
 abbrev pub first_difference : ℕ → MinerLine → (second third : Option MinerLine) → Option Difference
-first_difference k l second third = or_else (differs k l second) (differs k l third)
+first_difference k l second third = option_or (differs k l second) (differs k l third)
 
 -- ---- what three lines are together
 
@@ -73,29 +62,18 @@ abbrev pub elements_added : ResultShare → (second third : List ℕ) → List E
 elements_added s second third = map (element_of s.element) (all_added_up (field_of s.element) s.words second third)
 
 -- a share is published as this value; another line stands as it is
-abbrev pub joined_share : Option ResultShare → (second third whole : List ℕ) → List ℕ
-joined_share (Some s) second third whole = event_line (Publish s.name (elements_added s second third))
-joined_share None second third whole = whole
-
 abbrev pub joined_line : MinerLine → (second third : List ℕ) → List ℕ
-joined_line l second third = joined_share (share_of l) second third (line_text l)
-
-abbrev pub words_of : Option ResultShare → List ℕ
-words_of (Some s) = s.words
-words_of None = []
+joined_line (lines.Share s) second third = event_line (Publish s.name (elements_added s second third))
+joined_line l second third = line_text l
 
 -- the words of a share; of another line, or of none, there are none
 abbrev pub words_in : Option MinerLine → List ℕ
-words_in (Some l) = words_of (share_of l)
-words_in None = []
+words_in (Some (lines.Share s)) = s.words
+words_in _ = []
 
 abbrev pub next : {A : Type 0} → List A → Option A
 next [] = None
 next (x ∷ xs) = Some x
-
-abbrev pub rest : {A : Type 0} → List A → List A
-rest [] = []
-rest (x ∷ xs) = xs
 
 -- the end, where a line tells it
 abbrev pub end_of : MinerLine → Option End
@@ -106,7 +84,7 @@ abbrev pub longer : List ℕ → Result Joined Difference → Result Joined Diff
 longer bytes (Ok j) = Ok (record { text = bytes ++ j.text; end = j.end })
 longer bytes (Err d) = Err d
 
--- a line in front of what is made of the lines behind it; behind the end nothing comes
+-- a line in front of what is made of the lines after it; after the end nothing comes
 abbrev pub in_front : Option End → List ℕ → Result Joined Difference → Result Joined Difference
 in_front (Some end) bytes more = Ok (record { text = bytes; end = end })
 in_front None bytes more = longer bytes more
@@ -120,7 +98,7 @@ abbrev pub joined_from : ℕ → (first second third : List MinerLine) → Resul
 joined_from k [] second third = Err (record { line = k; first = []; second = [] })
 joined_from k (l ∷ ls) second third =
     unless (first_difference k l (next second) (next third))
-    (in_front (end_of l) (joined_line l (words_in (next second)) (words_in (next third))) (joined_from (k + 1) ls (rest second) (rest third)))
+    (in_front (end_of l) (joined_line l (words_in (next second)) (words_in (next third))) (joined_from (k + 1) ls (drop 1 second) (drop 1 third)))
 
 abbrev pub joined_of : (first second third : List MinerLine) → Result Joined Difference
 joined_of first second third = joined_from 1 first second third

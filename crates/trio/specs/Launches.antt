@@ -10,7 +10,7 @@ use Rattle.trio.specs.Children.{fault_in, all_answers}
 use Rattle.trio.specs.declared.child_err.ChildErr.{ChildErr}
 use Rattle.trio.specs.declared.child_err.ChildErr.TheVariants as child_err
 
--- a start that failed behind these children; or three children, and what waiting for each has answered
+-- a start that failed after these children; or three children, and what waiting for each has answered
 pub data Launch : Type 0 where
   Halted : (begun : List ℕ) → SpawnErr → Launch
   Awaited : (child : Number → ℕ) → (answer : Number → Result ℤ SpawnErr) → Launch

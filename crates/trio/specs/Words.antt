@@ -4,7 +4,7 @@ use Rattle.std.specs.Fmt.{decimal}
 use Rattle.proto_core.specs.declared.party.Number.{Number}
 use Rattle.proto_core.specs.Parties.{number_text}
 
--- a miner's file: its kind and the miner's number stand behind the prefix
+-- a miner's file: its kind and the miner's number stand after the prefix
 abbrev pub path_of : (prefix kind : List ℕ) → Number → List ℕ
 path_of prefix kind i = prefix ++ (kind ++ number_text i)
 

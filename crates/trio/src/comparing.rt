@@ -1,20 +1,10 @@
 // Lines of two texts, compared.
 ghost use Rattle.std.specs.Prelude.{◌≡◌, IfOk, option_map};
-ghost use Rattle.trio.specs.Joining.{share_of, same_form, same_text, alike, differs, line_shown, first_difference};
+ghost use Rattle.trio.specs.Joining.{same_form, same_text, alike, differs, line_shown, first_difference};
 
 use crate::difference::Difference;
 use miner_text::{MinerLine, ResultShare, type_word};
 use std::alloc::{AllocError, Global};
-
-/// The share that a line is, if it is one.
-pub fn share_of(line: &MinerLine) -> Option<&ResultShare>
-    ensures { option_map (λ s. s.now) result ≡ share_of line.now }
-{
-    match line {
-        MinerLine::Share(share) => Some(share),
-        MinerLine::Told(_) | MinerLine::Ended(_) => None,
-    }
-}
 
 /// Whether two shares are of one value, as far as can be seen: alike in all but their words, of which there are as many.
 fn same_form(one: &ResultShare, other: &ResultShare) -> bool
@@ -37,12 +27,12 @@ fn same_text(alloc: Global, one: &MinerLine, other: &MinerLine) -> Result<bool, 
 fn alike(alloc: Global, one: &MinerLine, other: &MinerLine) -> Result<bool, AllocError>
     ensures { IfOk result (λ is_alike. is_alike ≡ alike one.now other.now) }
 {
-    match share_of(one) {
-        Some(share) => match share_of(other) {
-            Some(there) => Ok(same_form(share, there)),
-            None => same_text(alloc, one, other),
+    match one {
+        MinerLine::Share(share) => match other {
+            MinerLine::Share(there) => Ok(same_form(share, there)),
+            MinerLine::Told(_) | MinerLine::Ended(_) => same_text(alloc, one, other),
         },
-        None => same_text(alloc, one, other),
+        MinerLine::Told(_) | MinerLine::Ended(_) => same_text(alloc, one, other),
     }
 }
 

@@ -3,7 +3,7 @@ ghost use Rattle.std.specs.Prelude.{◌≡◌, ◌++◌, OnOk, IfOk, drop, optio
 ghost use Rattle.trio.specs.Joining.{elements_added, end_of, joined_line, next, words_in, joined_of};
 ghost use Rattle.trio.specs.Answers.{IsJoin};
 
-use crate::comparing::{first_difference, share_of};
+use crate::comparing::first_difference;
 use crate::difference::Difference;
 use crate::join_err::JoinErr;
 use crate::joined::Joined;
@@ -18,9 +18,9 @@ fn words_in(line: Option<&MinerLine>) -> &[u64]
     ensures { result.now ≡ words_in (option_map (λ l. l.now) line.entry) }
 {
     match line {
-        Some(line) => match share_of(line) {
-            Some(share) => share.words(),
-            None => &[],
+        Some(line) => match line {
+            MinerLine::Share(share) => share.words(),
+            MinerLine::Told(_) | MinerLine::Ended(_) => &[],
         },
         None => &[],
     }
@@ -39,7 +39,7 @@ fn elements_added(
     elements(alloc, share.element(), &words)
 }
 
-/// Puts the line behind those that are there which three miners make together: a share becomes the value that is published.
+/// Puts the line after those that are there which three miners make together: a share becomes the value that is published.
 fn push_joined(
     alloc: Global,
     text: &mut String,
@@ -49,7 +49,7 @@ fn push_joined(
 ) -> Result<(), AllocError>
     ensures { OnOk result (string_bytes text.new ≡ string_bytes text.old ++ joined_line line.now second.now third.now) }
 {
-    if let Some(share) = share_of(line) {
+    if let MinerLine::Share(share) = line {
         let name = share.name().copy(alloc)?;
         let elements = elements_added(alloc, share, second, third)?;
         let event = Event::Publish(name, elements);

@@ -50,7 +50,7 @@ fn start<C: Spawner>(
     children.start(alloc, &words)
 }
 
-/// Starts the three miners, one after another. None is started behind one that could not be.
+/// Starts the three miners, one after another. None is started after one that could not be.
 fn start_all<C: Spawner>(
     alloc: Global,
     job: &Job<'_>,

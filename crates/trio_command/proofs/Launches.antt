@@ -1,9 +1,11 @@
 -- Children that were started and waited for.
-use Rattle.std.proofs.Common.{◌≡◌, ◌<◌, ◌++◌, ◌⊎◌, ℕ, ℤ, List, [], ◌∷◌, Bool, true, false, Result, Ok, Err, if◌then◌else◌, length, arith, refl, ap, subst, sym, ◌∙◌}
+use Rattle.std.proofs.Common.{◌≡◌, ◌<◌, ◌++◌, ◌⊎◌, ℕ, ℤ, List, [], ◌∷◌, Bool, true, false, Result, Ok, Err, if◌then◌else◌, length, arith, refl, ap, subst, sym}
+use Rattle.std.proofs.Common.{◌∙◌}
 use Rattle.std.proofs.Common.{inl, inr}
 use Rattle.std.proofs.lemmas.Bool.{false≢true}
 use Rattle.std.proofs.lemmas.List.{append_cancel_left, append-nil}
-use Rattle.std.specs.Prelude.{◌||◌}
+use Rattle.std.specs.List.{filter}
+use Rattle.std.specs.Prelude.{◌||◌, map}
 use Rattle.outside.specs.Causes.{Rose}
 use Rattle.outside.specs.Spawner.{ChildCall, SpawnerState, awaited, started}
 use Rattle.outside.specs.declared.error.SpawnErr.{SpawnErr}
@@ -13,7 +15,7 @@ use Rattle.proto_core.specs.declared.party.Number.TheVariants.{One, Two, Three}
 use Rattle.trio.specs.Children.{all_answers, child_answer, fault_in, lacked_memory, unless_wrong}
 use Rattle.trio.specs.Launches.{Awaited, Halted, HasFault, IsTold, Launch, Launched, answer_to, calls_of, of_all, starts, wait_of}
 use Rattle.trio.specs.declared.child_err.ChildErr.TheVariants as child_err
-use Rattle.trio_command.specs.Launching.{AreRun, AreStarted, AreStatuses, MayLaunch}
+use Rattle.trio_command.specs.Launching.{AreRun, AreStarted, AreMinerCalls, AreStatuses, MayLaunch, MayLaunchBy}
 use Rattle.trio_command.specs.inner.Runs.{IsJudged}
 use Rattle.trio_command.proofs.Ended.{Judged}
 
@@ -202,8 +204,57 @@ module _ (words : Number → List (List ℕ)) where
             (append_cancel_left old.calls (calls_of words (Awaited child answer)) (three other more) (sym calls ∙ is)) i)
 
     -- whatever was started, there are statuses of it
-    pub statuses_of : MayLaunch words old new → old.told ≡ true → Statuses
+    pub statuses_of : MayLaunchBy words old new → old.told ≡ true → Statuses
     statuses_of (inl same) t = (any, none_started (ap (λ (s : SpawnerState). s.calls) same))
     statuses_of (inr (result, launched)) t =
         let came = launched.came t in
         by_launched came.launch came.calls (short_of old.status came.launch came.statuses)
+
+-- ---- which calls there are, without what was answered
+
+abbrev was_answered : Result ℤ SpawnErr → Bool
+was_answered (Ok status) = true
+was_answered (Err err) = false
+
+abbrev by_number : (a b c : Bool) → Number → Bool
+by_number a b c One = a
+by_number a b c Two = b
+by_number a b c Three = c
+
+answered_waits : (child : Number → ℕ) (a b c : Result ℤ SpawnErr)
+    → three_waits (wait_of (child One) a) (wait_of (child Two) b) (wait_of (child Three) c)
+    ≡ map (λ i. awaited (child i)) (filter (by_number (was_answered a) (was_answered b) (was_answered c)) (of_all (λ i. i)))
+answered_waits child (Ok x) (Ok y) (Ok z) = refl
+answered_waits child (Ok x) (Ok y) (Err err) = refl
+answered_waits child (Ok x) (Err err) (Ok z) = refl
+answered_waits child (Ok x) (Err err) (Err other) = refl
+answered_waits child (Err err) (Ok y) (Ok z) = refl
+answered_waits child (Err err) (Ok y) (Err other) = refl
+answered_waits child (Err err) (Err other) (Ok z) = refl
+answered_waits child (Err err) (Err other) (Err third) = refl
+
+miner_calls : (words : Number → List (List ℕ)) (launch : Launch) → AreMinerCalls words (calls_of words launch)
+miner_calls words (Halted begun err) = inl (begun, refl)
+miner_calls words (Awaited child answer) = inr (
+  child,
+  by_number (was_answered (answer One)) (was_answered (answer Two)) (was_answered (answer Three)),
+  ap (λ waits. starts (of_all words) (of_all child) ++ waits) (answered_waits child (answer One) (answer Two) (answer Three)),
+)
+
+pub may_launch : {words : Number → List (List ℕ)} {old new : SpawnerState} → MayLaunchBy words old new → MayLaunch words old new
+may_launch {old = old} (inl same) = record {
+  told = ap (λ (s : SpawnerState). s.told) same;
+  status = ap (λ (s : SpawnerState). s.status) same;
+  calls = λ t. ([], ap (λ (s : SpawnerState). s.calls) same ∙ sym (append-nil old.calls), inl ([], refl));
+  later = omega (arith, ap (λ (s : SpawnerState). s.faults) same);
+  steady = λ steady t. ap (λ (s : SpawnerState). s.faults) same;
+  still = λ steady. ap (λ (s : SpawnerState). s.steady) same ∙ steady;
+}
+may_launch {words = words} (inr (result, launched)) = record {
+  told = launched.told;
+  status = launched.status;
+  calls = λ t. let came = launched.came t in (calls_of words came.launch, came.calls, miner_calls words came.launch);
+  later = launched.later;
+  steady = λ steady t. (launched.steady steady t).1;
+  still = launched.still;
+}

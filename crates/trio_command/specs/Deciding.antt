@@ -15,7 +15,7 @@ use Rattle.command_frame.specs.Whole.{Paths, StopsAtFile}
 use Rattle.command_words.specs.Ask.{TrioAsk}
 use Rattle.program_commands.specs.Judging.{Finding, FoundAt, HasFinding, Tells, its_program}
 use Rattle.proto_core.specs.declared.party.Number.{Number}
-use Rattle.trio_command.specs.Launching.{AreStatuses, LaunchesBy, MayLaunch}
+use Rattle.trio_command.specs.Launching.{AreStatuses, LaunchesBy, MayLaunchBy}
 use Rattle.trio_command.specs.Trio.{prepared_of, prepared_paths, text_paths, trio_of, trio_paths, words_for}
 
 -- it reaches files and other programs, and stops at what a child did or a miner's text says
@@ -47,7 +47,7 @@ pub record TrioPlanned (ask : TrioAsk) (f f' : FilesState) (c c' : SpawnerState)
   -- the program has a judgement, unless memory or a file stopped the command
   pub found : f.told ≡ true → Tells f result → HasFinding (its_program ask.program) f.contents
   -- the miners that were started, and waited for
-  pub children : MayLaunch (words_for ask) c c'
+  pub children : MayLaunchBy (words_for ask) c c'
   pub launched :
       (found : Finding) → FoundAt (its_program ask.program) f.contents found → f.told ≡ true → c.told ≡ true
       → LaunchesBy (words_for ask) c c' result (prepared_of found ask f.contents)

@@ -1,5 +1,6 @@
 -- The children that `trio` starts.
-use Rattle.std.specs.Prelude.{◌≡◌, ◌⊎◌, ℕ, ℤ, List, ◌++◌, Result, Ok, Err}
+use Rattle.std.specs.Prelude.{◌≡◌, ◌≤◌, ◌⊎◌, ℕ, ℤ, List, ◌++◌, map, Bool, true, Result, Ok, Err}
+use Rattle.std.specs.List.{filter}
 use Rattle.outside.specs.Causes.{Rose}
 use Rattle.outside.specs.Spawner.{ChildCall, SpawnerState, awaited}
 use Rattle.proto_core.specs.declared.party.Number.{Number}
@@ -47,6 +48,23 @@ LaunchesBy words old new result (Ok (dealt writes)) = StartsBy words old new res
 LaunchesBy words old new result (Ok (undealt need have)) = new ≡ old
 LaunchesBy words old new result (Err cause) = new ≡ old
 
--- no child was started; or miners were, one after another
-abbrev pub MayLaunch : (words : Number → List (List ℕ)) → (old new : SpawnerState) → Type 0
-MayLaunch words old new = (new ≡ old) ⊎ ((result : Result (Unit {0}) ChildErr) × Launched old new words result)
+-- the calls where miners are started with these words: a start for each of the first of them, and then no more; or all three, and a wait for each of
+-- those that were answered
+abbrev pub AreMinerCalls : (words : Number → List (List ℕ)) → List ChildCall → Type 0
+AreMinerCalls words calls =
+    ((begun : List ℕ) × (calls ≡ starts (of_all words) begun))
+    ⊎ ((child : Number → ℕ) × (answered : Number → Bool)
+    × (calls ≡ starts (of_all words) (of_all child) ++ map (λ i. awaited (child i)) (filter answered (of_all (λ i. i)))))
+
+-- no child was started; or miners were, one after another, and nothing else was done with children
+pub record MayLaunch (words : Number → List (List ℕ)) (old new : SpawnerState) : Type 0 where
+  pub told : new.told ≡ old.told
+  pub status : new.status ≡ old.status
+  pub calls : old.told ≡ true → (added : List ChildCall) × (new.calls ≡ old.calls ++ added) × AreMinerCalls words added
+  pub later : old.faults ≤ new.faults
+  pub steady : old.steady ≡ true → old.told ≡ true → new.faults ≡ old.faults
+  pub still : old.steady ≡ true → new.steady ≡ true
+
+-- the same by what came of starting them
+abbrev pub MayLaunchBy : (words : Number → List (List ℕ)) → (old new : SpawnerState) → Type 0
+MayLaunchBy words old new = (new ≡ old) ⊎ ((result : Result (Unit {0}) ChildErr) × Launched old new words result)

@@ -10,7 +10,7 @@ use Rattle.value_file.specs.Input.{entries_after, ◌>>=◌}
 module _ {E : Type 0} (one : ℕ → List (List ℕ) → Data → Result E ReadErr) (name : E → List ℕ) where
   module _ (vs : List Value) (i : ℕ) (v : Value) (before : List E) (names : List (List ℕ))
       (here : i < length vs) (same : names ≡ map name before) (count : length before ≡ i) (at : v ≡ get_or vs i v) where
-    -- an entry is read, and then those behind it
+    -- an entry is read, and then those after it
     unrolled : entries_after one name before (items_view (drop i vs))
         ≡ (one i names (view v) >>= λ entry. entries_after one name (before ++ entry ∷ []) (items_view (drop (i + 1) vs)))
     unrolled = rw (drop_more vs i v here, ← at, count, same) refl
@@ -24,7 +24,7 @@ module _ {E : Type 0} (one : ℕ → List (List ℕ) → Data → Result E ReadE
     pub entries_after-refused : (refusal : ReadErr) → one i names (view v) ≡ Err refusal → entries_after one name before (items_view (drop i vs)) ≡ Err refusal
     entries_after-refused refusal bad = unrolled ∙ ap (λ r. r >>= λ entry. entries_after one name (before ++ entry ∷ []) (items_view (drop (i + 1) vs))) bad
 
-  -- behind the last entry
+  -- after the last entry
   pub entries_after-end : (vs : List Value) (i : ℕ) (before : List E) → length vs ≤ i → entries_after one name before (items_view (drop i vs)) ≡ Ok before
   entries_after-end vs i before past = rw (drop_all i vs past) refl
 

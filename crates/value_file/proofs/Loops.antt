@@ -32,7 +32,7 @@ module _ {A : Type 0} (one : Data → Option A) (vs : List Value) (i : ℕ) (bef
   pub all_in-none : (v : Value) → i < length vs → v ≡ get_or vs i v → one (view v) ≡ None → None ≡ whole
   all_in-none v here at bad = sym (same ∙ rw (drop_more vs i v here, ← at, bad) refl)
 
-  -- behind the last element
+  -- after the last element
   pub all_in-end : length vs ≤ i → Some before ≡ whole
   all_in-end past = sym (same ∙ rw (drop_all i vs past) (ap Some (append-nil before)))
 
@@ -48,7 +48,7 @@ pub built-more : {X Z : Type 0} (f : X → Z) (before after : List Z) (z : Z) (x
     before ≡ map f (take i xs) → after ≡ before ++ z ∷ [] → z ≡ f (get_or xs i x) → after ≡ map f (take (i + 1) xs)
 built-more f before after z xs i x here same joined one = rw (joined, same, one, map_more f xs i x here) refl
 
--- behind the last element all are built
+-- after the last element all are built
 pub built-all : {X Z : Type 0} (f : X → Z) (built : List Z) (xs : List X) (i : ℕ) → length xs ≤ i →
     built ≡ map f (take i xs) → built ≡ map f xs
 built-all f built xs i past same = same ∙ ap (map f) (take_all i xs past)

@@ -21,9 +21,9 @@ use Rattle.value_file.specs.declared.public.PublicEntry.{PublicEntry}
 use Rattle.value_file.specs.Json.{json_of, text_of}
 use Rattle.value_file.specs.Values.{type_of, count_of, size_of, all_in, number_in, value_of}
 use Rattle.value_file.specs.Public.{number_data, value_data, shape_data, type_data, entry_data, entry_data_of, part_data}
-use Rattle.value_file.specs.Input.{AreEntries, data_type_of, domain_of, new_name, entries_after, inputs_in}
-use Rattle.value_file.specs.PublicFile.{public_entry_of, public_name_of, public_elements_of, public_within_limit, public_count, read_public_of}
-use Rattle.value_file.specs.PublicFile.{shape_of_data, IsWritable}
+use Rattle.value_file.specs.Input.{AreEntries, data_type_of, domain_of, new_name, entries_after, inputs_in, within_limit}
+use Rattle.value_file.specs.PublicFile.{public_entry_of, public_name_of, public_elements_of, public_count, read_public_of}
+use Rattle.value_file.specs.PublicFile.{shape_from, IsWritable}
 
 -- the elements of an array
 pub all_in-map : {A : Type 0} (one : Data → Option A) (f : A → Data) → ((x : A) → one (f x) ≡ Some x) → (xs : List A)
@@ -37,7 +37,7 @@ value_of-data (Truth b) = refl
 value_of-data (Numbers ns) = rw (all_in-map number_in number_data (λ n. refl) ns) refl
 value_of-data (Truths bs) = rw (all_in-map as_bool boolean (λ b. refl) bs) refl
 
-pub shape_of-data : (s : Shape) → shape_of_data (shape_data s) ≡ Some s
+pub shape_of-data : (s : Shape) → shape_from (as_str (shape_data s)) (shape_data s) ≡ Some s
 shape_of-data shape.Scalar = refl
 shape_of-data (shape.Array count) = refl
 
@@ -49,11 +49,11 @@ type_of-data data_type.Bool = refl
 -- an entry
 entry_of-data : (place : ℕ) (earlier : List (List ℕ)) (name : List ℕ) (v : PublicValue) → new_name earlier name ≡ Some name → public_count v ≤ 65536
     → public_entry_of place earlier (entry_data_of name v) ≡ Ok (record { name = name; value = v })
-unfolding public_entry_of public_within_limit domain_of
+unfolding public_entry_of within_limit domain_of
 entry_of-data place earlier name (Known v) fresh short = rw (fresh, type_of-data (type_of v), value_of-data v, le-ltb 65536 (count_of v) short) refl
 entry_of-data place earlier name (Hidden kind s) fresh short = rw (fresh, type_of-data kind, shape_of-data s, le-ltb 65536 (size_of s) short) refl
 
--- the entries behind those that were read before
+-- the entries after those that were read before
 entries_after-data : (before es : List PublicEntry) → AreEntries public_name_of public_elements_of before es
     → entries_after public_entry_of public_name_of before (items_of (map entry_data es)) ≡ Ok (before ++ es)
 entries_after-data before [] good = ap Ok (sym (append-nil before))

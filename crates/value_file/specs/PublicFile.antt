@@ -1,5 +1,6 @@
 -- The form of a public file, over the data of its text.
-use Rattle.std.specs.Prelude.{ℕ, List, [], codes, nat_lt, if◌then◌else◌, Option, Some, None, option_map, option_and_then, Result, Ok, Err}
+use Rattle.std.specs.Prelude.{ℕ, List, [], codes, if◌then◌else◌, Option, Some, None, option_map, option_and_then, Result, Ok, Err}
+use Rattle.std.specs.Option.{ok_or}
 use Rattle.std.specs.Str.{bytes_eq}
 use Rattle.serde_json.specs.Data.{Data}
 use Rattle.serde_json.specs.Find as find
@@ -13,21 +14,18 @@ use Rattle.value_file.specs.declared.public.PublicValue.TheVariants.{Known, Hidd
 use Rattle.value_file.specs.declared.public.PublicEntry.{PublicEntry}
 use Rattle.value_file.specs.declared.read_err.Field.TheVariants as field
 use Rattle.value_file.specs.declared.read_err.ReadErr.{ReadErr}
-use Rattle.value_file.specs.declared.read_err.ReadErr.TheVariants.{Syntax, TooLong}
+use Rattle.value_file.specs.declared.read_err.ReadErr.TheVariants.{Syntax}
 use Rattle.value_file.specs.Json.{json_of}
 use Rattle.value_file.specs.Values.{count_of, number_in, size_of}
-use Rattle.value_file.specs.Input.{AreEntries, ◌>>=◌, found_or, field_or, head_of, value_in, inputs_in}
+use Rattle.value_file.specs.Input.{AreEntries, ◌>>=◌, field_or, head_of, value_in, inputs_in, within_limit}
 
 -- a text has to be the word `scalar`, and else stands the count of the elements
 abbrev pub shape_from : Option (List ℕ) → Data → Option Shape
 shape_from (Some word) d = if bytes_eq word (codes "scalar") then Some shape.Scalar else None
 shape_from None d = option_map shape.Array (number_in d)
 
-abbrev pub shape_of_data : Data → Option Shape
-shape_of_data d = shape_from (find.as_str d) d
-
 abbrev pub shape_in : Data → Option Shape
-shape_in d = option_and_then shape_of_data (find.get (codes "shape") d)
+shape_in d = option_and_then (λ shape. shape_from (find.as_str shape) shape) (find.get (codes "shape") d)
 
 -- a public entry has its value, a private one its shape
 abbrev pub public_value_of : ℕ → Domain → DataType → Data → Result PublicValue ReadErr
@@ -39,26 +37,22 @@ abbrev pub public_count : PublicValue → ℕ
 public_count (Known value) = count_of value
 public_count (Hidden kind shape) = size_of shape
 
--- an entry has at most 65,536 elements
-unfoldable pub public_within_limit : ℕ → PublicEntry → Result PublicEntry ReadErr
-public_within_limit place entry = if nat_lt 65536 (public_count entry.value) then Err (TooLong place) else Ok entry
+abbrev pub public_elements_of : PublicEntry → ℕ
+public_elements_of entry = public_count entry.value
 
--- the entry at this place, behind entries of these names
+-- the entry at this place, after entries of these names
 unfoldable pub public_entry_of : ℕ → List (List ℕ) → Data → Result PublicEntry ReadErr
 public_entry_of place earlier d = do
   head ← head_of place earlier d
   value ← public_value_of place head.domain head.data_type d
-  public_within_limit place (record { name = head.name; value = value })
+  within_limit public_elements_of place (record { name = head.name; value = value })
 
 abbrev pub public_name_of : PublicEntry → List ℕ
 public_name_of entry = entry.name
 
 -- the public part that a file has
 unfoldable pub read_public_of : List ℕ → Result (List PublicEntry) ReadErr
-read_public_of bytes = found_or Syntax (json_of bytes) >>= inputs_in public_entry_of public_name_of
-
-abbrev pub public_elements_of : PublicEntry → ℕ
-public_elements_of entry = public_count entry.value
+read_public_of bytes = ok_or (json_of bytes) Syntax >>= inputs_in public_entry_of public_name_of
 
 -- a public part that may stand in a file
 abbrev pub IsWritable : List PublicEntry → Type 0

@@ -16,13 +16,6 @@ type_of (Truth b) = data_type.Bool
 type_of (Numbers ns) = data_type.Uint64
 type_of (Truths bs) = data_type.Bool
 
--- the count of a value's elements; a scalar is one
-abbrev pub count_of : Value → ℕ
-count_of (Number n) = 1
-count_of (Truth b) = 1
-count_of (Numbers ns) = length ns
-count_of (Truths bs) = length bs
-
 -- a scalar, or an array of so many elements
 abbrev pub shape_of : Value → Shape
 shape_of (Number n) = shape.Scalar
@@ -34,6 +27,10 @@ shape_of (Truths bs) = shape.Array (length bs)
 abbrev pub size_of : Shape → ℕ
 size_of shape.Scalar = 1
 size_of (shape.Array count) = count
+
+-- the count of a value's elements; a scalar is one
+abbrev pub count_of : Value → ℕ
+count_of value = size_of (shape_of value)
 
 -- a number below 2^64, without a point, an exponent or a sign
 abbrev pub number_in : Data → Option ℕ

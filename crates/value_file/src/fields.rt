@@ -1,9 +1,10 @@
 // The fields of an entry.
-ghost use Rattle.std.specs.Prelude.{◌≡◌, ◌++◌, ◌∷◌, [], Some, codes, not, map, IfOk, IfSome, IsTrue};
+ghost use Rattle.std.specs.Prelude.{◌≡◌, ◌++◌, ◌∷◌, [], Some, codes, not, map, option_and_then, IfOk, IfSome, IsTrue};
 ghost use Rattle.std.specs.List.{list_any};
 ghost use Rattle.std.specs.Str.{bytes_eq};
 ghost use Rattle.serde_json.specs.View.{view};
-ghost use Rattle.value_file.specs.Input.{name_in, new_name, domain_in, data_type_in, head_of, value_in};
+ghost use Rattle.value_file.specs.Json.{text_in};
+ghost use Rattle.value_file.specs.Input.{name_in, new_name, domain_of, data_type_of, head_of, value_in};
 ghost use Rattle.value_file.specs.Reads.{Reads};
 ghost use Rattle.value_file.specs.declared.read_err.ReadErr.TheVariants.{BadField};
 
@@ -66,7 +67,7 @@ fn name<'v>(
 /// The domain of an entry, if it is good.
 #[tactic(auto, unfolding(crate::specs::Input::domain_of))]
 fn domain(json: &Json) -> Option<Domain>
-    ensures { result ≡ domain_in (view json.now) }
+    ensures { result ≡ option_and_then domain_of (text_in (codes "domain") (view json.now)) }
 {
     match text_field(json, "domain")? {
         "public" => Some(Domain::Public),
@@ -78,7 +79,7 @@ fn domain(json: &Json) -> Option<Domain>
 /// The data type of an entry, if it is good.
 #[tactic(auto, unfolding(crate::specs::Input::data_type_of))]
 fn data_type(json: &Json) -> Option<DataType>
-    ensures { result ≡ data_type_in (view json.now) }
+    ensures { result ≡ option_and_then data_type_of (text_in (codes "type") (view json.now)) }
 {
     match text_field(json, "type")? {
         "uint64" => Some(DataType::Uint64),

@@ -1,9 +1,10 @@
 // A public file.
 ghost use Rattle.std.specs.Prelude.{◌≡◌, ◌++◌, ◌∷◌, [], map, IfOk, OnOk};
 ghost use Rattle.serde_json.specs.View.{view, items_view};
+ghost use Rattle.serde_json.specs.Find.{as_str};
 ghost use Rattle.value_file.specs.Input.{IsEntry, entries_after};
 ghost use Rattle.value_file.specs.PublicFile.{IsWritable, public_count, public_entry_of, public_name_of, public_value_of, read_public_of, shape_in};
-ghost use Rattle.value_file.specs.PublicFile.{shape_of_data};
+ghost use Rattle.value_file.specs.PublicFile.{shape_from};
 ghost use Rattle.value_file.specs.Reads.{Reads};
 
 use crate::fields::{EntryHead, MAX_ELEMENTS, bad, entry_head, value_field};
@@ -16,7 +17,7 @@ use serde_json::Value as Json;
 use std::alloc::{AllocError, Global};
 
 fn shape(json: &Json) -> Option<Shape>
-    ensures { result ≡ shape_of_data (view json.now) }
+    ensures { result ≡ shape_from (as_str (view json.now)) (view json.now) }
 {
     match json.as_str() {
         Some("scalar") => Some(Shape::Scalar),
@@ -55,7 +56,7 @@ fn public_value(
 }
 
 /// The entry at this place, whose name is remembered.
-#[tactic(auto, unfolding(crate::specs::PublicFile::public_entry_of, crate::specs::PublicFile::public_within_limit))]
+#[tactic(auto, unfolding(crate::specs::PublicFile::public_entry_of, crate::specs::Input::within_limit))]
 fn entry<'v>(
     alloc: Global,
     place: u64,

@@ -3,8 +3,8 @@ use Rattle.std.proofs.Common.{◌≡◌, ℕ, ◌<◌, List, [], ◌∷◌, ◌+
 use Rattle.std.specs.Prelude.{Option, Some, None, get_or}
 use Rattle.std.specs.Borrow.{Bor}
 use Rattle.std.proofs.lemmas.List.{take_more, drop_more, take-append-drop, map-append}
-use Rattle.view_text.proofs.Found.{nothing_found}
-use Rattle.view_text.specs.Reading.{both, all_in}
+use Rattle.view_text.proofs.Found.{both, nothing_found}
+use Rattle.view_text.specs.Reading.{all_in}
 
 module _ {A : Type 0} (one : List ℕ → Option A) where
   pub all_more : (ws : List (List ℕ)) (xs : List A) (w : List ℕ) (x : A) → all_in one ws ≡ Some xs → one w ≡ Some x →

@@ -2,6 +2,7 @@
 use Rattle.std.proofs.Common.{◌≡◌, ℕ, ◌+◌, List, [], ◌∷◌, ◌++◌, map, refl, sym, ◌∙◌, ap, subst}
 use Rattle.std.specs.Prelude.{Option, Some, None, option_map, Result, Ok, Err, codes, bytes_eq}
 use Rattle.std.specs.List.{join_with_byte}
+use Rattle.std.specs.Result.{result_map_both}
 use Rattle.std.proofs.lemmas.List.Splits.{join_with_byte-slice_split}
 use Rattle.std.proofs.lemmas.Slice.Eq.{bytes_eq-Decides}
 use Rattle.sc_text.specs.declared.elements.Element.{Element}
@@ -15,7 +16,7 @@ use Rattle.view_text.proofs.LinesRead.{line_read}
 use Rattle.view_text.proofs.Rounds.{line_is_cut, good_opened}
 use Rattle.view_text.proofs.Walked.{line_text, lines_cut, spaced_is, lines_joined}
 use Rattle.proto_core.proofs.Beginnings.{append-none}
-use Rattle.view_reader.specs.Opened.{opened_bytes, opened_words, opening_in, in_front, openings_from, openings_of, words_read, opened_of}
+use Rattle.view_reader.specs.Opened.{opened_bytes, opened_words, opening_in, in_front, openings_from, openings_of, opened_of}
 
 same_line : (es : List Element) (o : Option (List Element)) → option_map Opened o ≡ Some (Opened es) → o ≡ Some es
 same_line es None e = cc
@@ -47,7 +48,7 @@ read_again os h =
     ∙ lines_back 1 os h
 
 pub words_again : (os : List (List Element)) → AreOpened os → opened_of (opened_bytes os) ≡ Ok (opened_words os)
-words_again os h = ap words_read (read_again os h)
+words_again os h = ap (result_map_both opened_words (λ line. line)) (read_again os h)
 
 -- ---- what is read was written
 

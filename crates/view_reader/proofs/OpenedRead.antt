@@ -2,20 +2,21 @@
 use Rattle.std.proofs.Common.{◌≡◌, ℕ, ◌<◌, ◌+◌, List, [], ◌∷◌, ◌++◌, map, drop, length, refl, sym, ◌∙◌, ap, arith}
 use Rattle.std.specs.Prelude.{Option, Some, None, option_map, Result, Ok, Err, get_or}
 use Rattle.std.specs.Borrow.{Bor}
+use Rattle.std.specs.Result.{result_map_both}
 use Rattle.std.proofs.lemmas.List.{drop_more, append_assoc, drop_all}
 use Rattle.proto_core.proofs.Beginnings.{append-none}
 use Rattle.sc_text.specs.declared.elements.Element.{Element}
 use Rattle.view_text.specs.Reading.{words_in_line, lines_in}
 use Rattle.view_text.proofs.Found.{nothing_found, same_found}
 use Rattle.view_reader.specs.Opened.{element_word, opened_words, opening_in, in_front}
-use Rattle.view_reader.specs.Opened.{at_the_end, openings_from, openings_of, words_read, opened_of}
+use Rattle.view_reader.specs.Opened.{at_the_end, openings_from, openings_of, opened_of}
 
--- words that were read, and those that come behind them
+-- words that were read, and those that come after them
 abbrev pub behind : List ℕ → Result (List (List Element)) ℕ → Result (List ℕ) ℕ
 behind words (Ok openings) = Ok (words ++ opened_words openings)
 behind words (Err line) = Err line
 
--- the words with those of an opening behind them
+-- the words with those of an opening after them
 abbrev pub with_opening : List ℕ → Option (List Element) → Option (List ℕ)
 with_opening words opening = option_map (λ elements. words ++ map element_word elements) opening
 
@@ -26,7 +27,7 @@ first_line : (k : ℕ) (l : List ℕ) (ls : List (List ℕ)) (rest : List ℕ) �
 first_line k l [] rest = refl
 first_line k l (m ∷ ms) rest = refl
 
-behind_none : (r : Result (List (List Element)) ℕ) → words_read r ≡ behind [] r
+behind_none : (r : Result (List (List Element)) ℕ) → result_map_both opened_words (λ line. line) r ≡ behind [] r
 behind_none (Ok openings) = refl
 behind_none (Err line) = refl
 
@@ -43,7 +44,7 @@ front_wrong : (words : List ℕ) (k : ℕ) (o : Option (List Element)) (r : Resu
 front_wrong words k None r e = refl
 front_wrong words k (Some opening) r e = nothing_found (words ++ map element_word opening) e
 
--- what is left of the lines from number i on, and what stands behind the last newline
+-- what is left of the lines from number i on, and what stands after the last newline
 abbrev pub left_from : ℕ → List (Bor (List ℕ)) → List ℕ → List (List ℕ)
 left_from i lines rest = map (λ line. line.now) (drop i lines) ++ rest ∷ []
 
@@ -64,7 +65,7 @@ begun bytes parts lines rest e h =
 
 pub no_parts : (bytes : List ℕ) (parts : List (Bor (List ℕ))) → map (λ line. line.now) parts ≡ lines_in bytes → length parts ≡ 0 → opened_of bytes ≡ Err 1
 unfolding openings_of
-no_parts bytes [] e h = ap (λ ls. words_read (openings_from 1 ls)) (sym e)
+no_parts bytes [] e h = ap (λ ls. result_map_both opened_words (λ line. line) (openings_from 1 ls)) (sym e)
 no_parts bytes (p ∷ ps) e h = absurd (omega (arith, h))
 
 pub line_read : (bytes words more : List ℕ) (lines : List (Bor (List ℕ))) (i : ℕ) (d : Bor (List ℕ)) (rest : List ℕ) → i < length lines →

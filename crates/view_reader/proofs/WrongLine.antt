@@ -67,7 +67,7 @@ walk k p (m ∷ ms) n h = by_line (opening_in (words_in_line p)) refl h (λ e. w
     by_line (Some es) e h more =
         stops_behind k n p (m ∷ ms) es (line_of p es e) (more (behind_wrong k n es (openings_from (k + 1) (m ∷ ms)) h))
 
--- ---- the text behind them
+-- ---- the text after them
 
 same_first : {A : Type 0} (x y : A) (xs ys : List A) → x ∷ xs ≡ y ∷ ys → x ≡ y
 same_first x y xs ys e = cc

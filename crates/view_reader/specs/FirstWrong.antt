@@ -4,7 +4,7 @@ use Rattle.sc_text.specs.declared.elements.Element.{Element}
 use Rattle.view_text.specs.View.{AreElements, AreOpened}
 use Rattle.view_reader.specs.Opened.{opened_bytes}
 
--- openings stand before it, and behind them is something that begins with no line of an opening
+-- openings stand before it, and after them is something that begins with no line of an opening
 pub record IsFirstWrong (bytes : List ℕ) (number : ℕ) : Type 0 where
   pub before : List (List Element)
   pub rest : List ℕ

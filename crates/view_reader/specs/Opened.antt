@@ -1,6 +1,7 @@
 -- The file of opened values: a line for each opening, the word `open` and then the elements, each line with its newline.
 use Rattle.std.specs.Prelude.{ℕ, ◌+◌, true, false, if◌then◌else◌, List, [], ◌∷◌, map, codes, bytes_eq, Option, Some, None, Result, Ok, Err}
 use Rattle.std.specs.List.{flat_map}
+use Rattle.std.specs.Result.{result_map_both}
 use Rattle.sc_text.specs.declared.elements.Element.{Element}
 use Rattle.sc_text.specs.declared.elements.Element.TheVariants.{Word, Truth}
 use Rattle.view_text.specs.Text.{Opened, lines_bytes}
@@ -25,13 +26,13 @@ abbrev pub opening_in : List (List ℕ) → Option (List Element)
 opening_in [] = None
 opening_in (w ∷ ws) = if bytes_eq (codes "open") w then all_in element_in ws else None
 
--- a line in front of what is read of the lines behind it, or its number where it is wrong
+-- a line in front of what is read of the lines after it, or its number where it is wrong
 abbrev pub in_front : ℕ → Option (List Element) → Result (List (List Element)) ℕ → Result (List (List Element)) ℕ
 in_front k None more = Err k
 in_front k (Some opening) (Ok openings) = Ok (opening ∷ openings)
 in_front k (Some opening) (Err line) = Err line
 
--- behind the last newline nothing may stand
+-- after the last newline nothing may stand
 abbrev pub at_the_end : ℕ → List ℕ → Result (List (List Element)) ℕ
 at_the_end k [] = Ok []
 at_the_end k (x ∷ xs) = Err k
@@ -47,9 +48,5 @@ unfoldable pub openings_of : List ℕ → Result (List (List Element)) ℕ
 openings_of bytes = openings_from 1 (lines_in bytes)
 
 -- their words
-abbrev pub words_read : Result (List (List Element)) ℕ → Result (List ℕ) ℕ
-words_read (Ok openings) = Ok (opened_words openings)
-words_read (Err line) = Err line
-
 abbrev pub opened_of : List ℕ → Result (List ℕ) ℕ
-opened_of bytes = words_read (openings_of bytes)
+opened_of bytes = result_map_both opened_words (λ line. line) (openings_of bytes)

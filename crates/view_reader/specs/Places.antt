@@ -43,7 +43,7 @@ before_end (Messages i) = Some i
 before_end (Openings i) = Some i
 before_end _ = None
 
--- the stage behind a line, where the line could come
+-- the stage after a line, where the line could come
 abbrev pub taken : Bool → Stage → Option Stage
 taken true stage = Some stage
 taken false stage = None

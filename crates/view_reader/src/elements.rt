@@ -49,7 +49,7 @@ fn element_word(element: Element) -> u64
     }
 }
 
-/// Puts the words of elements behind those that are there.
+/// Puts the words of elements after those that are there.
 pub fn push_words(words: &mut Vec<u64>, elements: &[Element]) -> Result<(), AllocError>
     ensures { OnOk result (words.new.items ≡ words.old.items ++ map element_word elements.now) }
 {

@@ -9,7 +9,7 @@ use crate::words::{is_word, word_in};
 use sc_text::{End, Ending};
 use std::alloc::{AllocError, Global};
 
-/// A word and the text of a number behind it, as in `cost 7`.
+/// A word and the text of a number after it, as in `cost 7`.
 #[derive(Clone, Copy)]
 struct Field<'a> {
     name: &'a [u8],

@@ -1,6 +1,7 @@
 // Words that are one of a few.
 ghost use Rattle.std.specs.Prelude.{◌≡◌};
-ghost use Rattle.view_text.specs.Reading.{miner_in, link_in, trap_in, owner_in};
+ghost use Rattle.sc_text.specs.End.{trap_word, owner_digit};
+ghost use Rattle.view_text.specs.Reading.{miner_in, link_in, one_of, traps, owners_of_tapes};
 
 use crate::words::is_word;
 use proto_core::{Link, Number};
@@ -31,7 +32,7 @@ pub fn link_in(word: &[u8]) -> Option<Link>
 /// The trap of which this is the word.
 #[tactic(auto, unfolding(sc_text::specs::End::trap_word))]
 pub fn trap_in(word: &[u8]) -> Option<TrapKind>
-    ensures { result ≡ trap_in word.now }
+    ensures { result ≡ one_of trap_word traps word.now }
 {
     if is_word(word, "Length") {
         Some(TrapKind::Length)
@@ -55,7 +56,7 @@ pub fn trap_in(word: &[u8]) -> Option<TrapKind>
 /// The tape's owner of which this is the digit.
 #[tactic(auto, unfolding(sc_text::specs::End::owner_digit))]
 pub fn owner_in(word: &[u8]) -> Option<TapeOwner>
-    ensures { result ≡ owner_in word.now }
+    ensures { result ≡ one_of owner_digit owners_of_tapes word.now }
 {
     if is_word(word, "0") {
         Some(TapeOwner::Dealer)

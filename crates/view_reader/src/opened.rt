@@ -10,7 +10,7 @@ use crate::read_err::ReadErr;
 use crate::words::is_word;
 use std::alloc::{AllocError, Global};
 
-/// Puts the words of an opening behind those that are there, or answers that the line is none.
+/// Puts the words of an opening after those that are there, or answers that the line is none.
 fn push_opening(alloc: Global, line: &[u8], opened: &mut Vec<u64>) -> Result<bool, AllocError>
     ensures { IfOk result (λ is_one. (if is_one then Some opened.new.items else None)
         ≡ option_map (λ opening. opened.old.items ++ map element_word opening) (opening_in (words_in_line line.now))) }
@@ -30,7 +30,7 @@ fn push_opening(alloc: Global, line: &[u8], opened: &mut Vec<u64>) -> Result<boo
 }
 
 /// Reads a file of opened values: lines of `open` and then the elements, each a number below 2^64 in decimal without
-/// leading zeros, `true` or `false`, with one space before it and a newline behind each line. The answer has the words in
+/// leading zeros, `true` or `false`, with one space before it and a newline after each line. The answer has the words in
 /// order, for a truth value 1 or 0.
 ///
 /// `BadView` names the first line that is no such line or has no newline, counted from 1.

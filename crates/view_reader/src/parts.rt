@@ -1,4 +1,4 @@
-// The lines of a view, from the words behind their first.
+// The lines of a view, from the words after their first.
 ghost use Rattle.std.specs.Prelude.{◌≡◌, map, IfOk, option_map};
 ghost use Rattle.view_text.specs.Text.{Heading, Input, Got, Opened, Ended};
 ghost use Rattle.view_text.specs.Reading.{heading_in, input_in, got_in};

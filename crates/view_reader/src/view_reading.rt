@@ -12,8 +12,8 @@ use view_text::View;
 /// Reads the text of a view: `view` and the miner's number, a line `in` for each share of an input, `drew`, a line `got` for
 /// each message, a line `open` for each opening, and `end`, in this order, each line with its newline.
 ///
-/// `BadView` names the first line, counted from 1, that is of another form, out of this order or behind the end; where the
-/// text stops early, the line behind its last.
+/// `BadView` names the first line, counted from 1, that is of another form, out of this order or after the end; where the
+/// text stops early, the line after its last.
 pub fn read(alloc: Global, bytes: &[u8]) -> Result<View, ReadErr>
     ensures { Reads (λ view. view) (read_view_of bytes.now) result }
 {

@@ -1,6 +1,6 @@
 -- What an option that has something is made of.
 use Rattle.std.proofs.Common.{◌≡◌, Bool, true, false, if◌then◌else◌, refl, subst}
-use Rattle.std.specs.Prelude.{Option, Some, None, option_map, option_and_then}
+use Rattle.std.specs.Prelude.{List, ◌∷◌, Option, Some, None, option_map, option_and_then}
 
 module _ {A : Type 0} where
   pub nothing_found : {P : Type 0} (x : A) → None ≡ Some x → P
@@ -29,3 +29,7 @@ module _ {A B : Type 0} where
       ((x : A) → o ≡ Some x → f x ≡ Some y → P) → P
   next_found f None y e more = nothing_found y e
   next_found f (Some x) y e more = more x refl e
+
+-- one more in front, where both are there
+abbrev pub both : {A : Type 0} → Option A → Option (List A) → Option (List A)
+both one more = option_and_then (λ x. option_map (λ xs. x ∷ xs) more) one

@@ -22,9 +22,10 @@ use Rattle.proto_core.specs.declared.link.Link.TheVariants.{Link12, Link13, Link
 use Rattle.view_text.specs.View.{Words, IsElement, AreElements, IsEnding}
 use Rattle.proto_core.specs.Parties.{number_text, link_text}
 use Rattle.view_text.specs.Text.{Line, Heading, Input, Drew, Got, Opened, Ended, line_words}
-use Rattle.view_text.specs.Reading.{miner_in, link_in, trap_in, owner_in, element_in, all_in, both, word_in, number_in, line_in}
+use Rattle.view_text.specs.Reading.{miner_in, link_in, one_of, traps, owners_of_tapes, element_in, all_in, word_in, number_in, line_in}
 use Rattle.view_text.proofs.Bytes.{Free, AllFree}
 use Rattle.view_text.proofs.Decimals.{AreDigits, number_back, decimal_digits, decimal_free, name_free}
+use Rattle.view_text.proofs.Found.{both}
 
 pub record IsEnd (e : End) : Type 0 where
   pub how : IsEnding e.how
@@ -100,7 +101,7 @@ link_back Link23 = refl
 link_back Link31 = refl
 link_back Link32 = refl
 
-trap_back : (k : TrapKind) → trap_in (trap_word k) ≡ Some k
+trap_back : (k : TrapKind) → one_of trap_word traps (trap_word k) ≡ Some k
 unfolding trap_word
 trap_back kinds.Length = refl
 trap_back kinds.Div = refl
@@ -110,7 +111,7 @@ trap_back kinds.Depth = refl
 trap_back kinds.Assert = refl
 trap_back kinds.Large = refl
 
-owner_back : (o : TapeOwner) → owner_in (owner_digit o) ≡ Some o
+owner_back : (o : TapeOwner) → one_of owner_digit owners_of_tapes (owner_digit o) ≡ Some o
 unfolding owner_digit
 owner_back owners.Dealer = refl
 owner_back owners.Miner1 = refl

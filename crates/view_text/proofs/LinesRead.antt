@@ -18,10 +18,10 @@ use Rattle.proto_core.specs.declared.link.Link.{Link}
 use Rattle.view_text.specs.View.{Words, IsElement, AreElements, IsEnding}
 use Rattle.proto_core.specs.Parties.{number_text, link_text}
 use Rattle.view_text.specs.Text.{Line, Heading, Input, Drew, Got, Opened, Ended, cost_words, ending_words, line_words}
-use Rattle.view_text.specs.Reading.{miners, links, traps, owners_of_tapes, miner_in, link_in, trap_in}
-use Rattle.view_text.specs.Reading.{owner_in, one_of, element_in, all_in, both, word_in, number_in, name_in}
+use Rattle.view_text.specs.Reading.{miners, links, traps, owners_of_tapes, miner_in, link_in}
+use Rattle.view_text.specs.Reading.{one_of, element_in, all_in, word_in, number_in, name_in}
 use Rattle.view_text.specs.Reading.{fixed, cost_in, trap_end_in, tape_end_in, end_in, heading_in, input_in, got_in, line_in}
-use Rattle.view_text.proofs.Found.{nothing_found, same_found, if_found, then_found, map_found, next_found}
+use Rattle.view_text.proofs.Found.{both, nothing_found, same_found, if_found, then_found, map_found, next_found}
 use Rattle.view_text.proofs.Lines.{IsLine, IsEnd}
 
 same_bytes : (xs ys : List ℕ) → bytes_eq xs ys ≡ true → xs ≡ ys
@@ -146,7 +146,7 @@ trap_end_read : (word kind line_word line cost_word cost : List ℕ) (e : End) �
     trap_end_in kind line_word line cost_word cost ≡ Some e →
     EndRead (word ∷ kind ∷ line_word ∷ line ∷ cost_word ∷ cost ∷ []) e
 trap_end_read word kind line_word line cost_word cost e same h =
-    next_found (λ k. option_and_then (λ _. option_and_then (behind k) (number_in (2 ^ 32) line)) (fixed (codes "line") line_word)) (trap_in kind) e h
+    next_found (λ k. option_and_then (λ _. option_and_then (behind k) (number_in (2 ^ 32) line)) (fixed (codes "line") line_word)) (one_of trap_word traps kind) e h
     (λ k first after_kind.
     next_found (λ _. option_and_then (behind k) (number_in (2 ^ 32) line)) (fixed (codes "line") line_word) e after_kind
     (λ u second after_word.
@@ -169,7 +169,7 @@ tape_end_read : (word owner need_word need have_word have cost_word cost : List 
     tape_end_in owner need_word need have_word have cost_word cost ≡ Some e →
     EndRead (word ∷ owner ∷ need_word ∷ need ∷ have_word ∷ have ∷ cost_word ∷ cost ∷ []) e
 tape_end_read word owner need_word need have_word have cost_word cost e same h =
-    next_found (λ o. option_and_then (λ _. option_and_then (needed o) (number_in (2 ^ 128) need)) (fixed (codes "need") need_word)) (owner_in owner) e h
+    next_found (λ o. option_and_then (λ _. option_and_then (needed o) (number_in (2 ^ 128) need)) (fixed (codes "need") need_word)) (one_of owner_digit owners_of_tapes owner) e h
     (λ o first after_owner.
     next_found (λ _. option_and_then (needed o) (number_in (2 ^ 128) need)) (fixed (codes "need") need_word) e after_owner
     (λ u second after_word.

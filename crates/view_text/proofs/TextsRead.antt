@@ -110,7 +110,7 @@ can_begin ls last good h =
       begins = ap lines_bytes c.begins ∙ lines_append ls c.more ∙ ap (λ x. x ++ lines_bytes c.more) (sym (ended_are ls));
     }
 
--- with this line behind those that were taken, the reader would stop there in each view's text
+-- with this line after those that were taken, the reader would stop there in each view's text
 cannot_go_on : (bytes : List ℕ) (w : Walked bytes) (line more : List ℕ) → NoNewline line →
     join_with_byte 10 (w.first ∷ w.more) ≡ line ++ 10 ∷ more → CanBegin (ended_lines (map line_text w.lines) ++ (line ++ 10 ∷ [])) → ⊥
 unfolding read_view_of

@@ -3,7 +3,7 @@ use Rattle.std.specs.Prelude.{◌≡◌, ℕ, ◌+◌, ◌==◌, false, List, []
 use Rattle.view_text.specs.View.{View, IsView}
 use Rattle.view_text.specs.Text.{view_bytes}
 
--- lines, each with a newline behind it
+-- lines, each with a newline after it
 abbrev pub ended_lines : List (List ℕ) → List ℕ
 ended_lines [] = []
 ended_lines (line ∷ lines) = line ++ 10 ∷ ended_lines lines

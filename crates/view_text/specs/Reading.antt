@@ -1,7 +1,7 @@
 -- The reader of a view's text: the view, or the number of the first line that is not as it must be.
 use Rattle.std.specs.Prelude.{ℕ, ◌+◌, ◌^◌, ◌==◌, ◌&&◌, true, false, nat_lt, if◌then◌else◌, List, [], ◌∷◌, ◌++◌}
 use Rattle.std.specs.Prelude.{codes, Option, Some, None, Result, Ok, Err, option_map, option_and_then, bytes_eq}
-use Rattle.std.specs.List.{slice_split}
+use Rattle.std.specs.List.{find, slice_split}
 use Rattle.std.specs.Fmt.{decimal}
 use Rattle.std.specs.Str.Parse.{digits_value}
 use Rattle.sc_text.specs.declared.elements.Element.{Element}
@@ -36,8 +36,7 @@ word_in word = number_in (2 ^ 64) word
 
 -- the first of these of which the word is the text
 abbrev pub one_of : {A : Type 0} → (A → List ℕ) → List A → List ℕ → Option A
-one_of text [] word = None
-one_of text (x ∷ xs) word = if bytes_eq (text x) word then Some x else one_of text xs word
+one_of text xs word = find (λ x. bytes_eq (text x) word) xs
 
 abbrev pub miners : List Number
 miners = One ∷ Two ∷ Three ∷ []
@@ -54,14 +53,8 @@ link_in word = one_of link_text links word
 abbrev pub traps : List TrapKind
 traps = kinds.Length ∷ kinds.Div ∷ kinds.Index ∷ kinds.Argument ∷ kinds.Depth ∷ kinds.Assert ∷ kinds.Large ∷ []
 
-abbrev pub trap_in : List ℕ → Option TrapKind
-trap_in word = one_of trap_word traps word
-
 abbrev pub owners_of_tapes : List TapeOwner
 owners_of_tapes = owners.Dealer ∷ owners.Miner1 ∷ owners.Miner2 ∷ owners.Miner3 ∷ []
-
-abbrev pub owner_in : List ℕ → Option TapeOwner
-owner_in word = one_of owner_digit owners_of_tapes word
 
 abbrev pub element_in : List ℕ → Option Element
 element_in word =
@@ -69,14 +62,9 @@ element_in word =
     else if bytes_eq (codes "false") word then Some (elements.Truth false)
     else option_map elements.Word (word_in word)
 
-abbrev pub both : {A : Type 0} → Option A → Option (List A) → Option (List A)
-both (Some x) (Some xs) = Some (x ∷ xs)
-both (Some x) None = None
-both None xs = None
-
 abbrev pub all_in : {A : Type 0} → (List ℕ → Option A) → List (List ℕ) → Option (List A)
 all_in one [] = Some []
-all_in one (w ∷ ws) = both (one w) (all_in one ws)
+all_in one (w ∷ ws) = option_and_then (λ x. option_map (λ xs. x ∷ xs) (all_in one ws)) (one w)
 
 abbrev pub name_in : List ℕ → Option (List ℕ)
 name_in word = if is_name word then Some word else None
@@ -98,14 +86,14 @@ cost_in how cost_word cost = do
 
 abbrev pub trap_end_in : (kind line_word line cost_word cost : List ℕ) → Option End
 trap_end_in kind line_word line cost_word cost = do
-  trap ← trap_in kind
+  trap ← one_of trap_word traps kind
   _ ← fixed (codes "line") line_word
   number ← number_in (2 ^ 32) line
   cost_in (endings.Trap trap number) cost_word cost
 
 abbrev pub tape_end_in : (owner need_word need have_word have cost_word cost : List ℕ) → Option End
 tape_end_in owner need_word need have_word have cost_word cost = do
-  whose ← owner_in owner
+  whose ← one_of owner_digit owners_of_tapes owner
   _ ← fixed (codes "need") need_word
   needed ← number_in (2 ^ 128) need
   _ ← fixed (codes "have") have_word
@@ -180,7 +168,7 @@ words_in_line l = slice_split (λ x. x == 32) l
 abbrev pub lines_in : List ℕ → List (List ℕ)
 lines_in bytes = slice_split (λ x. x == 10) bytes
 
--- behind the last newline nothing may stand, and before it all must have come
+-- after the last newline nothing may stand, and before it all must have come
 abbrev pub at_the_end : ℕ → Stage → List ℕ → Result View ℕ
 at_the_end k (Whole v) [] = Ok v
 at_the_end k stage rest = Err k

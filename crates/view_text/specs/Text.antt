@@ -1,6 +1,6 @@
--- The text of a view: its lines, each of words with a space between them, and a newline behind each line.
+-- The text of a view: its lines, each of words with a space between them, and a newline after each line.
 use Rattle.std.specs.Prelude.{ℕ, List, [], ◌∷◌, ◌++◌, map, codes}
-use Rattle.std.specs.List.{flat_map}
+use Rattle.std.specs.List.{flat_map, join_with_byte}
 use Rattle.std.specs.Fmt.{decimal}
 use Rattle.sc_text.specs.declared.elements.Element.{Element}
 use Rattle.sc_text.specs.declared.end.Ending.{Ending}
@@ -40,9 +40,7 @@ line_words (Ended e) = codes "end" ∷ ending_words e.how e.cost
 
 -- words with a space between them
 abbrev pub spaced : List (List ℕ) → List ℕ
-spaced [] = []
-spaced (w ∷ []) = w
-spaced (w ∷ v ∷ vs) = w ++ 32 ∷ spaced (v ∷ vs)
+spaced words = join_with_byte 32 words
 
 -- a space and the number, for each
 abbrev pub words_behind : List ℕ → List ℕ

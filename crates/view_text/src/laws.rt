@@ -25,7 +25,7 @@ pub fn equal_texts_are_equal_views()
 {}
 
 /// Law: a text that isn't read is that of no view, and the number named is that of its first wrong line: the lines before it
-/// begin the text of some view, and no view's text has this line behind them; or the text stops there, or the line has no end.
+/// begin the text of some view, and no view's text has this line after them; or the text stops there, or the line has no end.
 pub fn first_wrong_line_is_named()
     ensures { (bytes : List ℕ) (number : ℕ) → read_view_of bytes ≡ Err number → IsFirstWrong bytes number }
 {}

@@ -1,5 +1,6 @@
 -- The hello of a miner to a peer: byte 0, version, sender, receiver, the digest of the code, the digest of what is public.
-use Rattle.std.specs.Prelude.{◌≡◌, ℕ, ◌==◌, not, nat_lt, if◌then◌else◌, List, ◌∷◌, ◌++◌, length, take, drop, Option, Some, None, Result, Ok, Err, bytes_eq, codes}
+use Rattle.std.specs.Prelude.{◌≡◌, ℕ, ◌==◌, not, nat_lt, if◌then◌else◌, List, ◌∷◌, ◌++◌, length, take, drop, Option, Some, None, Result, Ok, Err, bytes_eq}
+use Rattle.std.specs.Prelude.{codes}
 use Rattle.proto_core.specs.Lists.{at}
 use Rattle.served_bytes.specs.Front.{Front, Whole, Malformed, Truncated}
 use Rattle.wire.specs.declared.bad_frame.BadFrame.{BadFrame}
