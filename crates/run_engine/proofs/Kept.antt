@@ -1,29 +1,22 @@
--- What a call keeps: the promises of each command, the headline, and the laws.
+-- What follows of what a call keeps and of its deeds: the promises of each command; the headline; and the laws.
 use Rattle.std.proofs.Common.{◌≡◌, ℕ, List, [], Some, refl}
 use Rattle.outside.specs.Files.{Contents}
 use Rattle.command_frame.specs.declared.status.Status.{Status}
-use Rattle.command_frame.specs.Moments.{AreTold, Moment}
-use Rattle.command_frame.specs.Reads.{BothTold}
-use Rattle.command_words.specs.Ask.{LoadAsk, MinerAsk, TrioAsk, load, miner, trio, words_of}
-use Rattle.trio_command.specs.Deciding.{trio_reach}
-use Rattle.trio_command.specs.Launching.{MayLaunch}
-use Rattle.trio_command.specs.Trio.{words_for}
+use Rattle.command_frame.specs.Moments.{Moment}
 use Rattle.gather_command.proofs.Refusals.{writes_one_dealing}
 use Rattle.program_commands.proofs.Accepted.{code_means}
 use Rattle.run_engine.specs.Call.{Call}
 use Rattle.run_engine.specs.Commands.{Commands}
+use Rattle.run_engine.specs.Deeds.{Deeds}
 use Rattle.run_engine.specs.Headline.{Given, Headline, IsGiven}
 use Rattle.run_engine.specs.Laws.{Laws}
-use Rattle.run_engine.specs.Loading.{Loaded}
-use Rattle.run_engine.specs.MinerPromises.{MinerSends}
-use Rattle.run_engine.specs.TrioPromises.{StartsMiners}
 use Rattle.run_engine.specs.Told.{contents_in}
 use Rattle.run_engine.proofs.Gathers.{gather_keeps}
 use Rattle.run_engine.proofs.Headline.{ends_by_budget_and_tapes, prints, refuses, schedule_refused, writes}
 use Rattle.run_engine.proofs.Miners.{made_taken, maps_made, miners_run, views_made, views_seen}
 use Rattle.run_engine.proofs.Promises.{check_keeps, compile_keeps, deal_keeps, eval_keeps, need_keeps, run_keeps}
 use Rattle.run_engine.proofs.JoinedKept.{join_keeps, mine_keeps}
-use Rattle.run_engine.proofs.TrioKept.{trio_keeps}
+use Rattle.run_engine.proofs.TrioKept.{starts_where_dealt, trio_keeps}
 use Rattle.honest_miners.proofs.Served.{three_served_miners}
 use Rattle.honest_miners.proofs.Three.{three_miners_answer}
 use Rattle.honest_miners.proofs.Written.{writes_with_honest_peers}
@@ -36,13 +29,7 @@ use Rattle.run_engine.proofs.ViewLaws.{maps_correspond, simulated_so, twins_see_
 use Rattle.workload.proofs.Runnable.{load_is_runnable}
 use Rattle.run_engine.proofs.ViewPromises.{map_keeps, simulate_keeps, twin_keeps}
 
-module _ (words : List (List ℕ)) (m m' : Moment) (s : Status) (call : Call words m m' s)
-    (sends : (ask : MinerAsk) → words_of words ≡ Some (miner ask) → BothTold m.sources.files m.sources.links
-    → MinerSends ask (contents_in m) m.sources.links m'.sources.links s)
-    (starts : (ask : TrioAsk) → words_of words ≡ Some (trio ask) → AreTold trio_reach m.sources
-    → StartsMiners ask (contents_in m) m.sources.children m'.sources.children s)
-    (only : (ask : TrioAsk) → words_of words ≡ Some (trio ask) → MayLaunch (words_for ask) m.sources.children m'.sources.children)
-    (loaded : (ask : LoadAsk) → words_of words ≡ Some (load ask) → Loaded ask m.out m'.out s) where
+module _ (words : List (List ℕ)) (m m' : Moment) (s : Status) (call : Call words m m' s) (deeds : Deeds words m m' s) where
   pub commands_kept : Commands words m m' s
   commands_kept = record {
     checks = check_keeps words m m' s call;
@@ -56,13 +43,10 @@ module _ (words : List (List ℕ)) (m m' : Moment) (s : Status) (call : Call wor
     maps = map_keeps words m m' s call;
     simulates = simulate_keeps words m m' s call;
     twins = twin_keeps words m m' s call;
-    loads = loaded;
     joins = join_keeps words m m' s call;
     mines = mine_keeps words m m' s call;
-    miner_sends = λ ask asks told. sends ask asks (told.files, told.links refl);
     runs_trio = λ ask asks told. trio_keeps words m m' s call ask asks told;
-    trio_starts_miners_only = only;
-    trio_starts = starts;
+    trio_starts_where_dealt = starts_where_dealt words m m' s deeds;
   }
 
 module _ (words : List (List ℕ)) (m m' : Moment) (s : Status) (call : Call words m m' s) where

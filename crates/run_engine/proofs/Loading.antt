@@ -69,8 +69,8 @@ load_end (need ask) plan f f' o o' r is part = tt
 load_end (map_tape ask) plan f f' o o' r is part = tt
 load_end (simulate ask) plan f f' o o' r is part = tt
 load_end (twin ask) plan f f' o o' r is part = tt
-load_end (load ask) plan f f' o o' r is part =
-    printed (load_effect ask.number) refl f f' o o' r (subst (λ (e : Effect). Finishes e f f' o o' r) is part)
+load_end (load number) plan f f' o o' r is part =
+    printed (load_effect number) refl f f' o o' r (subst (λ (e : Effect). Finishes e f f' o o' r) is part)
 load_end (gather ask) plan f f' o o' r is part = tt
 load_end (join ask) plan f f' o o' r is part = tt
 load_end (miner ask) plan f f' o o' r is part = tt

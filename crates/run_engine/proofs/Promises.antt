@@ -6,7 +6,7 @@ use Rattle.command_frame.specs.Answer.{Answer, Course, Effect, at_once}
 use Rattle.command_frame.specs.Moments.{AreSteady, AreTold, Moment, Reach, Sources, files_alone}
 use Rattle.command_frame.specs.Status.{can_refuse, is_done, is_end}
 use Rattle.command_frame.specs.Whole.{CarriedOut, HasFailed, IsDone}
-use Rattle.command_words.specs.Ask.{Ask, CheckAsk, CompileAsk, DealAsk, EvalAsk, RunAsk, check, compile, deal, eval, need, run, words_of}
+use Rattle.command_words.specs.Ask.{Ask, CompileAsk, DealAsk, EvalAsk, RunAsk, check, compile, deal, eval, need, run, words_of}
 use Rattle.program_commands.specs.Eval.{end_of, eval_text, need_text, report_for}
 use Rattle.run_engine.specs.Call.{Call}
 use Rattle.run_engine.specs.Commands.{Asks}
@@ -107,15 +107,15 @@ module _ (words : List (List ℕ)) (m m' : Moment) (s : Status) (call : Call wor
       → Refuses (status_in_answer answer)
   refuses answer refusal unended = record { refusal = refusal; no_end = unended }
 
-  pub check_keeps : (ask : CheckAsk) → Asks words m (check ask)
-      (Keeps (CheckEffect ask (contents_in m)) (ProgramRefused ask.program (contents_in m)) is_done m m' s)
+  pub check_keeps : (program : List ℕ) → Asks words m (check program)
+      (Keeps (CheckEffect program (contents_in m)) (ProgramRefused program (contents_in m)) is_done m m' s)
   unfolding answer_to
-  check_keeps ask asks t =
-      keeps words m m' s call (check ask) asks (λ told. refl) (told_alone m.sources t) can_refuse (as_refusal s) refl
-      (CheckEffect ask (contents_in m)) (ProgramRefused ask.program (contents_in m)) is_done
-      (λ effect w. subst (IsEndingAnswer words outside) (sym w.2) (record { answer = check_answered words ask outside w.0 asks w.1; ends = refl }))
-      (λ answer a r u. check_refused_so words ask outside asks answer a r)
-      (λ status refused. check_answered_so words ask outside status asks refused)
+  check_keeps program asks t =
+      keeps words m m' s call (check program) asks (λ told. refl) (told_alone m.sources t) can_refuse (as_refusal s) refl
+      (CheckEffect program (contents_in m)) (ProgramRefused program (contents_in m)) is_done
+      (λ effect w. subst (IsEndingAnswer words outside) (sym w.2) (record { answer = check_answered words program outside w.0 asks w.1; ends = refl }))
+      (λ answer a r u. check_refused_so words program outside asks answer a r)
+      (λ status refused. check_answered_so words program outside status asks refused)
 
   pub compile_keeps : (ask : CompileAsk) → Asks words m (compile ask)
       (Keeps (CompileEffect ask (contents_in m)) (ProgramRefused ask.program (contents_in m)) is_done m m' s)

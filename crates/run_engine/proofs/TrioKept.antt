@@ -1,13 +1,14 @@
 -- What `trio` promises, from its courses.
-use Rattle.std.proofs.Common.{◌≡◌, ◌⊎◌, ℕ, ℤ, List, nat_eq, true, false, Some, Ok, Err, Result, refl, ap, subst, sym, ◌∙◌, inl, inr}
+use Rattle.std.proofs.Common.{◌≡◌, ◌⊎◌, ℕ, ℤ, List, [], ◌++◌, nat_eq, true, false, Some, Ok, Err, Result, refl, ap, subst, sym, ◌∙◌, inl, inr}
 use Rattle.std.proofs.lemmas.Bool.{false≢true}
-use Rattle.outside.specs.Spawner.{awaited}
+use Rattle.outside.specs.Causes.{Rose}
+use Rattle.outside.specs.Spawner.{ChildCall}
 use Rattle.command_frame.specs.declared.object.Object.TheVariants as objects
 use Rattle.command_frame.specs.declared.status.Status.{Status}
 use Rattle.command_frame.specs.declared.status.Status.TheVariants as statuses
 use Rattle.command_frame.specs.declared.stop.Stop.{Stop}
 use Rattle.command_frame.specs.declared.stop.Stop.TheVariants as stops
-use Rattle.command_frame.specs.Answer.{Answer, Cause, Course, Effect, Written, behind, cause_of, wholly}
+use Rattle.command_frame.specs.Answer.{Answer, Cause, Course, Effect, Written, behind, cause_of, whole_of}
 use Rattle.command_frame.specs.Moments.{AreSteady, AreTold, Moment, Reach}
 use Rattle.command_frame.specs.Status.{can_breach, code_of, is_end}
 use Rattle.command_frame.specs.Whole.{Acts, CarriedOut, CarriedSo, ChildrenRose, HasFailed, IsAnswered, IsDone, status_in}
@@ -17,19 +18,20 @@ use Rattle.program_commands.specs.Judging.{Finding, FoundAt, its_program}
 use Rattle.program_commands.proofs.Refusals.{status_in_answer}
 use Rattle.proto_core.specs.declared.party.Number.{Number}
 use Rattle.trio_command.specs.Deciding.{trio_reach}
-use Rattle.trio.specs.Launches.{of_all}
+use Rattle.trio.specs.Launches.{of_all, starts}
 use Rattle.trio_command.specs.Launching.{AreRun, AreStarted, LaunchesBy}
-use Rattle.trio_command.specs.Trio.{Prepared, dealt, trio_of, undealt, words_for}
+use Rattle.trio_command.specs.Trio.{Prepared, course_of, dealt, prepared_of, trio_of, undealt, words_for}
 use Rattle.run_engine.specs.Call.{Call}
 use Rattle.run_engine.specs.Commands.{statuses_in}
+use Rattle.run_engine.specs.Deeds.{Deeds, StartsByAnswer, StartsByStatus}
 use Rattle.run_engine.specs.Obeying.{Acted}
 use Rattle.run_engine.specs.Promises.{Gives, is_refusal}
 use Rattle.run_engine.specs.Told.{Outside, contents_in, outside_of}
-use Rattle.run_engine.specs.TrioPromises.{KeepsTrio, StartsByStatus, StartsMiners, TrioEffect, TrioRefused}
+use Rattle.run_engine.specs.TrioPromises.{KeepsTrio, StartsMiners, TrioEffect, TrioRefused}
 use Rattle.run_engine.specs.Words.{IsAnswer, answer_to, question_of, reach_in}
 use Rattle.run_engine.proofs.Runs.{carried_status, course_answers, is_answer, no_fault_end, reach_by, refused_if}
 use Rattle.run_engine.proofs.Tops.{no_file, no_memory}
-use Rattle.run_engine.proofs.Trios.{EndingCourse, HasCourse, IsPrepared, is_dealt, is_undealt, no_end_refused, trio_effect, trio_refused}
+use Rattle.run_engine.proofs.Trios.{EndingCourse, HasCourse, IsPrepared, dealt_some, is_dealt, is_undealt, no_end_refused, trio_effect, trio_refused}
 use Rattle.run_engine.proofs.Trios.{trio_refused_by, trio_unprepared}
 
 -- a fault that has the status of a refusal is one of other programs
@@ -55,12 +57,14 @@ fault_child reach m m' statuses.Write r failed = absurd (false≢true r)
 fault_child reach m m' statuses.Memory r failed = absurd (false≢true r)
 
 -- a course of which this is the whole
-ends_so : (m m' : Moment) (s : Status) (effect : Effect) (first : List Written) (answer : Answer) → wholly first answer ≡ Ok effect
+ends_so : (m m' : Moment) (s : Status) (effect : Effect) (first : List Written) (answer : Answer)
+    → whole_of (record { first = first; answer = answer }) ≡ Ok effect
     → IsAnswered (record { first = first; answer = answer }) s → s ≡ effect.status
 ends_so m m' s effect first (Ok e) is status = status ∙ ap status_in_answer is
 ends_so m m' s effect first (Err c) is status = absurd cc
 
-done_so : (m m' : Moment) (s : Status) (effect : Effect) (first : List Written) (answer : Answer) → wholly first answer ≡ Ok effect
+done_so : (m m' : Moment) (s : Status) (effect : Effect) (first : List Written) (answer : Answer)
+    → whole_of (record { first = first; answer = answer }) ≡ Ok effect
     → CarriedSo m m' s first answer → IsDone m m' effect s
 done_so m m' s effect first (Ok e) is carried =
     let same : behind first e ≡ effect = cc in subst (λ (x : Effect). IsDone m m' x s) same carried.0
@@ -163,14 +167,22 @@ module _ (words : List (List ℕ)) (m m' : Moment) (r : Result Status Stop) (did
   abbrev AllRun : Type 0
   AllRun = AreRun (words_for ask) m.sources.children m'.sources.children
 
-  run_started : AllRun → Started
-  run_started run = record { child = run.child; waits = of_all (λ i. awaited (run.child i)); calls = run.calls; waited = inl refl }
+  abbrev Called : (Number → ℕ) → List ChildCall → Type 0
+  Called child waits = m'.sources.children.calls ≡ m.sources.children.calls ++ (starts (of_all (words_for ask)) (of_all child) ++ waits)
+
+  -- a wait that wasn't answered counted a fault
+  started_run : Started → AllRun ⊎ Rose m.sources.children.faults m'.sources.children.faults
+  started_run s =
+      elim s.waited [
+        | inl all ↦ inl (record { child = s.child; calls = subst (Called s.child) all s.calls })
+        | inr rose ↦ inr rose
+      ]
 
   abbrev Starts : Status → Type 0
   Starts s = StartsByStatus (words_for ask) m.sources.children m'.sources.children s
 
   all_run : (s : Status) → AllRun → Starts s
-  all_run s run = record { ended = λ is. run; differ = λ is. run; child = λ is. inl (run_started run); file = λ is. inr run }
+  all_run s run = record { ended = λ is. run; differ = λ is. run; child = λ is. inl run; file = λ is. inr run }
 
   -- of other statuses nothing is said
   other_stop : (s : Status) → is_end s ≡ false → nat_eq (code_of s) (code_of statuses.Write) ≡ false
@@ -206,7 +218,7 @@ module _ (words : List (List ℕ)) (m m' : Moment) (r : Result Status Stop) (did
   starts_by writes p (Err (stops.Breached b)) is l = record {
     ended = λ ran. breach_ran b.status b.breaches ran;
     differ = l.1;
-    child = λ w. inl l.0;
+    child = λ w. started_run l.0;
     file = λ w. no_breach b.status statuses.File b.breaches refl w;
   }
   starts_by writes p (Err (stops.Failed (objects.File line))) is l = record {
@@ -224,13 +236,56 @@ module _ (words : List (List ℕ)) (m m' : Moment) (r : Result Status Stop) (did
     file = λ w. clash statuses.Child statuses.File refl w;
   }
 
-  pub trio_started : StartsMiners ask (contents_in m) m.sources.children m'.sources.children (status_in r)
-  trio_started = record {
+  -- ---- by its answer
+
+  abbrev ByAnswer : List Written → Type 0
+  ByAnswer first = StartsByAnswer (words_for ask) first m.sources.children m'.sources.children (status_in r)
+
+  none_started : m'.sources.children ≡ m.sources.children → ByAnswer []
+  none_started same = record { none = λ is. same; some = λ some. absurd (some refl) }
+
+  by_prepared : (wanted : Result Prepared Cause) → IsPrepared ask (contents_in m) ends_with wanted
+      → ByAnswer (course_of ask (contents_in m) ends_with wanted).first
+  by_prepared (Err cause) p = none_started (launched (Err cause) p)
+  by_prepared (Ok (undealt need have)) p = none_started (launched (Ok (undealt need have)) p)
+  by_prepared (Ok (dealt writes)) p = record {
+    none = λ is. absurd (dealt_some ask (contents_in m) ends_with p.found p.at writes p.is is);
+    some = λ some. starts_by writes p r refl (launched (Ok (dealt writes)) p);
+  }
+
+  pub trio_started : (answer : Course) → IsAnswer words (outside_of m.sources m'.sources) answer → ByAnswer answer.first
+  unfolding answer_to question_of trio_of
+  trio_started answer a =
+      let (found, at, is) = course_answers words (trio ask) (outside_of m.sources m'.sources) answer asks a in
+      subst (λ (c : Course). ByAnswer c.first) is
+      (by_prepared (prepared_of found ask (contents_in m)) (record { found = found; at = at; is = refl }))
+
+-- ---- the same by what the files hold
+
+module _ (words : List (List ℕ)) (m m' : Moment) (s : Status) (deeds : Deeds words m m' s)
+    (ask : TrioAsk) (asks : words_of words ≡ Some (trio ask)) (told : AreTold trio_reach m.sources) where
+  abbrev statuses_now : Number → ℤ
+  statuses_now = statuses_in m m'
+
+  abbrev ByCourse : Result Prepared Cause → Type 0
+  ByCourse wanted =
+      StartsByAnswer (words_for ask) (course_of ask (contents_in m) statuses_now wanted).first m.sources.children m'.sources.children s
+
+  of_prepared : (wanted : Result Prepared Cause) → IsPrepared ask (contents_in m) statuses_now wanted → ByCourse wanted
+  unfolding answer_to question_of trio_of
+  of_prepared wanted p =
+      subst ByCourse p.is
+      (deeds.trio_starts ask asks told (trio_of p.found ask (contents_in m) statuses_now)
+      (is_answer words (trio ask) (outside_of m.sources m'.sources) p.found asks p.at))
+
+  pub starts_where_dealt : StartsMiners ask (contents_in m) m.sources.children m'.sources.children s
+  starts_where_dealt = record {
     dealt = λ writes d.
-        let p = is_dealt ask (contents_in m) ends_with writes d in
-        starts_by writes p r refl (launched (Ok (dealt writes)) p);
-    undealt = λ need have u. launched (Ok (undealt need have)) (is_undealt ask (contents_in m) ends_with need have u);
+        let p = is_dealt ask (contents_in m) statuses_now writes d in
+        (of_prepared (Ok (dealt writes)) p).some (dealt_some ask (contents_in m) statuses_now p.found p.at writes p.is);
+    undealt = λ need have u.
+        (of_prepared (Ok (undealt need have)) (is_undealt ask (contents_in m) statuses_now need have u)).none refl;
     refused = λ status wanted refused first.
         let no = trio_unprepared ask (contents_in m) status wanted refused first in
-        launched (Err no.cause) (record { found = no.prepared.found; at = no.prepared.at; is = no.prepared.is });
+        (of_prepared (Err no.cause) (record { found = no.prepared.found; at = no.prepared.at; is = no.prepared.is })).none refl;
   }

@@ -1,5 +1,5 @@
 -- What `trio` did until it had decided, what its course is for files that are as they must be, and that it is refused only for those that are not.
-use Rattle.std.proofs.Common.{◌≡◌, ◌<◌, ◌≤◌, ℕ, ℤ, List, [], ◌++◌, length, drop, true, false, Bool, Ok, Err, Result, refl, ap, subst}
+use Rattle.std.proofs.Common.{◌≡◌, ◌<◌, ◌≤◌, ℕ, ℤ, List, [], ◌∷◌, ◌++◌, length, drop, true, false, Bool, Ok, Err, Result, refl, ap, subst}
 use Rattle.std.proofs.Common.{sym, ◌∙◌, inl, inr}
 use Rattle.std.proofs.Common.{arith, get_or}
 use Rattle.std.proofs.Math.Seq.{drop-append_seam}
@@ -22,7 +22,7 @@ use Rattle.command_frame.specs.Status.{is_end, of_texts}
 use Rattle.command_words.specs.Ask.{TrioAsk, trio}
 use Rattle.input_share.specs.Dealing.{need_of}
 use Rattle.program_commands.specs.Compile.{compile_effect, compile_of}
-use Rattle.program_commands.specs.Judging.{Finding, FoundAt, IsReachedAs, IsReachedBy, Sized, its_program}
+use Rattle.program_commands.specs.Judging.{Finding, FoundAt, IsReachedAs, Sized, its_program}
 use Rattle.program_commands.specs.Programs.{accepted, program_at, small_enough, tree_at}
 use Rattle.program_commands.specs.Reading.{bad_input, bad_tape, inputs_at, read_or, tape_file_at}
 use Rattle.program_commands.specs.Held.{HoldsTyped, bad_text as bad_program_text, too_large}
@@ -142,6 +142,12 @@ is_fewer have need h = grind (arith, nat_tests)
 
 abbrev Preparing : Type 0
 Preparing = Result Prepared Cause
+
+abbrev made : Prepared → Preparing
+made p = Ok p
+
+dealt_same : {writes others : List Written} → made (dealt writes) ≡ made (dealt others) → writes ≡ others
+dealt_same is = cc
 
 abbrev written_err : Cause → Result (List Written) Cause
 written_err c = Err c
@@ -387,7 +393,7 @@ module _ (ask : TrioAsk) (files : Contents) (status : Number → ℤ) where
               elim (steps (bytes_at files ask.program) (λ bytes. accepted found.judged) (Ok tree) e) [
                 | inl (c, e2, wrong) ↦ absurd cc
                 | inr (bytes, e2, judged) ↦
-                    subst (λ (x : Sized). IsReachedBy x found.reached) (sized_so p found.sized rest)
+                    subst (λ (x : Sized). IsReachedAs (Ok tree) x found.reached) (sized_so p found.sized rest)
                     (subst (λ (x : Judged). IsReachedAs x found.sized found.reached) (judged_so tree found.judged judged) at.reached)
               ]
         ]
@@ -531,6 +537,32 @@ module _ (ask : TrioAsk) (files : Contents) (status : Number → ℤ) where
       pub trio_refused_by : given ≡ status_in_answer (trio_of found ask files status).answer → Why
       unfolding trio_of
       trio_refused_by is = by_preparation (prepared_of found ask files) (prepared_cases (prepared_of found ask files) refl) is
+
+    -- ---- and what is dealt are some files
+
+    no_end_of_files : (code rest : List Written) (w : Written) → code ++ (w ∷ rest) ≡ [] → ⊥
+    no_end_of_files [] rest w is = absurd cc
+    no_end_of_files (c ∷ code) rest w is = absurd cc
+
+    by_parts : (code : List Written) (entries : List Entry) (tapes : FourTapes) (writes : List Written) (b : Bool)
+        → nat_lt (length tapes.dealer) (need_of entries) ≡ b → ready code entries tapes ≡ Ok (dealt writes) → writes ≡ [] → ⊥
+    by_parts code entries tapes writes true e is none =
+        let short : ready code entries tapes ≡ Ok (undealt (need_of entries) (length tapes.dealer)) = rw e refl in
+        let wrong : made (undealt (need_of entries) (length tapes.dealer)) ≡ made (dealt writes) = sym short ∙ is in
+        absurd cc
+    by_parts code entries tapes writes false e is none =
+        let enough : ready code entries tapes ≡ Ok (dealt (code ++ deal_writes ask.to entries tapes)) = rw e refl in
+        let same : made (dealt (code ++ deal_writes ask.to entries tapes)) ≡ made (dealt writes) = sym enough ∙ is in
+        let empty : code ++ deal_writes ask.to entries tapes ≡ [] = dealt_same same ∙ none in
+        no_end_of_files code _ _ empty
+
+    some_files : (r : Preparing) → Preparation r → (writes : List Written) → r ≡ Ok (dealt writes) → writes ≡ [] → ⊥
+    some_files (Err c) read writes is none = absurd cc
+    some_files (Ok done) (all_read p entries tapes h) writes is none =
+        by_parts (code_of p found.reached) entries tapes writes (nat_lt (length tapes.dealer) (need_of entries)) refl is none
+
+    pub dealt_some : (writes : List Written) → prepared_of found ask files ≡ Ok (dealt writes) → writes ≡ [] → ⊥
+    dealt_some writes is none = some_files (prepared_of found ask files) (prepared_cases (prepared_of found ask files) refl) writes is none
 
     -- ---- and none of its refusals has the status of an end
 

@@ -1,4 +1,4 @@
--- What each command keeps.
+-- What each command keeps, by what the files hold. It follows from what every call keeps, and from its deeds.
 --
 -- Over steady objects that hold files as they must be its effect is there whole, or memory ran out. It is refused exactly for the first file that is
 -- there and not as it must be, or a fault is told.
@@ -9,8 +9,8 @@ use Rattle.command_frame.specs.declared.status.Status.{Status}
 use Rattle.command_frame.specs.declared.status.Status.TheVariants.{Schedule}
 use Rattle.command_frame.specs.Moments.{AreTold, Moment}
 use Rattle.command_frame.specs.Status.{is_done, is_end}
-use Rattle.command_words.specs.Ask.{CheckAsk, CompileAsk, EvalAsk, RunAsk, DealAsk, MapAsk, SimulateAsk, TwinAsk, check, compile, eval, need}
-use Rattle.command_words.specs.Ask.{run, deal, map_tape, simulate, twin, words_of, Ask, GatherAsk, LoadAsk, gather, load}
+use Rattle.command_words.specs.Ask.{CompileAsk, EvalAsk, RunAsk, DealAsk, MapAsk, SimulateAsk, TwinAsk, check, compile, eval, need}
+use Rattle.command_words.specs.Ask.{run, deal, map_tape, simulate, twin, words_of, Ask, GatherAsk, gather}
 use Rattle.command_words.specs.Ask.{JoinAsk, MinerAsk, TrioAsk, join, miner, trio}
 use Rattle.program_commands.specs.Eval.{eval_text, need_text}
 use Rattle.program_commands.specs.Held.{DealRefused, EvalRefused, ProgramRefused}
@@ -18,12 +18,8 @@ use Rattle.gather_command.specs.Held.{GatherEffect, GatherRefused}
 use Rattle.join_command.specs.Held.{JoinEffect, JoinRefused}
 use Rattle.miner_command.specs.Held.{MinerEffect, MinerRefused}
 use Rattle.proto_core.specs.declared.party.Number.{Number}
-use Rattle.run_engine.specs.MinerPromises.{MinerSends}
 use Rattle.trio_command.specs.Deciding.{trio_reach}
-use Rattle.trio_command.specs.Launching.{MayLaunch}
-use Rattle.trio_command.specs.Trio.{words_for}
 use Rattle.run_engine.specs.Headline.{ScheduleRefused}
-use Rattle.run_engine.specs.Loading.{Loaded}
 use Rattle.run_engine.specs.MapPromises.{MapEffect, MapRefused}
 use Rattle.run_engine.specs.Promises.{CheckEffect, CompileEffect, DealEffect, EvalEffect, RunEffect, Keeps, KeepsOf, is_refusal}
 use Rattle.run_engine.specs.Runs.{RunRefused}
@@ -50,7 +46,7 @@ Kept words before after given ask Wanted Refused ends =
 pub record Commands (words : List (List ℕ)) (before after : Moment) (given : Status) : Type 0 where
   -- `check` prints `ok`, `compile` writes the code of the program, `eval` prints the text of the evaluation in the clear and `need` the words
   -- that it used.
-  pub checks : (ask : CheckAsk) → Kept words before after given (check ask) (CheckEffect ask) (ProgramRefused ask.program) is_done
+  pub checks : (program : List ℕ) → Kept words before after given (check program) (CheckEffect program) (ProgramRefused program) is_done
   pub compiles : (ask : CompileAsk) → Kept words before after given (compile ask) (CompileEffect ask) (ProgramRefused ask.program) is_done
   pub evaluates : (ask : EvalAsk) → Kept words before after given (eval ask) (EvalEffect eval_text ask) (EvalRefused ask) is_end
   pub tells_needs : (ask : EvalAsk) → Kept words before after given (need ask) (EvalEffect need_text ask) (EvalRefused ask) is_end
@@ -73,9 +69,6 @@ pub record Commands (words : List (List ℕ)) (before after : Moment) (given : S
   -- `twin` writes the tapes with which the second inputs give the miner the view of the first. Inputs that are not alike, in what
   -- everybody knows or in what is opened, are a refusal of it.
   pub twins : (ask : TwinAsk) → Kept words before after given (twin ask) (TwinEffect ask) (TwinRefused ask) is_done
-  -- `load` prints the text of the evaluation of the workload of its number, and how many messages were delivered, with the evaluation's end; or the
-  -- output failed, which a steady one doesn't, or memory ran out. It is never refused. It reads no file, so whether any tells or is steady is all one.
-  pub loads : (ask : LoadAsk) → words_of words ≡ Some (load ask) → Loaded ask before.out after.out given
   -- `join` prints the text of the run of which three miners wrote these texts, with the status of its end. A text that is not of its form is a
   -- refusal of it, and else two that differ.
   pub joins :
@@ -87,11 +80,6 @@ pub record Commands (words : List (List ℕ)) (before after : Moment) (given : S
       (ask : MinerAsk) → words_of words ≡ Some (miner ask) → AreTold files_and_links before.sources
       → KeepsOf files_and_links is_refusal (MinerEffect ask (contents_in before) before.sources.links.coming)
       (MinerRefused ask (contents_in before) before.sources.links.coming) is_end before after given
-  -- The bytes that it sends are a hello to each peer and the frames of what its node sends on the messages that came: where its run has ended, or
-  -- it is refused, exactly these, else a front of them; and nothing to anybody else.
-  pub miner_sends :
-      (ask : MinerAsk) → words_of words ≡ Some (miner ask) → AreTold files_and_links before.sources
-      → MinerSends ask (contents_in before) before.sources.links after.sources.links given
   -- `trio` writes the program's code as `compile` does and the files of three miners as `deal` does, starts the miners, waits for all three, and
   -- prints their texts as one, with the status of their end. It is refused for the first file that is there and not as it must be, then for a
   -- miner that ended as no run does, and then as `join` is. Where the dealer's tape has too few words, it writes and starts nothing, and its text
@@ -99,13 +87,9 @@ pub record Commands (words : List (List ℕ)) (before after : Moment) (given : S
   pub runs_trio :
       (ask : TrioAsk) → words_of words ≡ Some (trio ask) → AreTold trio_reach before.sources
       → KeepsTrio ask (contents_in before) (statuses_in before after) before after given
-  -- However it stops, no other program is started or waited for, or it starts miners 1, 2 and 3 in this order with the words of `miner` until a
-  -- start fails; where none fails it waits for each of them. It does nothing else with other programs.
-  pub trio_starts_miners_only :
-      (ask : TrioAsk) → words_of words ≡ Some (trio ask) → MayLaunch (words_for ask) before.sources.children after.sources.children
-  -- Where files are dealt, it has started miners 1, 2 and 3 with the words of `miner`, all before it waited for any, and waited for each: where it has
-  -- ended, its output failed, or two texts differ; and where a child or a text is the cause, unless a start or a wait failed. Where nothing can be
-  -- dealt, or the program or a file is refused, it has started none.
-  pub trio_starts :
+  -- Where the files hold what can be dealt, it has started miners 1, 2 and 3 with the words of `miner`, all before it waited for any, and waited for each:
+  -- where it has ended, its output failed, or two texts differ; and where a child or a text is the cause, unless a start or a wait failed. Where they hold
+  -- what can't be dealt, or the program or a file is refused, it has started none.
+  pub trio_starts_where_dealt :
       (ask : TrioAsk) → words_of words ≡ Some (trio ask) → AreTold trio_reach before.sources
       → StartsMiners ask (contents_in before) before.sources.children after.sources.children given

@@ -1,6 +1,7 @@
 pub mod Call
 pub mod Chains
 pub mod Commands
+pub mod Deeds
 pub mod Headline
 pub mod Laws
 pub mod Loading

@@ -12,7 +12,7 @@ use Rattle.miner_command.specs.Miner.{sent_of}
 use Rattle.miner_command.specs.Playing.{SentAll, SentFronts}
 use Rattle.honest_miners.specs.Nodes.{Outgoing}
 use Rattle.program_commands.specs.Judging.{Finding, FoundAt, its_program}
-use Rattle.trio_command.specs.Launching.{LaunchesBy, MayLaunch}
+use Rattle.trio_command.specs.Launching.{LaunchesBy, MayLaunchBy}
 use Rattle.trio_command.specs.Trio.{prepared_of, words_for}
 
 -- where it goes on, and where files or a peer are refused, all of these bytes; else a front of them for each peer
@@ -35,5 +35,5 @@ RanThem ask s s' r =
 abbrev pub Moves : {X : Type 0} → Ask → (s s' : Sources) → Result X Stop → Type 0
 Moves (miner ask) s s' r =
     BothTold s.files s.links → MinerSent ask.me s.links s'.links (sent_of ask s.files.contents s.links.coming) r
-Moves (trio ask) s s' r = MayLaunch (words_for ask) s.children s'.children × RanThem ask s s' r
+Moves (trio ask) s s' r = MayLaunchBy (words_for ask) s.children s'.children × RanThem ask s s' r
 Moves _ s s' r = Unit {0}

@@ -11,7 +11,7 @@ use Rattle.command_frame.specs.Finish.{OnlyAmong}
 use Rattle.command_frame.specs.Moments.{Moment, Sources}
 use Rattle.command_frame.specs.Reads.{PlanNames}
 use Rattle.command_frame.specs.Whole.{Acts, ActsAnyhow, EndsAnyhow, EndsAs, PutsNothing, StopsAtFile, status_in}
-use Rattle.command_words.specs.Ask.{Ask, LoadAsk, load, words_of}
+use Rattle.command_words.specs.Ask.{Ask, load, words_of}
 use Rattle.program_commands.specs.Judging.{Finding, FoundAt, HasFinding, Tells}
 use Rattle.miner_commands.specs.Load.{load_effect}
 use Rattle.run_engine.specs.Loading.{Loaded}
@@ -33,12 +33,12 @@ WordsAnswer words s s' answer = IsAnswer words (outside_of s s') answer
 
 -- until it had decided
 abbrev pub DecidesLoad : Ask → Result Plan Stop → Type 0
-DecidesLoad (load ask) r = MatchResult r (λ plan. effect_of plan ≡ load_effect ask.number) (λ stop. stop ≡ stops.Memory)
+DecidesLoad (load number) r = MatchResult r (λ plan. effect_of plan ≡ load_effect number) (λ stop. stop ≡ stops.Memory)
 DecidesLoad _ r = Unit {0}
 
 -- and then
 abbrev pub DoesLoad : Ask → (out out' : SinkState) → Result Status Stop → Type 0
-DoesLoad (load ask) out out' r = Loaded ask out out' (status_in r)
+DoesLoad (load number) out out' r = Loaded number out out' (status_in r)
 DoesLoad _ out out' r = Unit {0}
 
 -- ---- until the command had decided
@@ -83,4 +83,4 @@ pub record Acted (words : List (List ℕ)) (m m' : Moment) (r : Result Status St
   pub out : PutsNothing m m' ⊎ (m.sources.files.told ≡ true → HasFinding (question_in words) (contents_in m))
   pub moves : (ask : Ask) → words_of words ≡ Some ask → Moves ask m.sources m'.sources r
   pub ended : IfOk r (λ given. ends_in words given ≡ true)
-  pub loads : (ask : LoadAsk) → words_of words ≡ Some (load ask) → Loaded ask m.out m'.out (status_in r)
+  pub loads : (number : ℕ) → words_of words ≡ Some (load number) → Loaded number m.out m'.out (status_in r)

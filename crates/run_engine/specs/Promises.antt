@@ -9,7 +9,7 @@ use Rattle.command_frame.specs.Answer.{Effect}
 use Rattle.command_frame.specs.Moments.{AreSteady, Moment, Reach, files_alone}
 use Rattle.command_frame.specs.Status.{can_breach, can_refuse}
 use Rattle.command_frame.specs.Whole.{HasFailed, IsDone}
-use Rattle.command_words.specs.Ask.{CheckAsk, CompileAsk, DealAsk, EvalAsk, RunAsk}
+use Rattle.command_words.specs.Ask.{CompileAsk, DealAsk, EvalAsk, RunAsk}
 use Rattle.protocol_model.specs.Network.{Accepted, Delivery}
 use Rattle.input_share.specs.Dealing.{need_of}
 use Rattle.language_model.specs.Reports.{Report}
@@ -48,8 +48,8 @@ Keeps Wanted Refused ends before after given = KeepsOf files_alone can_refuse Wa
 -- ---- the effects
 
 -- of `check`, over an accepted program within the limits
-abbrev pub CheckEffect : CheckAsk → Contents → Effect → Type 0
-CheckEffect ask files effect = (program : TypedProgramTree) × HoldsTyped ask.program files program × (effect ≡ check_effect)
+abbrev pub CheckEffect : (path : List ℕ) → Contents → Effect → Type 0
+CheckEffect path files effect = (program : TypedProgramTree) × HoldsTyped path files program × (effect ≡ check_effect)
 
 -- of `compile`, over an accepted program within the limits: its code, with a function for each instance that it reaches
 abbrev pub CompileEffect : CompileAsk → Contents → Effect → Type 0

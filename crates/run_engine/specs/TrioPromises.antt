@@ -1,12 +1,11 @@
 -- Three miners that run as programs of their own: what `trio` does, what it writes and starts, and what it is refused for.
 use Rattle.std.specs.Prelude.{◌≡◌, ◌<◌, ◌≤◌, ◌⊎◌, ℕ, ℤ, List, ◌++◌, length, true, false, Some, Ok, Err}
-use Rattle.outside.specs.Causes.{Rose}
 use Rattle.outside.specs.Files.{Contents, file_at}
 use Rattle.outside.specs.Spawner.{SpawnerState}
 use Rattle.reached_instances.specs.Instances.{Instance}
 use Rattle.reached_instances.specs.Reached.{IsReachedList}
 use Rattle.command_frame.specs.declared.status.Status.{Status}
-use Rattle.command_frame.specs.declared.status.Status.TheVariants.{Child, Disagree, File, Input, TapeFile, Write}
+use Rattle.command_frame.specs.declared.status.Status.TheVariants.{Child, Disagree, Input, TapeFile}
 use Rattle.command_frame.specs.Answer.{Effect, Written, after_writes, behind}
 use Rattle.command_frame.specs.Moments.{Moment}
 use Rattle.command_frame.specs.Status.{is_end, of_texts}
@@ -28,12 +27,12 @@ use Rattle.trio.specs.Children.{is_end_status}
 use Rattle.trio.specs.Joining.{Difference, Joined, joined_of}
 use Rattle.trio.specs.Words.{out_path}
 use Rattle.trio_command.specs.Deciding.{trio_reach}
-use Rattle.trio_command.specs.Launching.{AreRun, AreStarted}
 use Rattle.trio_command.specs.Trio.{compile_part, undealt_effect, words_for}
 use Rattle.typed_tree.specs.Programs.{TypedProgramTree}
 use Rattle.value_file.specs.declared.inputs.Entry.{Entry}
 use Rattle.value_file.specs.declared.read_err.ReadErr.{ReadErr}
 use Rattle.value_file.specs.Input.{read_of as inputs_read_of}
+use Rattle.run_engine.specs.Deeds.{StartsByStatus}
 use Rattle.run_engine.specs.Promises.{Gives, is_refusal}
 
 -- why texts at these paths are refused with this status: the first that is there and not of its form, or two differ
@@ -109,15 +108,6 @@ pub record KeepsTrio (ask : TrioAsk) (files : Contents) (status : Number → ℤ
       is_refusal given ≡ true → is_end given ≡ false
       → TrioRefused ask files status given ⊎ ((given ≡ Child) × ChildrenRose trio_reach before after)
   pub refused_if : (wanted : Status) → TrioRefused ask files status wanted → (given ≡ wanted) ⊎ HasFailed trio_reach before after given
-
--- where files are dealt, miners 1, 2 and 3 were started with the words of `miner`, all before any was waited for, and then each was waited for: where it
--- has ended, where the output failed, and where two texts differ; so they were where a child or a text is the cause, but that a wait may have failed,
--- or a start, as the count of faults tells; at a file that fails it is so, or no child was started
-pub record StartsByStatus (words : Number → List (List ℕ)) (before after : SpawnerState) (given : Status) : Type 0 where
-  pub ended : (is_end given ≡ true) ⊎ (given ≡ Write) → AreRun words before after
-  pub differ : given ≡ Disagree → AreRun words before after
-  pub child : given ≡ Child → AreStarted words before after ⊎ Rose before.faults after.faults
-  pub file : given ≡ File → (after ≡ before) ⊎ AreRun words before after
 
 -- where nothing can be dealt, and where the program or a file is not as it must be, no child is started, however it stops
 pub record StartsMiners (ask : TrioAsk) (files : Contents) (before after : SpawnerState) (given : Status) : Type 0 where

@@ -10,7 +10,7 @@ use Rattle.command_words.specs.Ask.{Ask, run, deal, check, compile, eval, need, 
 use Rattle.program_commands.specs.Check.{check_of, check_paths}
 use Rattle.program_commands.specs.Compile.{compile_of, compile_paths, compiled_paths}
 use Rattle.program_commands.specs.Deal.{deal_of, deal_paths, written_paths}
-use Rattle.program_commands.specs.Eval.{eval_of, needs_of, eval_paths}
+use Rattle.program_commands.specs.Eval.{evaluation_of, eval_paths, eval_text, need_text}
 use Rattle.program_commands.specs.Judging.{Finding, FoundAt, Question, nothing, its_program}
 use Rattle.gather_command.specs.Gather.{gather_of, gather_paths, gathered_paths}
 use Rattle.join_command.specs.Join.{join_of, join_paths}
@@ -63,18 +63,18 @@ deciding question reads writes ends decide = record {
 abbrev pub conduct_of : Ask → Conduct
 conduct_of (run ask) = deciding (its_program ask.program) (run_paths ask) (ran_paths ask) is_end (λ told. run_of told.found ask told.outside.files)
 conduct_of (deal ask) = deciding nothing (deal_paths ask) (written_paths ask.to) is_done (λ told. deal_of ask told.outside.files)
-conduct_of (check ask) = deciding (its_program ask.program) (check_paths ask) [] is_done (λ told. check_of told.found ask told.outside.files)
+conduct_of (check path) = deciding (its_program path) (check_paths path) [] is_done (λ told. check_of told.found path told.outside.files)
 conduct_of (compile ask) =
     deciding (its_program ask.program) (compile_paths ask) (compiled_paths ask) is_done (λ told. compile_of told.found ask told.outside.files)
-conduct_of (eval ask) = deciding (its_program ask.program) (eval_paths ask) [] is_end (λ told. eval_of told.found ask told.outside.files)
-conduct_of (need ask) = deciding (its_program ask.program) (eval_paths ask) [] is_end (λ told. needs_of told.found ask told.outside.files)
+conduct_of (eval ask) = deciding (its_program ask.program) (eval_paths ask) [] is_end (λ told. evaluation_of eval_text told.found ask told.outside.files)
+conduct_of (need ask) = deciding (its_program ask.program) (eval_paths ask) [] is_end (λ told. evaluation_of need_text told.found ask told.outside.files)
 conduct_of (map_tape ask) =
     deciding (its_program ask.program) (map_paths ask) (mapped_paths ask) is_done (λ told. map_of told.found ask told.outside.files)
 conduct_of (simulate ask) =
     deciding (its_program ask.program) (simulate_paths ask) (simulated_paths ask.view) is_done (λ told. simulate_of told.found ask told.outside.files)
 conduct_of (twin ask) =
     deciding (its_program ask.program) (twin_paths ask) (twinned_paths ask.to) is_done (λ told. twin_of told.found ask told.outside.files)
-conduct_of (load ask) = deciding nothing [] [] is_end (λ told. load_of ask)
+conduct_of (load number) = deciding nothing [] [] is_end (λ told. load_of number)
 conduct_of (gather ask) = deciding nothing (gather_paths ask) (gathered_paths ask.to) is_done (λ told. gather_of ask told.outside.files)
 conduct_of (join ask) = record (deciding nothing (join_paths ask) [] is_end (λ told. join_of ask told.outside.files)) { reach = texts_alone }
 conduct_of (miner ask) = record (deciding nothing (miner_paths ask) (text_paths ask) is_end

@@ -3,9 +3,8 @@ ghost use Rattle.std.specs.Prelude.{◌≡◌, false};
 ghost use Rattle.outside.specs.Sink.{SinkState};
 ghost use Rattle.command_words.specs.Views.{ask_of, texts};
 ghost use Rattle.run_engine.specs.Call.{Call};
-ghost use Rattle.run_engine.specs.Commands.{Commands};
+ghost use Rattle.run_engine.specs.Deeds.{Deeds};
 ghost use Rattle.run_engine.specs.Headline.{Given, Headline, IsGiven};
-ghost use Rattle.run_engine.specs.Laws.{Laws};
 ghost use Rattle.run_engine.specs.Obeying.{Acted, Obeyed, Planned};
 ghost use Rattle.run_engine.specs.Told.{moment_of, sources_of};
 ghost use Rattle.run_engine.specs.Words.{reach_miners, reach_of, start_programs};
@@ -99,7 +98,8 @@ fn act<F: Files, O: Sink, L: Links, C: Spawner>(
 ///
 /// `out` is where the command prints, `err` where it says why it stopped. What the words ask for (the answer: the files to write, the
 /// text and the status, or a refusal) is decided by them, by what the objects tell as they are handed over, and by what the text of
-/// the program that the words name is judged to be.
+/// the program that the words name is judged to be. What each command keeps by what the files hold is the law `commands_are_kept`, and
+/// what is true of the files whatever a call does is `files_keep_laws`.
 pub fn secrec<F: Files, O: Sink, E: Sink, L: Links, C: Spawner>(
     alloc: Global,
     words: &[String],
@@ -114,20 +114,17 @@ pub fn secrec<F: Files, O: Sink, E: Sink, L: Links, C: Spawner>(
         (moment_of (F.state files.old) (O.state out.old) (E.state err.old) (L.state links.old) (C.state children.old))
         (moment_of (F.state files.new) (O.state out.new) (E.state err.new) (L.state links.new) (C.state children.new)) result }
 
-    // What each command keeps.
-    ensures commands { Commands (texts words.now)
-        (moment_of (F.state files.old) (O.state out.old) (E.state err.old) (L.state links.old) (C.state children.old))
-        (moment_of (F.state files.new) (O.state out.new) (E.state err.new) (L.state links.new) (C.state children.new)) result }
-
     // What every call keeps, whatever its words ask for.
     ensures call { Call (texts words.now)
         (moment_of (F.state files.old) (O.state out.old) (E.state err.old) (L.state links.old) (C.state children.old))
         (moment_of (F.state files.new) (O.state out.new) (E.state err.new) (L.state links.new) (C.state children.new)) result }
+
+    // What a call does that its answer doesn't tell: what it sends to peers, and which programs it starts.
+    ensures deeds { Deeds (texts words.now)
+        (moment_of (F.state files.old) (O.state out.old) (E.state err.old) (L.state links.old) (C.state children.old))
+        (moment_of (F.state files.new) (O.state out.new) (E.state err.new) (L.state links.new) (C.state children.new)) result }
     ensures links_unused { reach_miners (texts words.now) ≡ false → links.new ≡ links.old }
     ensures children_unused { start_programs (texts words.now) ≡ false → children.new ≡ children.old }
-
-    // What is true of the files, whatever a call does.
-    ensures laws { Laws (texts words.now) (F.state files.old).contents }
 {
     let ended = act(alloc, words, files, out, links, children);
     let _ = say(err, &ended);
