@@ -9,7 +9,7 @@ from pathlib import Path
 
 @dataclass(frozen=True)
 class Block:
-    """A fenced block: what stands behind its opening fence, the page's line of that, and its text."""
+    """A fenced block: what stands after its opening fence, the page's line of that, and its text."""
 
     info: str
     line: int
@@ -40,7 +40,7 @@ def blocks(page: str) -> Iterator[Block]:
 
 
 def commands(block: Block) -> Iterator[Command]:
-    """The commands of a console block: each stands behind `$ `, and what it prints below it."""
+    """The commands of a console block: each stands after `$ `, and what it prints below it."""
     words, at, shown = None, 0, []
     for number, line in enumerate(block.text.splitlines(), block.line + 1):
         if line.startswith("$ "):

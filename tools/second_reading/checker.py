@@ -252,7 +252,7 @@ class BodyChecker:
             self.refuse(private, condition.place)
 
     def counted_loop(self, loop: For) -> None:
-        """A `for`: its condition is judged behind its step."""
+        """A `for`: its condition is judged after its step."""
         self.scopes.append({})
         if loop.first is not None:
             self.statement(loop.first)

@@ -74,7 +74,7 @@ class FormMaker:
         return bisect_right(self.line_starts, node.place)
 
     def stored(self, kind: int, wanted: int) -> int:
-        """The kind behind a classification, where one is wanted."""
+        """The kind after a classification, where one is wanted."""
         if wanted & PRIVATE and not kind & PRIVATE:
             self.form.classified += 1
             return kind | PRIVATE

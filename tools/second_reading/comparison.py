@@ -174,7 +174,7 @@ class Folder:
 
 
 def untold(answer: Answer) -> Answer:
-    """The answer where the output takes nothing: a text that can't be printed is a fault, behind all writes."""
+    """The answer where the output takes nothing: a text that can't be printed is a fault, after all writes."""
     return Answer(16, b"", b"error: write\n", answer.written) if answer.out else answer
 
 

@@ -138,7 +138,7 @@ TRAPS = (
 
 
 def traps(source: random.Random) -> Iterator[Limited]:
-    """Each trap behind words that were opened."""
+    """Each trap after words that were opened."""
     for body in TRAPS * 6:
         yield Limited(case_of(source, body, 2))
 

@@ -105,7 +105,7 @@ class Reader:
             parts.append(self.escape())
 
     def escape(self) -> str:
-        """What stands behind a backslash; two halves of a pair are one character."""
+        """What stands after a backslash; two halves of a pair are one character."""
         if not self.sees("u"):
             sign = self.text[self.place : self.place + 1]
             if sign not in ESCAPES:

@@ -47,7 +47,7 @@ class Parser:
         raise Refused(sign, self.now.place)
 
     def take(self, deepest: int = 0) -> Token:
-        """The token, where the least tree behind it reaches no deeper than the limit."""
+        """The token, where the least tree after it reaches no deeper than the limit."""
         if deepest > self.limit:
             self.refuse("Y2")
         token = self.now
@@ -143,7 +143,7 @@ class Parser:
         return self.type_behind(domain)
 
     def type_behind(self, domain: Word | None) -> TypeName:
-        """The data type and the dimension behind a domain."""
+        """The data type and the dimension after a domain."""
         word = self.want(*DATA_TYPES).text
         data = DATA_TYPES[word]
         dimension = 0
@@ -338,7 +338,7 @@ class Parser:
         return Declare(place, written, name, size, value)
 
     def assignment(self, name: Word, index: Node | None, tall: int, depth: int) -> Node:
-        """The rest of an assignment behind its place, whose index has the height `tall`."""
+        """The rest of an assignment after its place, whose index has the height `tall`."""
         target = Place(name.place, name.text, index)
         if self.sees("="):
             self.take(depth + 1 + tall)
@@ -363,7 +363,7 @@ class Parser:
         return self.operators(left, tall, depth, level)
 
     def operators(self, left: Node, tall: int, depth: int, level: int) -> tuple[Node, int]:
-        """What follows behind a left operand of height `tall`."""
+        """What follows after a left operand of height `tall`."""
         while self.now.kind is Kind.WORD and LEVEL_OF.get(self.now.text, -1) >= level:
             token = self.take(depth + tall)
             right, right_tall = self.leveled(depth + 1, LEVEL_OF[token.text] + 1)

@@ -483,7 +483,7 @@ class Body(Expressions):
             return f"return {self.words(kind, 0, False)} ;"
 
     def choice(self, depth: int) -> str:
-        """An `if`, perhaps with more of them behind, and a last `else`."""
+        """An `if`, perhaps with more of them after, and a last `else`."""
         made = f"if ( {self.words(FLAG, 2)} ) {self.branch(depth)}"
         while self.often(0.3):
             made += f" else if ( {self.words(FLAG, 2)} ) {self.block(depth, 3)}"

@@ -188,7 +188,7 @@ CALLS = [
 
 
 def templates() -> Iterator[str]:
-    """Heads, bodies and calls of templates, before and behind `main`."""
+    """Heads, bodies and calls of templates, before and after `main`."""
     for head, body, call in itertools.product(HEADS, HEAD_BODIES, CALLS):
         template = f"template <{head}> {body}\n"
         yield in_main(call, template, "")
@@ -436,7 +436,7 @@ BEGINNINGS = [
 
 
 def grammar() -> Iterator[str]:
-    """Each token behind each beginning."""
+    """Each token after each beginning."""
     tokens = (
         "import kind domain template public void uint64 uint bool if else while do for break continue return assert true false "
         "argument publish declassify ( ) [ ] { } < > , ; : = + - * / % & | ^ ! == != <= >= && || += -= *= &= |= ^= ++ -- "

@@ -88,7 +88,7 @@ class Flip(Node):
 
 @dataclass(eq=False)
 class Cast(Node):
-    """An expression behind a data type in parentheses."""
+    """An expression after a data type in parentheses."""
 
     data: Data
     inner: Node

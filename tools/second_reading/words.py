@@ -11,7 +11,7 @@ TAPE_WORDS_LIMIT = 1 << 24
 
 @dataclass(frozen=True)
 class Form:
-    """The places of a command in their order, the options that it must have, those that it may have, and whether behind its places stand
+    """The places of a command in their order, the options that it must have, those that it may have, and whether after its places stand
     one word or more."""
 
     places: tuple[str, ...]
@@ -89,7 +89,7 @@ def value_behind(rest: Iterator[str]) -> str:
 
 
 def placed(form: Form, words: list[str]) -> tuple[dict[str, str], tuple[str, ...]]:
-    """The values of places and options, and the words behind the places; options stand anywhere up to `--`, each once."""
+    """The values of places and options, and the words after the places; options stand anywhere up to `--`, each once."""
     values: dict[str, str] = {}
     listed: list[str] = []
     places, rest, ended = list(form.places), iter(words), False

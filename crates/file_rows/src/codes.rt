@@ -8,7 +8,7 @@ use verified_code::{CodeProblem, verify};
 // The code of a `main` with one instruction, but this.
 const HEAD: [u8; 16] = [83, 67, 51, 80, 1, 0, 0, 1, 0, 0, 0, 255, 0, 0, 1, 0];
 
-// What stands behind it: the end of the function, with a byte more, and cut off; a number that no instruction has; and the function gives
+// What stands after it: the end of the function, with a byte more, and cut off; a number that no instruction has; and the function gives
 // back a register, where it has none.
 const ENDINGS: [&[u8]; 5] = [&[24], &[24, 0], &[], &[25], &[23, 0, 0]];
 

@@ -113,7 +113,7 @@ fn tell_reached(alloc: Global, lines: &mut Lines, typed: &TypedProgram) {
     }
 }
 
-// The typed tree of a program behind what stands before each.
+// The typed tree of a program after what stands before each.
 fn typed_behind(alloc: Global, rest: &str) -> Option<TypedProgram> {
     let source = format!(in alloc; "{DECLARED}{rest}").ok()?;
     typed(alloc, source.as_str())

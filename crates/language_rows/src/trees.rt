@@ -86,7 +86,7 @@ fn spell(lines: &mut Lines, tree: &Expression) {
     lines.add("]");
 }
 
-// The height of a tree and the column of the token behind it, and the tree.
+// The height of a tree and the column of the token after it, and the tree.
 fn tell_parsed(lines: &mut Lines, parsed: &Parsed, rest: &[Token]) {
     let column = match rest.first() {
         Some(token) => token.place.column,

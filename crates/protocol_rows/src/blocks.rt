@@ -23,7 +23,7 @@ fn tell_link(lines: &mut Lines, name: &str) {
     }
 }
 
-// A miner's number, those before and behind it in the ring, and its links to the next and the previous one.
+// A miner's number, those before and after it in the ring, and its links to the next and the previous one.
 fn tell_miner<P: Party>(lines: &mut Lines) {
     let me = P::number();
     let (before, behind) = (me.previous().as_u8(), me.next().as_u8());
@@ -39,7 +39,7 @@ fn tell_share(lines: &mut Lines, block: &Block<AddRing, P1>, at: usize) {
     }
 }
 
-// How many of 600 words a block takes, its length and the length of a copy; and the shares at the end and behind it.
+// How many of 600 words a block takes, its length and the length of a copy; and the shares at the end and after it.
 fn tell_full_block(lines: &mut Lines) {
     let mut block: Block<AddRing, P1> = Block::new();
     let empty = u64::from(block.is_empty());

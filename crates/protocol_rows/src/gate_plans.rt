@@ -35,7 +35,7 @@ fn tell_made(lines: &mut Lines, name: &str, gates: usize, mask: u64, values: &Va
     line(lines, "", values.value(count.saturating_sub(1)));
 }
 
-// How many gates a plan has, a word that may be drawn, how many values there are behind its operands then, and the last.
+// How many gates a plan has, a word that may be drawn, how many values there are after its operands then, and the last.
 fn tell_masks(alloc: Global, lines: &mut Lines, name: &str, gates: &[Gate], before: &[[u64; 3]]) {
     for mask in MASKS {
         match made(alloc, mask, gates, before) {

@@ -4,7 +4,7 @@ use Rattle.std.specs.Fmt.{decimal}
 use Rattle.std.specs.List.{flat_map}
 use Rattle.outside.specs.Spawner.{ChildCall, started, awaited}
 
--- a word behind a blank
+-- a word after a blank
 abbrev pub word_told : List ℕ → List ℕ
 word_told word = codes " " ++ word
 

@@ -185,7 +185,7 @@ fn same_sent(report: &mut Lines, row: &Row, outcome: &Outcome, name: &str) -> bo
     )
 }
 
-// Adds each word behind a blank.
+// Adds each word after a blank.
 fn add_words(line: &mut String, words: &[String]) -> Result<(), AllocError>
     ensures { OnOk result (string_bytes line.new ≡ string_bytes line.old ++ flat_map word_told (map string_bytes words.now)) }
 {

@@ -143,7 +143,7 @@ fn put_text(row: &mut Row, text: &str) {
     row.put(text.as_bytes());
 }
 
-// Adds what stands before a part of an entry and the part, which ends with a blank. Gives back the parts behind it.
+// Adds what stands before a part of an entry and the part, which ends with a blank. Gives back the parts after it.
 fn add_part<'a>(row: &mut Row, before: &str, parts: &'a str) -> &'a str {
     put_text(row, before);
     match parts.split_once(' ') {

@@ -99,7 +99,7 @@ fn kind_of(word: &str) -> Option<Kind> {
     }
 }
 
-// Begins a text. One line of what is printed can stand behind the word.
+// Begins a text. One line of what is printed can stand after the word.
 fn add_text(alloc: Global, row: &mut Row, kind: Kind, text: &str) {
     match kind {
         Kind::Arriving | Kind::Sent => match text {

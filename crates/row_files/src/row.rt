@@ -30,7 +30,7 @@ pub enum Kind {
     Before,
     /// What stands in the place of the first `~` of a line.
     Between,
-    /// What stands behind the program of a line.
+    /// What stands after the program of a line.
     After,
 }
 

@@ -3,7 +3,7 @@ use crate::row::{Kind, Row};
 use crate::wrong::Fault;
 use std::alloc::Global;
 
-// What a byte behind a backslash stands for.
+// What a byte after a backslash stands for.
 fn escaped(byte: u8) -> Option<u8> {
     match byte {
         b'n' => Some(b'\n'),
@@ -39,7 +39,7 @@ fn add_text(row: &mut Row, text: &str) {
     }
 }
 
-// The program of a line: what stands before and behind it, and in the place of its first `~`, is the group's.
+// The program of a line: what stands before and after it, and in the place of its first `~`, is the group's.
 fn add_program(row: &mut Row, group: &Row, text: &str) {
     row.put(group.bytes(Kind::Before, ""));
     match (group.find(Kind::Between, ""), text.split_once('~')) {
@@ -54,7 +54,7 @@ fn add_program(row: &mut Row, group: &Row, text: &str) {
     row.put(group.bytes(Kind::After, ""));
 }
 
-/// The place behind these bytes: the line and the column, from 1.
+/// The place after these bytes: the line and the column, from 1.
 pub fn place_behind(bytes: &[u8]) -> (usize, usize) {
     let mut line = 1usize;
     let mut column = 1usize;
