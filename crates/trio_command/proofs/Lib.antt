@@ -1,5 +1,6 @@
 pub mod Ended
 pub mod Launches
+mod LaunchesBack
 pub mod Planned
 pub mod Prepares
 pub mod Ran
