@@ -19,4 +19,4 @@ pub faultless-if : (b : Bool) (p : Span) (problem : TypeProblem) → is_without 
 faultless-if true p problem = refl
 faultless-if false p problem = refl
 
-pub ruleset appends = (least-append, faultless-append, faultless-if)
+pub ruleset joins = (least-append, faultless-append, faultless-if)

@@ -327,7 +327,8 @@ mutual
         ap (λ o. option_map Value (option_and_then (negation_type p) (value_of o))) x.1 ∙ ap (option_map Value) (negation_typed p x.0 own),
       )
   typed w s (cast p element e) k g h =
-      let x = part_value w s e (typed w s e k g) h in (Value (cast_type element x.0), ap (λ o. option_map Value (option_map (cast_type element) (value_of o))) x.1)
+      let x = part_value w s e (typed w s e k g) h in
+      (Value (cast_type element x.0), ap (λ o. option_map Value (option_map (cast_type element) (value_of o))) x.1)
   typed w s (binary p op a b) k g h =
       let hs = parts (value_faults w s a ++ value_faults w s b) (of_typed (value_type w s a) (λ x. of_typed (value_type w s b) (operator_faults p op x))) h in
       let vs = parts (value_faults w s a) (value_faults w s b) hs.0 in

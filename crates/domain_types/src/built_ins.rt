@@ -13,7 +13,7 @@ use declarations::BuiltIn;
 use sc_text::Span;
 use secrec_ast::DataType;
 
-#[tactic(auto, using(crate::proofs::Faults::appends), unfolding(crate::specs::ExpressionTypes::built_in_faults, crate::specs::ExpressionTypes::built_in_result))]
+#[tactic(auto, using(crate::proofs::Faults::joins), unfolding(crate::specs::ExpressionTypes::built_in_faults, crate::specs::ExpressionTypes::built_in_result))]
 fn size(
     least_fault: &mut Option<TypeFault>,
     place: Span,
@@ -42,7 +42,7 @@ fn size(
     })
 }
 
-#[tactic(auto, using(crate::proofs::Faults::appends), unfolding(crate::specs::ExpressionTypes::built_in_faults, crate::specs::ExpressionTypes::built_in_result))]
+#[tactic(auto, using(crate::proofs::Faults::joins), unfolding(crate::specs::ExpressionTypes::built_in_faults, crate::specs::ExpressionTypes::built_in_result))]
 fn cat(
     least_fault: &mut Option<TypeFault>,
     place: Span,
@@ -69,7 +69,7 @@ fn cat(
     })
 }
 
-#[tactic(auto, using(crate::proofs::Faults::appends), unfolding(crate::specs::ExpressionTypes::built_in_faults, crate::specs::ExpressionTypes::built_in_result))]
+#[tactic(auto, using(crate::proofs::Faults::joins), unfolding(crate::specs::ExpressionTypes::built_in_faults, crate::specs::ExpressionTypes::built_in_result))]
 fn sum(
     least_fault: &mut Option<TypeFault>,
     place: Span,
@@ -95,7 +95,7 @@ fn sum(
     })
 }
 
-#[tactic(auto, using(crate::proofs::Faults::appends), unfolding(crate::specs::ExpressionTypes::built_in_faults, crate::specs::ExpressionTypes::built_in_result))]
+#[tactic(auto, using(crate::proofs::Faults::joins), unfolding(crate::specs::ExpressionTypes::built_in_faults, crate::specs::ExpressionTypes::built_in_result))]
 fn bit_extract(
     least_fault: &mut Option<TypeFault>,
     place: Span,

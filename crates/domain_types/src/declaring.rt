@@ -68,7 +68,7 @@ fn is_argument(e: &Expression) -> bool
 }
 
 // The size of an array of this type, where both have types.
-#[tactic(auto, using(crate::proofs::Faults::appends), unfolding(crate::specs::StatementTypes::sized_faults))]
+#[tactic(auto, using(crate::proofs::Faults::joins), unfolding(crate::specs::StatementTypes::sized_faults))]
 fn sized(
     least_fault: &mut Option<TypeFault>,
     place: Span,
@@ -95,7 +95,7 @@ fn sized(
 }
 
 // The size of an array of this type, and the scalar that fills it.
-#[tactic(auto, using(crate::proofs::Faults::appends), unfolding(crate::specs::StatementTypes::filled_faults))]
+#[tactic(auto, using(crate::proofs::Faults::joins), unfolding(crate::specs::StatementTypes::filled_faults))]
 fn fill(
     least_fault: &mut Option<TypeFault>,
     size_place: Span,
@@ -133,7 +133,7 @@ fn filled(
 }
 
 // The initialiser of a variable of the declared type, without a size: it may be an argument, which has that type.
-#[tactic(auto, using(crate::proofs::Faults::appends))]
+#[tactic(auto, using(crate::proofs::Faults::joins))]
 fn first_value<'p>(
     found: &mut Found,
     here: &Setting<'_, 'p>,
@@ -156,7 +156,7 @@ fn first_value<'p>(
 }
 
 // The size and the initialiser of a variable of the declared type.
-#[tactic(auto, using(crate::proofs::Faults::appends))]
+#[tactic(auto, using(crate::proofs::Faults::joins))]
 fn initial<'p>(
     found: &mut Found,
     here: &Setting<'_, 'p>,
@@ -196,7 +196,7 @@ fn initial<'p>(
 }
 
 /// Declares a variable, and checks its declaration.
-#[tactic(auto, using(crate::proofs::Faults::appends))]
+#[tactic(auto, using(crate::proofs::Faults::joins))]
 pub fn declaration<'p>(
     found: &mut Found,
     here: &Setting<'_, 'p>,
@@ -218,7 +218,7 @@ pub fn declaration<'p>(
 }
 
 // What is assigned to.
-#[tactic(auto, using(crate::proofs::Faults::appends))]
+#[tactic(auto, using(crate::proofs::Faults::joins))]
 fn target<'p>(
     found: &mut Found,
     here: &Setting<'_, 'p>,
@@ -254,7 +254,7 @@ fn target<'p>(
 }
 
 /// Checks an assignment.
-#[tactic(auto, using(crate::proofs::Faults::appends))]
+#[tactic(auto, using(crate::proofs::Faults::joins))]
 pub fn assignment<'p>(
     found: &mut Found,
     here: &Setting<'_, 'p>,

@@ -75,7 +75,7 @@ fn may_be_bound(
 }
 
 // The domain variables may be bound as the arguments bind them.
-#[tactic(auto, using(crate::proofs::Faults::appends))]
+#[tactic(auto, using(crate::proofs::Faults::joins))]
 fn may_all_be_bound(
     least_fault: &mut Option<TypeFault>,
     place: Span,
@@ -120,7 +120,7 @@ fn binding(
 }
 
 // Each argument goes to its parameter.
-#[tactic(auto, using(crate::proofs::Faults::appends))]
+#[tactic(auto, using(crate::proofs::Faults::joins))]
 fn arguments_fit<'p>(
     least_fault: &mut Option<TypeFault>,
     callee: &Setting<'_, 'p>,
@@ -148,7 +148,7 @@ fn arguments_fit<'p>(
 }
 
 /// The rule of a call of a function of the program: the domains of its domain variables, where the call is not refused.
-#[tactic(auto, using(crate::proofs::Faults::appends), unfolding(crate::specs::ExpressionTypes::defined_faults))]
+#[tactic(auto, using(crate::proofs::Faults::joins), unfolding(crate::specs::ExpressionTypes::defined_faults))]
 pub fn defined_call<'p>(
     least_fault: &mut Option<TypeFault>,
     here: &Setting<'_, 'p>,

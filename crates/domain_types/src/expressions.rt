@@ -132,7 +132,7 @@ fn with_argument(
 
 /// The type of an expression, if it has one.
 #[cycle(expressions)]
-#[tactic(auto, using(crate::proofs::Faults::appends))]
+#[tactic(auto, using(crate::proofs::Faults::joins))]
 pub fn expression<'p>(
     found: &mut Found,
     here: &Setting<'_, 'p>,
@@ -195,7 +195,7 @@ pub fn expression<'p>(
 
 /// The value that an expression gives, if it has a type: a void call is a fault.
 #[cycle(expressions)]
-#[tactic(auto, using(crate::proofs::Faults::appends))]
+#[tactic(auto, using(crate::proofs::Faults::joins))]
 pub fn value<'p>(
     found: &mut Found,
     here: &Setting<'_, 'p>,

@@ -48,7 +48,7 @@ fn one_returns(list: &Vec<Statement>) -> bool
 }
 
 // Declares the parameters, which belong to the body's block.
-#[tactic(auto, using(crate::proofs::Faults::appends))]
+#[tactic(auto, using(crate::proofs::Faults::joins))]
 fn parameters<'p>(
     least_fault: &mut Option<TypeFault>,
     here: &Setting<'_, 'p>,
@@ -101,7 +101,7 @@ fn returns_on_every_way(least_fault: &mut Option<TypeFault>, function: &Function
 }
 
 /// Checks the function that `here` is in, whose domain variables are bound as it says.
-#[tactic(auto, using(crate::proofs::Faults::appends))]
+#[tactic(auto, using(crate::proofs::Faults::joins))]
 pub fn function(found: &mut Found, here: &Setting<'_, '_>) -> Result<(), AllocError>
     ensures least_fault { IfOk result
         (λ _. found.new.least_fault ≡ least found.old.least_fault (function_faults (setting here.now) (function_tree here.now.function.now))) }

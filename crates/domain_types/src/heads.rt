@@ -87,7 +87,7 @@ fn is_in_parameter(name: &str, parameters: &[Parameter]) -> bool
 }
 
 // A domain variable after others.
-#[tactic(auto, using(crate::proofs::Faults::appends))]
+#[tactic(auto, using(crate::proofs::Faults::joins))]
 fn domain_variable<'p>(
     least_fault: &mut Option<TypeFault>,
     declarations: &Declarations<'p>,
@@ -116,7 +116,7 @@ fn domain_variable<'p>(
 }
 
 /// Checks the head of a function: the kinds and the names of its domain variables, and that each stands in a parameter.
-#[tactic(auto, using(crate::proofs::Faults::appends))]
+#[tactic(auto, using(crate::proofs::Faults::joins))]
 pub fn head<'p>(
     least_fault: &mut Option<TypeFault>,
     declarations: &Declarations<'p>,

@@ -40,7 +40,7 @@ fn is_new<'p>(
 }
 
 // What a declaration does against the rules, after these kinds and domains and after these functions.
-#[tactic(auto, using(crate::proofs::Faults::appends))]
+#[tactic(auto, using(crate::proofs::Faults::joins))]
 fn item_faults<'p>(
     least_fault: &mut Option<TypeFault>,
     declarations: &Declarations<'p>,
@@ -79,7 +79,7 @@ fn item_faults<'p>(
 }
 
 /// Checks the names of the declarations.
-#[tactic(auto, using(crate::proofs::Faults::appends))]
+#[tactic(auto, using(crate::proofs::Faults::joins))]
 pub fn items<'p>(
     alloc: Global,
     least_fault: &mut Option<TypeFault>,

@@ -79,7 +79,7 @@ fn is_division(op: Operator) -> bool
 }
 
 // The rule of an operator.
-#[tactic(auto, using(crate::proofs::Faults::appends), unfolding(crate::specs::ExpressionTypes::operator_faults, crate::specs::ExpressionTypes::operator_type))]
+#[tactic(auto, using(crate::proofs::Faults::joins), unfolding(crate::specs::ExpressionTypes::operator_faults, crate::specs::ExpressionTypes::operator_type))]
 fn operate(
     least_fault: &mut Option<TypeFault>,
     place: Span,
@@ -130,7 +130,7 @@ pub fn operation(
 }
 
 /// The rule of `!`.
-#[tactic(auto, using(crate::proofs::Faults::appends), unfolding(crate::specs::ExpressionTypes::negation_faults, crate::specs::ExpressionTypes::negation_type))]
+#[tactic(auto, using(crate::proofs::Faults::joins), unfolding(crate::specs::ExpressionTypes::negation_faults, crate::specs::ExpressionTypes::negation_type))]
 pub fn negation(
     least_fault: &mut Option<TypeFault>,
     place: Span,
@@ -146,7 +146,7 @@ pub fn negation(
 }
 
 // The rule of an element of an array, whose index begins at `at`.
-#[tactic(auto, using(crate::proofs::Faults::appends), unfolding(crate::specs::ExpressionTypes::index_faults, crate::specs::ExpressionTypes::index_type))]
+#[tactic(auto, using(crate::proofs::Faults::joins), unfolding(crate::specs::ExpressionTypes::index_faults, crate::specs::ExpressionTypes::index_type))]
 fn element(
     least_fault: &mut Option<TypeFault>,
     place: Span,

@@ -93,7 +93,7 @@ fn flow(
 }
 
 /// A value goes to a variable, a parameter or a result.
-#[tactic(auto, using(crate::proofs::Faults::appends))]
+#[tactic(auto, using(crate::proofs::Faults::joins))]
 pub fn store(
     least_fault: &mut Option<TypeFault>,
     place: Span,
@@ -125,7 +125,7 @@ pub fn store_typed(
 }
 
 /// A public scalar is wanted; a private one is this problem.
-#[tactic(auto, using(crate::proofs::Faults::appends))]
+#[tactic(auto, using(crate::proofs::Faults::joins))]
 pub fn scalar(
     least_fault: &mut Option<TypeFault>,
     element: DataType,

@@ -40,7 +40,7 @@ pub fn statements<'p>(
 
 /// Checks a statement.
 #[cycle(statements)]
-#[tactic(auto, using(crate::proofs::Faults::appends))]
+#[tactic(auto, using(crate::proofs::Faults::joins))]
 pub fn statement<'p>(
     found: &mut Found,
     here: &Setting<'_, 'p>,

@@ -16,7 +16,7 @@ use secrec_ast::{DataType, Expression};
 use std::alloc::AllocError;
 
 /// A condition or an assertion: a public truth value is wanted, where a private one is this problem.
-#[tactic(auto, using(crate::proofs::Faults::appends))]
+#[tactic(auto, using(crate::proofs::Faults::joins))]
 pub fn test<'p>(
     found: &mut Found,
     here: &Setting<'_, 'p>,

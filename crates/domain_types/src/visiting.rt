@@ -153,7 +153,7 @@ fn head_if<'p>(
 }
 
 /// Checks the head of each function that is called.
-#[tactic(auto, using(crate::proofs::Faults::appends))]
+#[tactic(auto, using(crate::proofs::Faults::joins))]
 pub fn called_heads<'p>(
     least_fault: &mut Option<TypeFault>,
     declarations: &Declarations<'p>,

@@ -1,6 +1,6 @@
 // The code of expressions. They call one another, so they stand together. A node has the row where its code begins for its value and for
-// its first operand, and the rows after it for the others, but a variable's value stands in its slot. Kinds are read off the notes of the tree, of which each function takes those of its own expressions: the time
-// grows with the size of a tree.
+// its first operand, and the rows after it for the others, but a variable's value stands in its slot. Kinds are read off the notes of the
+// tree, of which each function takes those of its own expressions: the time grows with the size of a tree.
 ghost use Rattle.std.specs.Prelude.{◌≡◌, ◌∷◌, [], IfOk, OnOk, false, length, map};
 ghost use Rattle.typed_tree.specs.Tree.{binary_node, call_node, cat_node, cut_node, element_node, typed_tree, typed_trees_of};
 ghost use Rattle.verified_code.specs.Steps as S;

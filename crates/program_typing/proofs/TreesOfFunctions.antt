@@ -64,7 +64,9 @@ slot_domain_there d fs vs ds (domain.Named x) p e = go (variable_number x.text v
 
     go : (o : Option ℕ) → (o ≡ None → bound_to x.text (bind vs ds) ≡ None) → (y : SlotDomain) × (domain_named (with_functions d fs) x.text o ≡ Some y)
     go (Some k) h = (Variable k, refl)
-    go None h = private_there (number_in x.text d.domains) p (ap (λ o. option_or o (option_map protection.Private (number_in x.text d.domains))) (sym (h refl)) ∙ e)
+    go None h =
+        private_there (number_in x.text d.domains) p
+        (ap (λ o. option_or o (option_map protection.Private (number_in x.text d.domains))) (sym (h refl)) ∙ e)
 
 pub written_there : (d : Declared) (fs : List FunctionTree) (f : FunctionTree) (ds : List Protection) (t : DeclaredType) (v : ValueType)
     → type_written (within d f ds) t ≡ Some v → IsWritten (with_functions d fs) f.variables t

@@ -146,7 +146,8 @@ trap_end_read : (word kind line_word line cost_word cost : List ℕ) (e : End) �
     trap_end_in kind line_word line cost_word cost ≡ Some e →
     EndRead (word ∷ kind ∷ line_word ∷ line ∷ cost_word ∷ cost ∷ []) e
 trap_end_read word kind line_word line cost_word cost e same h =
-    next_found (λ k. option_and_then (λ _. option_and_then (behind k) (number_in (2 ^ 32) line)) (fixed (codes "line") line_word)) (one_of trap_word traps kind) e h
+    next_found (λ k. option_and_then (λ _. option_and_then (behind k) (number_in (2 ^ 32) line)) (fixed (codes "line") line_word))
+    (one_of trap_word traps kind) e h
     (λ k first after_kind.
     next_found (λ _. option_and_then (behind k) (number_in (2 ^ 32) line)) (fixed (codes "line") line_word) e after_kind
     (λ u second after_word.
@@ -169,7 +170,8 @@ tape_end_read : (word owner need_word need have_word have cost_word cost : List 
     tape_end_in owner need_word need have_word have cost_word cost ≡ Some e →
     EndRead (word ∷ owner ∷ need_word ∷ need ∷ have_word ∷ have ∷ cost_word ∷ cost ∷ []) e
 tape_end_read word owner need_word need have_word have cost_word cost e same h =
-    next_found (λ o. option_and_then (λ _. option_and_then (needed o) (number_in (2 ^ 128) need)) (fixed (codes "need") need_word)) (one_of owner_digit owners_of_tapes owner) e h
+    next_found (λ o. option_and_then (λ _. option_and_then (needed o) (number_in (2 ^ 128) need)) (fixed (codes "need") need_word))
+    (one_of owner_digit owners_of_tapes owner) e h
     (λ o first after_owner.
     next_found (λ _. option_and_then (needed o) (number_in (2 ^ 128) need)) (fixed (codes "need") need_word) e after_owner
     (λ u second after_word.

@@ -20,7 +20,8 @@ returns-then-not-is_idle-clause-exactly g c =
     elim c.then-not-is_idle.branch [
       | then-not-is_idle-via-then-not-is_idle w ↦ busy-no-store i array e (c.is_idle.ensures.at_work w.if-not-is_idle.true)
       | then-not-is_idle-via-else-not-is_idle+then-not-is_all w ↦ planned-no-store i array e (w.is_all.ensures.not_all w.if-not-is_all.true)
-      | then-not-is_idle-via-else-not-is_idle+else-not-is_all+then-len-self-ne1 w ↦ many-no-store i array e (λ one. w.if-len-self-ne1.true (omega (arith, one, w.len.ensures)))
+      | then-not-is_idle-via-else-not-is_idle+else-not-is_all+then-len-self-ne1 w ↦
+          many-no-store i array e (λ one. w.if-len-self-ne1.true (omega (arith, one, w.len.ensures)))
     ]
 
 pub returns-then-operand-array-clause-exactly : goal.returns-then-operand-array-clause-exactly
