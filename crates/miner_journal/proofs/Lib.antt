@@ -1,0 +1,17 @@
+pub mod Holding
+pub mod Looks
+pub mod Torn
+pub mod Moments
+pub mod Records
+pub mod Standing
+pub mod KeptRecords
+pub mod WriteSyncs
+pub mod Filling
+pub mod Beginnings
+pub mod Gates
+pub mod Walks
+pub mod Openings
+pub mod Opened
+pub mod Courses
+pub mod Spelled
+pub mod Replays
