@@ -1,0 +1,4 @@
+pub mod Sequences
+pub mod Results
+pub mod Twins
+pub mod Vectors
