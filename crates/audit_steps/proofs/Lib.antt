@@ -1,0 +1,5 @@
+pub mod GotLines
+pub mod InputLines
+pub mod LastLines
+mod Links
+pub mod Places

@@ -1,0 +1,4 @@
+pub mod Found
+pub mod FoundLaws
+pub mod Sums
+pub mod Vectors

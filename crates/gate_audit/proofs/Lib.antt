@@ -1,0 +1,4 @@
+pub mod Steps
+pub mod Dealt
+pub mod Passed
+pub mod Read

@@ -1,0 +1,5 @@
+pub mod Numbers
+pub mod Furthest
+pub mod Merged
+pub mod Complete
+pub mod Drawn

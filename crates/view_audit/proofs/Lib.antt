@@ -1,0 +1,11 @@
+pub mod Asked
+pub mod Fit
+pub mod LastLines
+pub mod Nothing
+pub mod Padded
+pub mod Passed
+pub mod Refuted
+pub mod Shown
+pub mod Undealt
+pub mod Whole
+pub mod Zeros
