@@ -90,6 +90,11 @@ keep_proved() {
   exec 9>&-
 }
 
+# Proves, tries and builds what stands in the folder one is in, as many crates side by side as tools/lanes.py says.
+prove_all() {
+  RT_JOBS=$(python3 "$top/tools/lanes.py") rt ci
+}
+
 # Proves and builds in a copy that has the program's crates alone, and moves what came out to .build/SUM.
 make_build() {
   local sum=$1 minutes status
@@ -110,7 +115,7 @@ make_build() {
   tell_progress "$build/log" 9>&- &
   teller=$!
   status=0
-  (cd "$scratch" && rt ci) >"$build/log" 2>&1 </dev/null 9>&- || status=$?
+  (cd "$scratch" && prove_all) >"$build/log" 2>&1 </dev/null 9>&- || status=$?
   kill "$teller" 2>/dev/null || true
   wait "$teller" 2>/dev/null || true
   teller=
