@@ -35,7 +35,7 @@ _secrec() {
     load) options='--number' program=none ;;
     gather) options='--me --to' list=yes ;;
     join) options='' list=yes ;;
-    miner) options='--me --share --tape --port --out --budget' code=yes ;;
+    miner) options='--me --share --tape --port --out --budget --wait --log' code=yes ;;
     trio) options='--input --tape --to --port --budget' ;;
     help) [ "$COMP_CWORD" -ne 2 ] || _secrec_words 'check compile eval need run deal map simulate twin load gather join miner trio'; return ;;
     *) return ;;
@@ -44,8 +44,8 @@ _secrec() {
   if [ "$current" = '=' ]; then current=''; elif [ "${COMP_WORDS[before]}" = '=' ]; then before=$((before - 1)); fi
   case ${COMP_WORDS[before]} in
     --input | --second | --public) _secrec_files '*.json'; return ;;
-    --code | --tape | --to | --schedule | --record | --views | --sim | --opened | --view | --share | --out) _secrec_files '*'; return ;;
-    --seed | --words | --budget | --shuffle | --number | --port) return ;;
+    --code | --tape | --to | --schedule | --record | --views | --sim | --opened | --view | --share | --out | --log) _secrec_files '*'; return ;;
+    --seed | --words | --budget | --shuffle | --number | --port | --wait) return ;;
     --me) _secrec_words '1 2 3'; return ;;
   esac
   for ((k = 2; k < COMP_CWORD; k++)); do

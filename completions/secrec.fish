@@ -36,6 +36,8 @@ complete -c secrec -n '__fish_seen_subcommand_from load' -l number -x -d 'What t
 complete -c secrec -n '__fish_seen_subcommand_from compile' -l code -r -F -d 'Where the code goes'
 complete -c secrec -n '__fish_seen_subcommand_from gather miner' -l me -x -a '1 2 3' -d 'The miner'
 complete -c secrec -n '__fish_seen_subcommand_from miner' -l share -r -F -d 'The share file of the miner'
+complete -c secrec -n '__fish_seen_subcommand_from miner' -l wait -x -d 'For how many seconds it waits for peers'
+complete -c secrec -n '__fish_seen_subcommand_from miner' -l log -r -F -d 'Where lines of its start, peers and end are added'
 complete -c secrec -n '__fish_seen_subcommand_from miner' -l out -r -F -d 'Where the text of the miner goes'
 complete -c secrec -n '__fish_seen_subcommand_from miner trio' -l port -x -d 'The first of three ports'
 complete -c secrec -n '__fish_seen_subcommand_from gather join miner' -F

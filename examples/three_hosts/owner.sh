@@ -4,12 +4,11 @@ set -eu
 . "$(dirname -- "$0")/parts.sh"
 work=$(mktemp -d)
 trap 'rm -rf "$work"' EXIT
-# (how many words a run takes; only the dealer's are used, since each host draws its own)
-need=$("$secrec" need "$1" --input "$2" --budget "$budget")
-# shellcheck disable=SC2086
-"$random_tape" ${need#need } --to "$work/words.tape"
-"$secrec" deal --input "$2" --tape "$work/words.tape" --to "$work/share"
-for me in 1 2 3; do
-  host=host$me
-  send "${!host}" "$work/share.$me"
-done
+need=$("$secrec" need "$1" --input "$2" --budget "$budget") || {
+  status=$?
+  say "nothing is dealt: $1 doesn't come to its end with a budget of $budget (status $status)"
+  exit "$status"
+}
+# (how many words a run takes: after the dealer's, which dealing counts itself, those of each host)
+read -ra words <<<"${need#need }"
+deal_to_hosts "$2" share "${words[@]:1}"

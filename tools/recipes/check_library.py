@@ -181,7 +181,7 @@ def page_shows(page: Path, folder: Path, environment: dict[str, str]) -> tuple[i
         where = work
         for block in blocks(text):
             kind, _, name = block.info.partition(" ")
-            if kind == "secrec":
+            if kind in ("secrec", "result"):
                 same(f"{page.name}:{block.line}: this stands in {name}", True, block.text in (folder / name).read_text())
                 pieces += 1
             elif kind == "console":

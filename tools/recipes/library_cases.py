@@ -3,59 +3,11 @@ from __future__ import annotations
 
 import random
 import statistics
-from collections.abc import Callable
-from dataclasses import dataclass
 from fractions import Fraction
 from math import ceil, floor
 
-WORDS = 1 << 64
-Value = int | bool | list[int] | list[bool]
-Told = list[tuple[str, Value]]
-
-
-@dataclass(frozen=True)
-class Entry:
-    """One entry of an input file."""
-
-    name: str
-    private: bool
-    value: Value
-
-    def as_json(self) -> dict[str, object]:
-        first = self.value[0] if isinstance(self.value, list) and self.value else self.value
-        kind = "bool" if isinstance(first, bool) else "uint64"
-        return {"name": self.name, "domain": "private" if self.private else "public", "type": kind, "value": self.value}
-
-
-class Given:
-    """The inputs of a case, by name."""
-
-    def __init__(self, entries: list[Entry]):
-        self.entries = entries
-        for entry in entries:
-            setattr(self, entry.name, entry.value)
-
-
-def private(name: str, value: Value) -> Entry:
-    return Entry(name, True, value)
-
-
-def public(name: str, value: Value) -> Entry:
-    return Entry(name, False, value)
-
-
-def pay(chance: random.Random, n: int) -> Entry:
-    """With some that are equal."""
-    return private("pay", [chance.randrange(900, 900 + 3 * n + 5) for _ in range(n)])
-
-
-def signed(number: int) -> int:
-    """A word for a number with a sign."""
-    return number % WORDS
-
-
-def number_of(word: int) -> int:
-    return word - WORDS if word >= WORDS // 2 else word
+from published_cases import PUBLISHED
+from recipe_parts import WORDS, Entry, Given, Recipe, Told, Value, number_of, pay, private, public, region_inputs, signed
 
 
 def sign_lines(number: int) -> Told:
@@ -73,14 +25,6 @@ def ranks(numbers: list[int]) -> list[int]:
     for rank, place in enumerate(order):
         found[place] = rank
     return found
-
-
-@dataclass(frozen=True)
-class Recipe:
-    """Made inputs for n people, and what is published of them."""
-
-    inputs: Callable[[random.Random, int], list[Entry]]
-    told: Callable[[Given], Told]
 
 
 def slice_told(given: Given) -> Told:
@@ -118,10 +62,6 @@ def join_told(given: Given) -> Told:
     table = dict(zip(given.employed, given.pay, strict=True))
     found = [table[key] for key in given.insured if key in table]
     return [("in_both", len(found)), ("pay_of_insured", sum(found))]
-
-
-def region_inputs(chance: random.Random, n: int) -> list[Entry]:
-    return [private("region", [chance.randrange(4) for _ in range(n - 1)] + [2]), pay(chance, n)]
 
 
 def mean_told(given: Given) -> Told:
@@ -192,6 +132,7 @@ RECIPES = {
     "top": Recipe(lambda chance, n: [pay(chance, n), public("k", 3)], top_told),
     "signs": Recipe(signs_inputs, signs_told),
     "empty": Recipe(lambda chance, n: [*region_inputs(chance, n), public("wanted", 2)], empty_told),
+    **PUBLISHED,
 }
 
 

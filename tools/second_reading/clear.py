@@ -8,6 +8,7 @@ from functools import lru_cache
 import tree
 from gates import DRAWN, MASK, Gate, GateList, Kind, Ring
 from tree import Data, TypeName
+from word_lists import changed
 
 ARRAY_LIMIT = 1 << 20
 DEPTH_LIMIT = 64
@@ -448,8 +449,11 @@ class Evaluation:
         if array.type.private:
             operands = (array.number, value.number)
             number = self.making(lambda made: made.make(Kind.PUT, operands, len(array.words), None, (index,)))
-        words = array.words[:index] + value.words + array.words[index + 1 :]
-        scope[name] = Value(array.type, words, number)
+        scope[name] = Value(array.type, changed(array.words, index, self.stored_word(name, value.words[0])), number)
+
+    def stored_word(self, _name: str, word: int) -> int:
+        """The word that an element of this array gets."""
+        return word
 
     # Expressions
 
@@ -529,7 +533,7 @@ class Evaluation:
         if not value.type.private:
             return Value(public, value.words)
         self.making(lambda made: made.make(Kind.OPEN, (value.number,), len(value.words), value.type.ring))
-        words = value.words if self.answers is None else self.answer(value)
+        words = tuple(value.words) if self.answers is None else self.answer(value)
         self.events.append(Event(None, value.type.data, words))
         self.opened.extend(words)
         return Value(public, words)
@@ -547,7 +551,7 @@ class Evaluation:
         self.charge_rest(len(value.words))
         if value.type.private:
             self.making(lambda made: made.make(Kind.RESULT, (value.number,), len(value.words), value.type.ring))
-        self.events.append(Event(name, value.type.data, value.words))
+        self.events.append(Event(name, value.type.data, tuple(value.words)))
 
     def argument(self, node: tree.Argument, wanted: ValueType) -> Value:
         return self.asked(node.name, wanted, node)

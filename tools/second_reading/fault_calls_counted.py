@@ -1,6 +1,6 @@
 #!/usr/bin/env python3
 """fault_calls_counted FOLDER: writes commands.rows and processes.rows, one row a command, made by the model of this folder, and prints the lines that
-`fault_rows` must print of them: how many calls of each object there are to fail.
+`rows` must print of them where each call fails once: how many calls of each object there are to fail.
 
 Counted by hand, from what is said of the commands: of files one call for each that is read and for each that is written, of a view two, one for its first
 line and one for what comes after it, which is short here; of a tape that is drawn from its file, which is a miner's own and that of `run`, one for its

@@ -6,12 +6,13 @@ import re
 import subprocess
 from dataclasses import dataclass, field
 
-from . import explain_files, explain_input, explain_program, explain_run
+from . import cures, explain_files, explain_input, explain_program, explain_run
 from .commands import Table
 from .findings import Finding
 from .manual import form_of, rows_of, sign_of
 from .program import NoProgram, find_program
 from .reading import entries, verdict
+from .standard_input import descriptors, held
 
 REFUSAL = re.compile(r"(error: )?([LYDX]\d+|I\d|Q\d|S\d|V\d|Z\d|[NCBM]\d+)( (line|column|entry|place|need|have|link|sent|miner|public|opened|\d+|[a-z_A-Z0-9]+))*")
 LINE = re.compile(r"error: \S.*|end (done|trap|budget|tape)\b.*|need \d+ \d+ \d+ \d+")
@@ -54,6 +55,7 @@ def read_call(table: Table, words: list[str]) -> Call:
         elif word not in ("1", "2", "3", "--"):
             call.program = word
     call.input = call.options.get("--input") or call.options.get("--public")
+    call.input = held(call.input) if call.input else None
     return call
 
 
@@ -85,7 +87,7 @@ def said_again(call: Call) -> str | None:
     except NoProgram:
         return said_by_reading(call)
     words = ["check", call.program] if call.input is None else ["eval", call.program, "--input", call.input, f"--budget={call.budget()}"]
-    found = subprocess.run([program, *words], capture_output=True, text=True, errors="replace")
+    found = subprocess.run([program, *words], capture_output=True, text=True, errors="replace", pass_fds=descriptors())
     if found.returncode == 0:
         return None
     told = (found.stderr if found.stderr.strip() else found.stdout).strip().split("\n")
@@ -122,6 +124,7 @@ def finding_of(line: str, call: Call) -> Finding:
         return explain_run.explain(line, call)
     if line.startswith("need "):
         finding = Finding(line, means="the words of the tapes of the dealer and of miners 1, 2 and 3 that the evaluation used, up to its end")
+        cures.of_call(finding, call, [int(one) for one in line.split()[1:5] if one.isdigit()])
         return unfit(finding, "where the status is 7 or 1 the evaluation ended at its budget or a trap, and the numbers are too small for the whole run: `eval` shows the end")
     if sign[:1] in PROGRAM_SIGNS and sign[1:].isdigit():
         text = call.text() if call.program else None

@@ -5,6 +5,7 @@ import os
 import struct
 from difflib import get_close_matches
 
+from . import cures
 from .explain_run import TAPES, asked
 from .findings import Finding, spot_of
 from .manual import form_of, rows_of, sign_of
@@ -42,6 +43,7 @@ def of_tape(finding: Finding, call):
         over = [(place, length) for place, length in enumerate(lengths) if length > TAPE_LIMIT]
         if over:
             finding.note(f"by its first 32 bytes {TAPES[over[0][0]]} would have {over[0][1]} words, and {TAPE_LIMIT} is the most")
+            cures.of_call(finding, call, list(lengths))
         else:
             wanted = 32 + 8 * sum(lengths)
             finding.note(f"{path} has lengths of {', '.join(map(str, lengths))} words, so it would have {wanted} bytes; it has {len(data)}")

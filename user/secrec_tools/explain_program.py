@@ -8,6 +8,7 @@ from .findings import Finding, spot_at, spot_of
 from .likeness import nearest, offset
 from .manual import place_of, rule_of, sign_of
 from .reading import checker, lexer, limits, parser, tree
+from .trade_words import row_of, said_of
 
 EXPRESSION = frozenset(["NAME", "NUMBER", "(", "!", "true", "false", "argument", "declassify", "publish"])
 OPERATORS = frozenset(parser.LEVEL_OF)
@@ -286,6 +287,8 @@ class Tracer(checker.BodyChecker):
             self.add(1, call.place, f"`{call.name}` comes with `import {'stdlib' if call.name == 'sum' else 'shared3p'};`")
         elif call.name not in functions:
             self.add(1, call.place, f"no function `{call.name}` is there" + (f"; is `{near[0]}` meant?" if near else ""))
+            if said_of(call.name):
+                self.add(1, call.place, said_of(call.name))
         elif call.name in self.names.functions:
             wanted = self.program.functions[self.names.functions[call.name]]
             self.add(13, call.place, f"`{call.name}` has {len(wanted.parameters)} parameters, and {len(call.arguments)} arguments are given", wanted.name.place)
@@ -340,6 +343,8 @@ def unknown_name(finding: Finding, names, program, text: bytes, at: int):
         near = get_close_matches(word, names.domains, 1, 0.6)
         declared = f"; is `{near[0]}` meant?" if near else f": declare it by `domain {word} shared3p;`"
         finding.note(f"`{word}` is no domain" + declared)
+        if said_of(word):
+            finding.note(said_of(word))
 
 
 def declared_twice(finding: Finding, path: str, text: bytes, names, program, at: int):
@@ -404,5 +409,6 @@ def explain(line: str, path: str, text: bytes) -> Finding:
     finding.spot = spot_of(path, text, *place)
     ways = {"L": of_token, "Y": of_tree, "D": of_types}
     ways[sign[0]](finding, path, text, at)
-    finding.row = nearest(sign, text, at)
+    word = text[at : lexer.word_end(text, at)].decode("ascii", "replace")
+    finding.row = (row_of(word) if sign == "D1" else None) or nearest(sign, text, at)
     return finding

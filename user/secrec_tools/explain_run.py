@@ -6,6 +6,7 @@ import re
 import subprocess
 from difflib import get_close_matches
 
+from . import cures
 from .findings import Finding, spot_at, spot_of
 from .manual import rows_of, sign_of
 from .program import NoProgram, find_program
@@ -101,9 +102,9 @@ class Traced(clear.Evaluation):
 
     def large_facts(self, node, frame):
         if isinstance(node, tree.Declare):
-            return [f"{self.expression(node.size, frame).words[0]} elements are asked for"]
+            return [f"{self.expression(node.size, frame).words[0]} elements are asked for", *cures.IN_PIECES]
         sizes = [len(self.expression(part, frame).words) for part in node.arguments]
-        return [f"`cat` of {sizes[0]} and {sizes[1]} elements" if node.name == "cat" else f"64 bits of each of {sizes[0]} elements"]
+        return [f"`cat` of {sizes[0]} and {sizes[1]} elements" if node.name == "cat" else f"64 bits of each of {sizes[0]} elements", *cures.IN_PIECES]
 
     def assertion_facts(self, node, frame):
         condition = node.condition
@@ -234,11 +235,13 @@ def of_tape(finding: Finding, call):
     found = re.search(r"tape (\d) need (\d+) have (\d+)", finding.line)
     if found:
         finding.note(f"{TAPES[int(found[1])]} has {found[3]} words, and {found[2]} were wanted so far")
-    if call.program is None or call.input is None:
+    if call.program is None or call.input is None or found and cures.of_call(finding, call, [int(found[2])]):
         return
     need = asked(["need", call.program, "--input", call.input, f"--budget={MOST}"])
     if need is not None and need.startswith("need "):
         words = need.removeprefix("need ")
+        if cures.of_call(finding, call, [int(one) for one in words.split()]):
+            return
         finding.note(f"the whole run takes {words}: `random_tape {words} --to NEW.tape` draws such tapes, and `secrec-job` does all of it")
 
 

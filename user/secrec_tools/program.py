@@ -11,6 +11,9 @@ import threading
 import time
 from dataclasses import dataclass
 
+from . import standard_input
+from .privacy import end_with_starter
+
 TOP = os.path.dirname(os.path.dirname(os.path.dirname(os.path.abspath(__file__))))
 CANT_START = 125
 PATIENCE = 2.0
@@ -59,13 +62,13 @@ def read_text(path: str) -> str:
 
 
 def version() -> str:
-    """Which proof the program below is of: the sums of its sources, of the kit and of itself."""
+    """Which release this is, and which proof the program below is of: the sums of its sources, of the kit and of itself."""
     program = os.environ.get("SECREC_PROGRAM") or f"{TOP}/proved/secrec"
     folder = os.path.dirname(program)
     name = os.path.basename(folder)
     sources = os.environ.get("SECREC_SUM") or read_text(f"{folder}/sum") or (name if SUM.fullmatch(name) else "")
     kit = read_text(f"{folder}/kit")
-    lines = [f"secrec of sources {sources or 'that nothing here names'}"]
+    lines = [f"secrec {read_text(f'{TOP}/VERSION') or 'of no release'} of sources {sources or 'that nothing here names'}"]
     if not os.access(program, os.X_OK):
         lines.append("not proved and built here yet")
     else:
@@ -194,7 +197,8 @@ def call(
     pipes = {name: subprocess.PIPE for name, way in (("stdout", out), ("stderr", err)) if way != "leave"}
     screen, ended, kept = Screen(), threading.Event(), (bytearray(), bytearray())
     began = time.monotonic()
-    child = subprocess.Popen(words, pass_fds=fds, start_new_session=starts or group is not None, **pipes)
+    descriptors, new_session = (*fds, *standard_input.descriptors()), starts or group is not None
+    child = subprocess.Popen(words, pass_fds=descriptors, start_new_session=new_session, preexec_fn=end_with_starter, **pipes)
     if group:
         group.begin(child.pid)
     threads = []

@@ -10,11 +10,13 @@ if FOLDER not in sys.path:
 import checker  # noqa: E402
 import clear  # noqa: E402
 import entries  # noqa: E402
+import gates  # noqa: E402
 import json_text  # noqa: E402
 import lexer  # noqa: E402
 import limits  # noqa: E402
 import parser  # noqa: E402
+import rounds  # noqa: E402
 import tree  # noqa: E402
 import verdict  # noqa: E402
 
-__all__ = ["checker", "clear", "entries", "json_text", "lexer", "limits", "parser", "tree", "verdict"]
+__all__ = ["checker", "clear", "entries", "gates", "json_text", "lexer", "limits", "parser", "rounds", "tree", "verdict"]

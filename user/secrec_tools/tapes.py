@@ -24,6 +24,12 @@ def write_tape(file, lengths: list[int]):
     file.flush()
 
 
+def write_dealer_tape(file, lengths: list[int]):
+    """Writes four lengths and the dealer's random words; the miners' words are a hole, which reads as zeros."""
+    file.write(head(lengths) + os.urandom(8 * lengths[0]))
+    file.truncate(8 * (len(lengths) + sum(lengths)))
+
+
 def open_private(path: str):
     """A new file that its owner alone may read; one that is there already stays, and this fails."""
     return os.fdopen(os.open(path, os.O_WRONLY | os.O_CREAT | os.O_EXCL, OWNER_ALONE), "wb")
