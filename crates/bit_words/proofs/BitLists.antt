@@ -10,8 +10,8 @@ use Rattle.std.proofs.lemmas.List.FromFn.{length-map-range_with_len, get_or-map-
 use Rattle.std.proofs.lemmas.Slice.Zip.{length-zip, get_or-zip}
 use Rattle.std.proofs.lemmas.Nat.{pow_pos, mod_below, xor_lt}
 use Rattle.std.proofs.lemmas.Nat.Bits.{bit_at-lt, bit_at-zero, bit_at_xor, same_from_bits_below}
-use Rattle.share_ring.specs.Words.{AreWords}
-use Rattle.share_ring.specs.Rings.{xor_ring}
+use Rattle.proto_core.specs.Words.{AreWords}
+use Rattle.proto_core.specs.Rings.{xor_ring}
 use Rattle.bit_words.specs.Bits.{words_for, bit_of, cut_at, word_with, words_with}
 use Rattle.bit_words.specs.Gathered.{word}
 use Rattle.bit_words.specs.Laws.{each_two}

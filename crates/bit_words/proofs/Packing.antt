@@ -9,8 +9,8 @@ use Rattle.std.proofs.lemmas.List.Concat.{flat_map-cons}
 use Rattle.std.proofs.lemmas.List.{length-map, get_or-map, get_or_append_left, get_or-append_right, get_or-set_same, get_or-set_other, get_or-replicate}
 use Rattle.std.proofs.lemmas.List.{length-replicate, get_or_past}
 use Rattle.std.proofs.lemmas.List.FromFn.{length-map-range_with_len, get_or-map-range_with_len}
-use Rattle.share_ring.specs.Words.{AreWords}
-use Rattle.share_ring.specs.Rings.{xor_ring}
+use Rattle.proto_core.specs.Words.{AreWords}
+use Rattle.proto_core.specs.Rings.{xor_ring}
 use Rattle.bit_words.specs.Bits.{words_for, bit_of, number_with, words_with}
 use Rattle.bit_words.specs.Gathered.{word, packed, unpacked, bits_repeated, bit_taken, bit_put, bits_joined, changed_at, joined_at}
 use Rattle.bit_words.specs.Laws.{AreBits, each_two, word_bits}

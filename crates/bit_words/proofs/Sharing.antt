@@ -6,8 +6,8 @@ use Rattle.std.proofs.Math.Nat.{mod-eq_of_lt}
 use Rattle.std.proofs.lemmas.Bool.{cases_lt}
 use Rattle.std.proofs.lemmas.Nat.{xor_lt}
 use Rattle.std.proofs.lemmas.Nat.Bits.{bit_at_xor, bit_at_lowest}
-use Rattle.share_ring.specs.Words.{AreWords}
-use Rattle.share_ring.specs.Rings.{xor_ring}
+use Rattle.proto_core.specs.Words.{AreWords}
+use Rattle.proto_core.specs.Rings.{xor_ring}
 use Rattle.bit_words.specs.Bits.{bit_of, words_with}
 use Rattle.bit_words.specs.Gathered.{word, packed, unpacked, bits_repeated, bit_taken, bit_put, bits_joined, changed_at, joined_at}
 use Rattle.bit_words.specs.Laws.{AddUp}

@@ -2,8 +2,8 @@
 use Rattle.std.specs.Prelude.{◌≡◌, ℕ, ◌+◌, ◌<◌, ◌≤◌, ◌%◌, min, List, [], ◌∷◌, ◌++◌, length, map, set, replicate}
 use Rattle.std.specs.List.{zip, flat_map, range_with_len}
 use Rattle.std.specs.Int.{bit_at}
-use Rattle.share_ring.specs.Words.{AreWords}
-use Rattle.share_ring.specs.Rings.{xor_ring}
+use Rattle.proto_core.specs.Words.{AreWords}
+use Rattle.proto_core.specs.Rings.{xor_ring}
 use Rattle.bit_words.specs.Bits.{words_for, bit_of}
 use Rattle.bit_words.specs.Gathered.{word, packed, unpacked, bits_repeated, bit_taken, bit_put, bits_joined}
 

@@ -9,7 +9,7 @@ use Rattle.sc_text.specs.declared.end.TrapKind.{TrapKind}
 use Rattle.sc_text.specs.declared.end.TapeOwner.{TapeOwner}
 use Rattle.sc_text.specs.declared.end.TapeOwner.TheVariants.{Miner1, Miner2, Miner3}
 use Rattle.sc_text.specs.declared.event.Event.{Event}
-use Rattle.sc_text.specs.declared.event.Event.TheVariants.{Open, Publish}
+use Rattle.sc_text.specs.declared.event.Event.TheVariants.{Open, Publish, Hand}
 use Rattle.gates.specs.declared.gate.Gate.{Gate}
 use Rattle.language_model.specs.Effects.{Words, World, Stage, Ended, Run, Effect, ◌>>=◌, carry, done, end, charge, test, fits, drawn_yet, take_words}
 use Rattle.language_model.specs.Effects.{draw, gate, next_number, put_gates, planned, emit}
@@ -48,6 +48,7 @@ pub record Alike {A B : Type 0} (R : A → B → Type 0) (c : Effect A) (c' : Ef
 same_event : (e : Event) → LikeEvent e e
 same_event (Open elements) = refl
 same_event (Publish text elements) = (refl, refl)
+same_event (Hand text elements) = (refl, refl)
 
 same_events : (es : List Event) → LikeEvents es es
 same_events [] = tt

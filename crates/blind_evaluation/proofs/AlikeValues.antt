@@ -1,6 +1,6 @@
 -- A value of the run without the private inputs beside the run's in the clear: only the words of a gate's value may differ.
 use Rattle.std.proofs.Common.{◌≡◌, ℕ, List, [], ◌∷◌, length, None, Bool, true, false, refl}
-use Rattle.typed_tree.specs.declared.kinds.Shape.{Shape}
+use Rattle.program_trees.specs.declared.kinds.Shape.{Shape}
 use Rattle.language_model.specs.Values.{Private, Value, plain, hidden, size, visible_words, never_stored, default_words}
 
 pub data LikeValues : Value → Value → Type 0 where

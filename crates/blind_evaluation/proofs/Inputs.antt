@@ -4,7 +4,7 @@ use Rattle.std.specs.Prelude.{map, sum, bytes_eq}
 use Rattle.sc_text.specs.declared.end.Ending.TheVariants as ending
 use Rattle.sc_text.specs.declared.end.TrapKind.TheVariants as trap
 use Rattle.gates.specs.declared.gate.Gate.TheVariants.{Input}
-use Rattle.typed_tree.specs.declared.kinds.Shape.{Shape}
+use Rattle.program_trees.specs.declared.kinds.Shape.{Shape}
 use Rattle.language_model.specs.Effects.{GivenInput, charge, test}
 use Rattle.language_model.specs.Operations.{charged}
 use Rattle.language_model.specs.Evaluation.{behind, input_from, input_named, is_as_declared, given_value, asked_for, either}

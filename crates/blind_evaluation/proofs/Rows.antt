@@ -9,18 +9,18 @@ use Rattle.std.proofs.Math.Seq.{take-append_seam, drop-append_seam}
 use Rattle.sc_text.specs.declared.end.TrapKind.TheVariants as trap
 use Rattle.sc_text.specs.declared.event.Event.{Event}
 use Rattle.sc_text.specs.declared.event.Event.TheVariants as event
-use Rattle.secrec_ast.specs.declared.expression.DataType.TheVariants.{Uint64}
-use Rattle.secrec_ast.specs.declared.expression.DataType.TheVariants as datatype
+use Rattle.program_trees.specs.declared.expression.DataType.TheVariants.{Uint64}
+use Rattle.program_trees.specs.declared.expression.DataType.TheVariants as datatype
 use Rattle.gates.specs.declared.gate.Gate.TheVariants.{Const, MulPub, Cat, Part, Put, Rep, Spread, Sum, Open}
 use Rattle.gates.specs.declared.gate.Gate.TheVariants as gates
 use Rattle.gates.specs.Clear.{bits_of, first_word}
 use Rattle.language_model.specs.BitExtract.{bits_plan}
-use Rattle.typed_tree.specs.declared.kinds.Shape.{Shape}
-use Rattle.typed_tree.specs.declared.operators.BinaryOperator.{BinaryOperator}
-use Rattle.typed_tree.specs.declared.operators.Operands.{Operands}
-use Rattle.typed_tree.specs.declared.operators.Cast.{Cast}
-use Rattle.typed_tree.specs.declared.operators.Cast.TheVariants.{WordToWord, WordToBool, BoolToWord, BoolToBool}
-use Rattle.typed_tree.specs.Shapes.{shape_of}
+use Rattle.program_trees.specs.declared.kinds.Shape.{Shape}
+use Rattle.program_trees.specs.declared.operators.BinaryOperator.{BinaryOperator}
+use Rattle.program_trees.specs.declared.operators.Operands.{Operands}
+use Rattle.program_trees.specs.declared.operators.Cast.{Cast}
+use Rattle.program_trees.specs.declared.operators.Cast.TheVariants.{WordToWord, WordToBool, BoolToWord, BoolToBool}
+use Rattle.program_trees.specs.Shapes.{shape_of}
 use Rattle.language_model.specs.Effects.{Words, words_each, Clear, Answers, World, Stage, Short, Effect, ◌>>=◌, carry, done, test, gate, draw}
 use Rattle.language_model.specs.Effects.{planned, emit, next_answers, show}
 use Rattle.language_model.specs.Values.{Secrecy, Private, Value, plain, is_secret, size, visible_words, is_true, ring_for, element_of, elements_of}
@@ -31,7 +31,7 @@ use Rattle.language_model.specs.Operations.{operator_gates, is_product, result_s
 use Rattle.language_model.specs.Operations.{operated, is_classified, operation, negated_from, negated, words_of_cast, cast_shape, cast_gates, changed}
 use Rattle.language_model.specs.Operations.{cast_from, cast_to, scalar_word, size_told, summed_from, summed, words_for_bits, bits_from}
 use Rattle.language_model.specs.Operations.{bits_extracted, concatenated_from, concatenated, position, element_from, element_of_array}
-use Rattle.language_model.specs.Operations.{with_element_from, with_element, filled_from, filled, handed_over, published, tested, asserted}
+use Rattle.language_model.specs.Operations.{with_element_from, with_element, filled_from, filled, handed_over, publication, published, tested, asserted}
 use Rattle.language_model.specs.Reports.{Offered, world_of, public_part}
 use Rattle.blind_evaluation.specs.Courses.{LikeEvent, LikeEvents}
 use Rattle.blind_evaluation.proofs.Alike.{retold, SameOutcome, Alike, alike_bind, alike_done, Same, Any, same_bind, any_bind, charge_alike}
@@ -408,8 +408,14 @@ module _ (o : Offered) where
   same_length : {v v' : Value} → LikeValues v v' → length (elements_of v) ≡ length (elements_of v')
   same_length {v = v} {v' = v'} l = length-map v.words (element_of v.shape.element) ∙ like_size l ∙ sym (length-map v'.words (element_of v'.shape.element))
 
+  same_publication : (text : List ℕ) {v v' : Value} → LikeValues v v'
+      → LikeEvent (publication v.secrecy text (elements_of v)) (publication v'.secrecy text (elements_of v'))
+  same_publication text (plains shape words) = (refl, refl)
+  same_publication text (unmade shape words) = (refl, refl)
+  same_publication text (made shape k words words' e) = (refl, same_length (made shape k words words' e))
+
   pub published_alike : (text : List ℕ) {v v' : Value} → LikeValues v v'
       → Alike (Any {A = Unit {0}} {B = Unit {0}}) (published clear text v) (published unseen text v')
   published_alike text {v = v} {v' = v'} l =
       any_bind (sized_alike l) (λ _ _. any_bind (handed_alike l)
-      (λ _ _. emit_alike (event.Publish text (elements_of v)) (event.Publish text (elements_of v')) (refl, same_length l)))
+      (λ _ _. emit_alike (publication v.secrecy text (elements_of v)) (publication v'.secrecy text (elements_of v')) (same_publication text l)))

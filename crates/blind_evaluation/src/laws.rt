@@ -1,6 +1,6 @@
 // What is true of every run, with and without the private inputs.
 ghost use Rattle.std.specs.Prelude.{ℕ, List, ◌++◌};
-ghost use Rattle.typed_tree.specs.Programs.{TypedProgramTree};
+ghost use Rattle.program_trees.specs.TypedPrograms.{TypedProgramTree};
 ghost use Rattle.language_model.specs.Reports.{Offered, eval, blind};
 ghost use Rattle.blind_evaluation.specs.Courses.{TakeSameCourse, IsEnded};
 

@@ -1,8 +1,11 @@
 -- Messages that were taken are the first of all that came.
-use Rattle.std.proofs.Common.{◌≡◌, ◌≢◌, ℕ, zero, suc, ◌+◌, ◌<◌, ◌≤◌, List, [], ◌∷◌, length, drop, length-drop, refl, sym, ◌∙◌, ap, get_or}
+use Rattle.std.proofs.Common.{◌≡◌, ◌≢◌, ℕ, zero, suc, ◌+◌, ◌<◌, ◌≤◌, List, [], ◌∷◌, ◌++◌, append_assoc, length, drop, length-drop, refl, sym, ◌∙◌, ap, get_or}
 use Rattle.std.proofs.Common.{drop-cons, add-one, arith}
 use Rattle.std.specs.List.{slice_get}
+use Rattle.std.specs.Prelude.{Some, None}
 use Rattle.std.proofs.lemmas.List.{drop-append-le, drop_all}
+use Rattle.std.proofs.lemmas.Option.{slice_get-get_or}
+use Rattle.proto_core.proofs.Beginnings.{append-none}
 use Rattle.block_steps.specs.Inboxes.{FrontIs, LetsGo}
 
 pub drop-taken : (k : ℕ) (xs : List (List ℕ)) → k < length xs → drop k xs ≡ get_or xs k [] ∷ drop (k + 1) xs
@@ -47,3 +50,24 @@ module _ {A : Type 0} where
   holds_none before after h none = h.all (sym (unread_same before after h) ∙ none)
 
 pub ruleset letting_go = (lets_go, lets_none_go, drop_all)
+
+-- ---- the messages from a number on
+
+some_same : (x y : List ℕ) → Some x ≡ Some y → x ≡ y
+some_same x y is = cc
+
+pub later_one :
+    (k : ℕ) (xs left : List (List ℕ)) (m : List ℕ) → k < length xs → slice_get xs k ≡ Some m → (left ++ m ∷ []) ++ drop (k + 1) xs ≡ left ++ drop k xs
+later_one k xs left m h here =
+    let is : get_or xs k [] ≡ m = some_same (get_or xs k []) m (sym (slice_get-get_or xs k [] h) ∙ here) in
+    let begins : drop k xs ≡ m ∷ drop (k + 1) xs = drop-taken k xs h ∙ ap (λ first. first ∷ drop (k + 1) xs) is in
+    append_assoc left (m ∷ []) (drop (k + 1) xs) ∙ ap (λ ms. left ++ ms) (sym begins)
+
+pub later_none : (k : ℕ) (xs : List (List ℕ)) → k < length xs → slice_get xs k ≡ None → ⊥
+later_none k xs h none = clash (get_or xs k []) (sym (slice_get-get_or xs k [] h) ∙ none)
+  where
+    clash : (x : List ℕ) → Some x ≡ None → ⊥
+    clash x is = cc
+
+pub later_all : (k : ℕ) (xs left : List (List ℕ)) → length xs ≤ k → left ++ drop k xs ≡ left
+later_all k xs left past = ap (λ ms. left ++ ms) (drop_all k xs past) ∙ append-none left

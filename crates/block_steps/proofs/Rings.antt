@@ -1,6 +1,6 @@
 -- Each step of a product, an opening and a resharing is the next one of the miner's part.
 use Rattle.std.proofs.Common.{◌≡◌, ℕ, ◌*◌, List, [], ◌∷◌, ◌++◌, length, refl, sym, ◌∙◌, ap, Some}
-use Rattle.share_ring.specs.Ring.{Ring}
+use Rattle.proto_core.specs.Ring.{Ring}
 use Rattle.proto_core.specs.declared.party.Number.{Number}
 use Rattle.proto_core.specs.Parties.{to_next, to_previous, from_previous, from_next}
 use Rattle.proto_core.specs.Strand.{Sent, Opened, Mail, Ends, Acts, run, rest_of, one_field}

@@ -1,7 +1,7 @@
 -- What is left of a block's protocol, by what a miner holds of it.
 use Rattle.std.specs.Prelude.{◌≡◌, ◌<◌, ℕ, List, [], ◌∷◌, length, Some, None}
-use Rattle.share_ring.specs.Ring.{Ring}
-use Rattle.share_ring.specs.Rings.{add_ring, xor_ring}
+use Rattle.proto_core.specs.Ring.{Ring}
+use Rattle.proto_core.specs.Rings.{add_ring, xor_ring}
 use Rattle.proto_core.specs.declared.party.Number.{Number}
 use Rattle.proto_core.specs.Strand.{Strand, Ends}
 use Rattle.multiply.specs.MulStrand.{mul_masked, mul_crossed}

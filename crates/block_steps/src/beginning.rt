@@ -5,7 +5,7 @@ ghost use Rattle.open_result.specs.Opening.{open_strand};
 ghost use Rattle.reshare.specs.Resharing.{reshare_strand};
 ghost use Rattle.split_share.specs.Splitting.{split_draws};
 ghost use Rattle.split_share.specs.SplitStrand.{split_strand};
-ghost use Rattle.joint_run.specs.Exchanges.{protocol_of};
+ghost use Rattle.gate_exchanges.specs.Exchanges.{protocol_of};
 ghost use Rattle.block_steps.specs.Outcomes.{outcome_of, IsBeside};
 ghost use Rattle.block_steps.specs.Pendings.{pending_left, progress_left, HasBegun};
 
@@ -13,8 +13,8 @@ use crate::links::Links;
 use crate::pending::Pending;
 use crate::progress::Progress;
 use crate::{converting, multiplying, opening, resharing, splitting};
+use gate_exchanges::Exchange;
 use gates::RingKind;
-use joint_run::Exchange;
 use proto_core::Party;
 use std::alloc::AllocError;
 

@@ -73,14 +73,14 @@ impl Inbox {
             self.taken += 1;
         }
     }
-    /// Lets go all messages, if all were taken; else it is as before.
+    /// Lets go all messages, if all were taken; else it is as before. The room that they took is kept.
     #[tactic(auto, using(crate::proofs::Inboxes::letting_go))]
-    pub fn let_go(&mut self, alloc: Global)
+    pub fn let_go(&mut self)
         ensures lets_go { LetsGo self.old self.new }
         ensures left { self.new.1 ≡ self.old.1 }
     {
         if self.taken == self.messages.len() {
-            self.messages = Messages::new(alloc);
+            self.messages.clear();
             self.taken = 0;
         }
     }

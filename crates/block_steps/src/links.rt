@@ -1,4 +1,4 @@
-ghost use Rattle.std.specs.Prelude.{◌≡◌, ◌≤◌, List, [], ◌∷◌, ◌++◌, length, OnOk, OnErr};
+ghost use Rattle.std.specs.Prelude.{◌≡◌, ◌≤◌, List, [], ◌∷◌, ◌++◌, length, drop, OnOk, OnErr, IfOk};
 ghost use Rattle.block_steps.specs.Inboxes.{LetsGo};
 ghost use Rattle.block_steps.specs.Outcomes.{came_from_previous, came_from_next};
 
@@ -14,6 +14,19 @@ pub struct Links {
     pub(crate) to_next: Messages,
     pub(crate) to_previous: Messages,
     pub(crate) opened: Vec<u64>,
+}
+
+/// The messages from a number on.
+fn later(alloc: Global, messages: &Messages, from: usize) -> Result<Messages, AllocError>
+    ensures { IfOk result (λ left. left ≡ drop from messages.now) }
+{
+    let mut left = Messages::new(alloc);
+    for at in from..messages.len() {
+        if let Some(words) = messages.lent(at) {
+            left.push_words(words)?;
+        }
+    }
+    Ok(left)
 }
 
 impl Links {
@@ -101,22 +114,39 @@ impl Links {
         ensures next_left { self.new.from_next.1 ≡ self.old.from_next.1 }
         ensures same { self.new ≡ record self.old { from_previous = self.new.from_previous; from_next = self.new.from_next } }
     {
-        let alloc = self.alloc();
-        self.from_previous.let_go(alloc);
-        self.from_next.let_go(alloc);
+        self.from_previous.let_go();
+        self.from_next.let_go();
     }
 
     /// Lets go the messages that went to the next miner.
     pub fn let_go_sent_to_next(&mut self)
         ensures { self.new ≡ record self.old { to_next = [] } }
     {
-        self.to_next = Messages::new(self.alloc());
+        self.to_next.clear();
     }
 
     /// Lets go the messages that went to the previous miner.
     pub fn let_go_sent_to_previous(&mut self)
         ensures { self.new ≡ record self.old { to_previous = [] } }
     {
-        self.to_previous = Messages::new(self.alloc());
+        self.to_previous.clear();
+    }
+
+    /// Lets go the first messages that went to the next miner, so many of them; with no memory left all is as before.
+    pub fn let_go_first_to_next(&mut self, count: usize) -> Result<(), AllocError>
+        ensures ok { OnOk result (self.new ≡ record self.old { to_next = drop count self.old.to_next }) }
+        ensures err { OnErr result (self.new ≡ self.old) }
+    {
+        self.to_next = later(self.alloc(), &self.to_next, count)?;
+        Ok(())
+    }
+
+    /// Lets go the first messages that went to the previous miner, so many of them; with no memory left all is as before.
+    pub fn let_go_first_to_previous(&mut self, count: usize) -> Result<(), AllocError>
+        ensures ok { OnOk result (self.new ≡ record self.old { to_previous = drop count self.old.to_previous }) }
+        ensures err { OnErr result (self.new ≡ self.old) }
+    {
+        self.to_previous = later(self.alloc(), &self.to_previous, count)?;
+        Ok(())
     }
 }

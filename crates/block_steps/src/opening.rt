@@ -8,9 +8,8 @@ ghost use Rattle.block_steps.specs.Pendings.{ring_left, progress_left, StandsThe
 use crate::links::Links;
 use crate::progress::Progress;
 use crate::ring_block::RingBlock;
-use proto_core::{BadMessage, Party};
+use proto_core::{BadMessage, Party, ShareRing};
 use reshare::ShareWords;
-use share_ring::ShareRing;
 use std::alloc::AllocError;
 
 /// Sends the mask.

@@ -1,5 +1,5 @@
 ghost use Rattle.std.specs.Prelude.{◌≡◌, OnOk, IfOk};
-ghost use Rattle.share_ring.specs.Rings.{add_ring, xor_ring};
+ghost use Rattle.proto_core.specs.Rings.{add_ring, xor_ring};
 ghost use Rattle.block_steps.specs.Dealt.{converting_left, splitting_left};
 ghost use Rattle.block_steps.specs.Outcomes.{outcome_of, AwaitsOn, Holds};
 ghost use Rattle.block_steps.specs.Pendings.{ring_left, pending_left, progress_left, StandsThen, Shorter};
@@ -9,8 +9,7 @@ use crate::links::Links;
 use crate::progress::Progress;
 use crate::ring_block::RingBlock;
 use crate::splitting::Splits;
-use proto_core::{Link, Party};
-use share_ring::{AddRing, XorRing};
+use proto_core::{AddRing, Link, Party, XorRing};
 use std::alloc::AllocError;
 
 /// A miner's part in a block of an exchange, which waits for a message.

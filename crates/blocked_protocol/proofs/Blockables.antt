@@ -1,6 +1,6 @@
 -- The protocols of the gates can be run block after block.
 use Rattle.std.proofs.Common.{◌*◌, Bool, refl, arith}
-use Rattle.share_ring.specs.Ring.{Ring}
+use Rattle.proto_core.specs.Ring.{Ring}
 use Rattle.proto_core.specs.declared.party.Number.{Number}
 use Rattle.proto_core.specs.declared.party.Number.TheVariants.{One, Two, Three}
 use Rattle.multiply.specs.Multiplying.{mul_protocol}

@@ -1,7 +1,7 @@
 -- Operations element by element, on words in front and words after them.
 use Rattle.std.proofs.Common.{◌≡◌, ℕ, zero, suc, ◌+◌, bit_xor, List, [], ◌∷◌, ◌++◌, length, take, drop, sym, ◌∙◌, ap, arith, append_assoc}
 use Rattle.std.proofs.lemmas.List.{get_or-take, get_or-drop}
-use Rattle.share_ring.specs.Ring.{Ring}
+use Rattle.proto_core.specs.Ring.{Ring}
 use Rattle.proto_core.specs.Lists.{at, each}
 use Rattle.proto_core.specs.Elementwise.{plus, minus}
 use Rattle.proto_core.specs.Resharing.{sum_of_three}

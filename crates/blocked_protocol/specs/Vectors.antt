@@ -1,7 +1,7 @@
 -- Worked values: two elements in two blocks of one. The first is 6 times 7 with masks 0, the second (1 + 2 + 3) times
 -- (4 + 5 + 6) with masks that are not 0. Each block's words stand together: a, b, c of the first, then of the second.
 use Rattle.std.specs.Prelude.{◌≡◌, false, [], ◌∷◌, refl}
-use Rattle.share_ring.specs.Rings.{add_ring}
+use Rattle.proto_core.specs.Rings.{add_ring}
 use Rattle.proto_core.specs.declared.party.Number.TheVariants.{One, Two, Three}
 use Rattle.proto_core.specs.declared.link.Link.TheVariants.{Link13, Link31}
 use Rattle.proto_core.specs.Lists.{each, part}

@@ -1,5 +1,5 @@
 ghost use Rattle.std.specs.Prelude.{Bool};
-ghost use Rattle.share_ring.specs.Ring.{Ring, RingLaws};
+ghost use Rattle.proto_core.specs.Ring.{Ring, RingLaws};
 ghost use Rattle.proto_core.specs.Protocol.{Lawful};
 ghost use Rattle.multiply.specs.Multiplying.{mul_protocol};
 ghost use Rattle.open_result.specs.Opening.{open_protocol};

@@ -4,8 +4,8 @@ use Rattle.std.proofs.Common.{refl, sym, ap, ◌∙◌, subst, inl, inr, arith, 
 use Rattle.std.proofs.lemmas.Bool.{lt-ltb, ltb-true, eqb-true, or_cases, and_parts}
 use Rattle.std.specs.List.{AllByRecursion as Each, All, flat_map}
 use Rattle.sc_text.specs.Name.{is_name}
-use Rattle.secrec_ast.specs.declared.expression.DataType.{DataType}
-use Rattle.secrec_ast.specs.declared.expression.DataType.TheVariants as types
+use Rattle.program_trees.specs.declared.expression.DataType.{DataType}
+use Rattle.program_trees.specs.declared.expression.DataType.TheVariants as types
 use Rattle.bytecode.specs.declared.kind.Kind.{Kind}
 use Rattle.bytecode.specs.Kinds.{kind_byte, is_kind, kind_of, return_byte, is_return, return_of}
 use Rattle.bytecode.specs.Raw.{Raw, RawFunction, RawCode}

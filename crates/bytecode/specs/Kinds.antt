@@ -1,7 +1,7 @@
 -- Kinds as bytes: bit 0 is set where private, bit 1 at bool, bit 2 at an array.
 use Rattle.std.specs.Prelude.{ℕ, ◌+◌, ◌/◌, ◌%◌, ◌==◌, ◌||◌, nat_lt, Bool, Option, None, Some, if◌then◌else◌}
-use Rattle.secrec_ast.specs.declared.expression.DataType.{DataType}
-use Rattle.secrec_ast.specs.declared.expression.DataType.TheVariants as types
+use Rattle.program_trees.specs.declared.expression.DataType.{DataType}
+use Rattle.program_trees.specs.declared.expression.DataType.TheVariants as types
 use Rattle.bytecode.specs.declared.kind.Kind.{Kind}
 
 abbrev pub element_bit : DataType → ℕ

@@ -1,7 +1,7 @@
 ghost use Rattle.std.specs.Prelude.{◌≡◌, ◌≤◌, if◌then◌else◌};
 ghost use Rattle.bytecode.specs.Kinds.{element_bit, kind_byte, kind_of, return_byte, return_of};
 
-use secrec_ast::DataType;
+use program_trees::DataType;
 
 /// What a register holds: a private or a public value, of elements of a type, one or an array of them.
 #[derive(Clone, Copy)]

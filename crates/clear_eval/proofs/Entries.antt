@@ -1,7 +1,7 @@
 -- The slots of a function that is entered.
 use Rattle.std.proofs.Common.{◌≡◌, ℕ, zero, suc, ◌<◌, ◌≤◌, List, [], ◌∷◌, length, refl, ◌∙◌, ap, get_or, arith}
 use Rattle.std.specs.List.{slice_get}
-use Rattle.typed_tree.specs.declared.kinds.Slot.{Slot}
+use Rattle.program_trees.specs.declared.kinds.Slot.{Slot}
 use Rattle.reached_instances.specs.declared.instance.BoundDomain.{BoundDomain}
 use Rattle.language_model.specs.Values.{Value}
 use Rattle.language_model.specs.Evaluation.{begins, behind_next, entered, nothing}

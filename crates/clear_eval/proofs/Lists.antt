@@ -2,12 +2,12 @@
 use Rattle.std.proofs.Common.{◌≡◌, ℕ, zero, suc, ◌+◌, ◌<◌, List, [], ◌∷◌, length, get_or, drop, refl, sym, ap, ◌∙◌, subst, add-one, arith}
 use Rattle.std.specs.Prelude.{map}
 use Rattle.std.proofs.Math.Seq.{drop-cons, drop-nil}
-use Rattle.typed_tree.specs.declared.kinds.Slot.{Slot}
-use Rattle.typed_tree.specs.declared.expression.TypedExpression.{TypedExpression}
-use Rattle.typed_tree.specs.declared.statement.TypedStatement.{TypedStatement}
-use Rattle.typed_tree.specs.Tree.{TypedTrees, also, typed_tree, typed_trees_of}
-use Rattle.typed_tree.specs.Statements.{TypedStatementTrees, typed_statement, typed_statements_of}
-use Rattle.typed_tree.specs.Sound.{IsSoundTree, AreSoundTrees, IsSoundStatementTree, AreSoundStatementTrees, count_of}
+use Rattle.program_trees.specs.declared.kinds.Slot.{Slot}
+use Rattle.program_trees.specs.declared.typed_expression.TypedExpression.{TypedExpression}
+use Rattle.program_trees.specs.declared.typed_statement.TypedStatement.{TypedStatement}
+use Rattle.program_trees.specs.TypedTree.{TypedTrees, also, typed_tree, typed_trees_of}
+use Rattle.program_trees.specs.TypedStatements.{TypedStatementTrees, typed_statement, typed_statements_of}
+use Rattle.program_trees.specs.Sound.{IsSoundTree, AreSoundTrees, IsSoundStatementTree, AreSoundStatementTrees, count_of}
 use Rattle.language_model.specs.Evaluation.{behind_next}
 use Rattle.value_steps.specs.declared.value.Value.{Value}
 use Rattle.clear_eval.specs.declared.place.StatementContext.{StatementContext}

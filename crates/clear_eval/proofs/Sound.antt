@@ -2,13 +2,13 @@
 use Rattle.std.proofs.Common.{◌≡◌, ℕ, zero, suc, ◌≤◌, List, [], ◌∷◌, length, refl, sym, subst}
 use Rattle.std.specs.Prelude.{map, Some}
 use Rattle.std.specs.List.{slice_get}
-use Rattle.typed_tree.specs.declared.expression.TypedExpression.{TypedExpression}
-use Rattle.typed_tree.specs.declared.function.TypedFunction.{TypedFunction}
-use Rattle.typed_tree.specs.declared.statement.TypedStatement.{TypedStatement}
-use Rattle.typed_tree.specs.Tree.{typed_tree}
-use Rattle.typed_tree.specs.Statements.{TypedStatementTree, typed_statement, typed_statements_of}
-use Rattle.typed_tree.specs.Programs.{typed_function_tree}
-use Rattle.typed_tree.specs.Sound.{parameters_of, AreSoundFunctions, IsSoundTree, IsSoundStatementTree, AreSoundStatementTrees}
+use Rattle.program_trees.specs.declared.typed_expression.TypedExpression.{TypedExpression}
+use Rattle.program_trees.specs.declared.typed_function.TypedFunction.{TypedFunction}
+use Rattle.program_trees.specs.declared.typed_statement.TypedStatement.{TypedStatement}
+use Rattle.program_trees.specs.TypedTree.{typed_tree}
+use Rattle.program_trees.specs.TypedStatements.{TypedStatementTree, typed_statement, typed_statements_of}
+use Rattle.program_trees.specs.TypedPrograms.{typed_function_tree}
+use Rattle.program_trees.specs.Sound.{parameters_of, AreSoundFunctions, IsSoundTree, IsSoundStatementTree, AreSoundStatementTrees}
 use Rattle.value_steps.specs.declared.value.Value.{Value}
 use Rattle.clear_eval.specs.declared.place.StatementContext.{StatementContext}
 use Rattle.clear_eval.specs.inner.Standing.{HasRoomFor, AreSoundAmong, IsSoundIn, IsSoundStatement, parameters_around}

@@ -2,11 +2,11 @@
 use Rattle.std.proofs.Common.{◌≡◌, ℕ, zero, suc, ◌+◌, ◌<◌, ◌≤◌, List, [], ◌∷◌, arith}
 use Rattle.std.specs.Prelude.{map, sum, Some}
 use Rattle.std.specs.List.{slice_get}
-use Rattle.typed_tree.specs.declared.expression.TypedExpression.{TypedExpression}
-use Rattle.typed_tree.specs.declared.statement.TypedStatement.{TypedStatement}
-use Rattle.typed_tree.specs.Tree.{typed_tree}
-use Rattle.typed_tree.specs.Statements.{typed_statement}
-use Rattle.typed_tree.specs.Programs.{TypedFunctionTree}
+use Rattle.program_trees.specs.declared.typed_expression.TypedExpression.{TypedExpression}
+use Rattle.program_trees.specs.declared.typed_statement.TypedStatement.{TypedStatement}
+use Rattle.program_trees.specs.TypedTree.{typed_tree}
+use Rattle.program_trees.specs.TypedStatements.{typed_statement}
+use Rattle.program_trees.specs.TypedPrograms.{TypedFunctionTree}
 use Rattle.std.proofs.lemmas.List.Sums.{sum_by-cons}
 use Rattle.clear_eval.specs.declared.place.Around.{Around}
 use Rattle.clear_eval.specs.inner.Measures.{weight, statement_weight, body_weight, work}

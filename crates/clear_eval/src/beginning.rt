@@ -1,15 +1,15 @@
 // The body of a function that is about to run.
 ghost use Rattle.std.specs.Prelude.{IfOk, map, length};
-ghost use Rattle.typed_tree.specs.Programs.{typed_function_tree};
+ghost use Rattle.program_trees.specs.TypedPrograms.{typed_function_tree};
 ghost use Rattle.value_steps.specs.Views.{value_seen};
 ghost use Rattle.clear_eval.specs.inner.Beginning.{IsBegun};
 ghost use Rattle.clear_eval.specs.inner.Standing.{HasRoomFor, AreSoundAmong};
 
 use crate::entering::enter;
 use crate::place::StatementContext;
+use program_trees::{TypedFunction, TypedStatement};
 use reached_instances::{BoundDomain, Setting, given_domain};
 use std::alloc::{AllocError, Global};
-use typed_tree::{TypedFunction, TypedStatement};
 use value_steps::Value;
 
 /// A function that is called, by its number among the functions of a program: what its domain variables are bound to, and for how many

@@ -1,8 +1,8 @@
 // The run of one who knows the public part of the inputs, and what is opened.
 ghost use Rattle.std.specs.Prelude.{length};
 ghost use Rattle.value_file.specs.PublicFile.{IsWritable};
-ghost use Rattle.typed_tree.specs.Programs.{typed_program_tree};
-ghost use Rattle.typed_tree.specs.Sound.{IsSound};
+ghost use Rattle.program_trees.specs.TypedPrograms.{typed_program_tree};
+ghost use Rattle.program_trees.specs.Sound.{IsSound};
 ghost use Rattle.language_model.specs.Effects.{Answers};
 ghost use Rattle.language_model.specs.Reports.{world_of, evaluated};
 ghost use Rattle.clear_eval.specs.Offers.{offered_part};
@@ -11,8 +11,8 @@ ghost use Rattle.clear_eval.specs.Reports.{IsBlindAnswer};
 use crate::public_offering::parts_given;
 use crate::ran::{StopReason, run, world_of};
 use crate::report::Report;
+use program_trees::TypedProgram;
 use std::alloc::{AllocError, Global};
-use typed_tree::TypedProgram;
 use value_file::PublicPart;
 use value_steps::Source;
 

@@ -1,7 +1,7 @@
 // How a function is called.
 ghost use Rattle.std.specs.Prelude.{◌≡◌, ◌≤◌, ◌<◌, [], ◌∷◌, ◌++◌, IfOk, length, map, sum};
 ghost use Rattle.std.specs.List.{slice_get};
-ghost use Rattle.typed_tree.specs.Tree.{typed_tree, typed_trees_of};
+ghost use Rattle.program_trees.specs.TypedTree.{typed_tree, typed_trees_of};
 ghost use Rattle.reached_instances.specs.Domains.{domains};
 ghost use Rattle.reached_instances.specs.Views.{setting};
 ghost use Rattle.language_model.specs.Evaluation.{array_elements, bound_at, slots_of};
@@ -11,10 +11,10 @@ ghost use Rattle.clear_eval.specs.inner.Calling.{call_charged};
 ghost use Rattle.clear_eval.specs.inner.Views.{functions_around};
 
 use crate::place::StatementContext;
+use program_trees::{Slot, TypedExpression};
 use reached_instances::{BoundDomain, binding_of, domains};
 use sc_text::{Ending, TrapKind};
 use std::alloc::{AllocError, Global};
-use typed_tree::{Slot, TypedExpression};
 use value_steps::{Halt, Stage, Value, charge, charge_elements};
 
 /// What a call of the function of this number, with these arguments, binds its domain variables to.

@@ -5,9 +5,9 @@ ghost use Rattle.language_model.specs.Evaluation.{begins, entered};
 ghost use Rattle.value_steps.specs.Views.{value_seen};
 ghost use Rattle.clear_eval.specs.inner.Views.{frame_seen};
 
+use program_trees::Slot;
 use reached_instances::{BoundDomain, domain_under};
 use std::alloc::{AllocError, Global};
-use typed_tree::Slot;
 use value_steps::Value;
 
 /// What the slot of this number begins as where a function is called under this binding.

@@ -1,9 +1,9 @@
 // The evaluation of expressions, statements and calls. They call one another, so they stand together. Each kind of expression and of
 // statement is a function of its own, kept out of its caller by hand, so that a deep tree takes little stack.
 ghost use Rattle.std.specs.Prelude.{◌≡◌, ◌≤◌, ◌<◌, IfOk, map, length};
-ghost use Rattle.typed_tree.specs.Tree.{cat_node, call_node, cut_node, typed_tree, typed_trees_of};
-ghost use Rattle.typed_tree.specs.Statements.{typed_statement};
-ghost use Rattle.typed_tree.specs.Programs.{typed_function_tree};
+ghost use Rattle.program_trees.specs.TypedTree.{cat_node, call_node, cut_node, typed_tree, typed_trees_of};
+ghost use Rattle.program_trees.specs.TypedStatements.{typed_statement};
+ghost use Rattle.program_trees.specs.TypedPrograms.{typed_function_tree};
 ghost use Rattle.reached_instances.specs.Views.{setting};
 ghost use Rattle.language_model.specs.Evaluation.{arguments, not_cut_short, cut_short, gives_private};
 ghost use Rattle.value_steps.specs.Steps.{Does, itself};
@@ -23,11 +23,11 @@ use crate::place::Around;
 use crate::slots::slot_value;
 use crate::steps::{decided, leaf, on_one, on_two, plain, with_one, with_two};
 use crate::words::decides;
-use reached_instances::{BoundDomain, domain, next_is_private};
-use std::alloc::Global;
-use typed_tree::{
+use program_trees::{
     BinaryOperator, Connective, Operands, Operation, Slot, TypedExpression, TypedStatement,
 };
+use reached_instances::{BoundDomain, domain, next_is_private};
+use std::alloc::Global;
 use value_steps::{Halt, Stage, Value, World, concatenated, operation, tested, wanted};
 
 /// Evaluates an expression.

@@ -2,7 +2,7 @@
 ghost use Rattle.std.specs.Prelude.{◌≡◌, ℕ, List};
 ghost use Rattle.value_file.specs.declared.inputs.Entry.{Entry};
 ghost use Rattle.value_file.specs.Public.{part_of};
-ghost use Rattle.typed_tree.specs.Programs.{TypedProgramTree};
+ghost use Rattle.program_trees.specs.TypedPrograms.{TypedProgramTree};
 ghost use Rattle.language_model.specs.Effects.{Answers};
 ghost use Rattle.language_model.specs.Reports.{public_part, world_of, evaluated, blind};
 ghost use Rattle.clear_eval.specs.Offers.{offered, offered_part};

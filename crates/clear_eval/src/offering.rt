@@ -6,9 +6,8 @@ ghost use Rattle.value_file.specs.Values.{count_of};
 ghost use Rattle.value_steps.specs.Views.{given_seen};
 ghost use Rattle.clear_eval.specs.Offers.{is_private, shape_given, words_given, input_given};
 
-use secrec_ast::DataType;
+use program_trees::{DataType, Shape};
 use std::alloc::{AllocError, Global};
-use typed_tree::Shape;
 use value_file::{Domain, Entry, Inputs, Value};
 use value_steps::GivenInput;
 

@@ -1,9 +1,9 @@
 // The parts of expressions and statements that are evaluated before they are.
-ghost use Rattle.typed_tree.specs.Tree.{typed_tree};
-ghost use Rattle.typed_tree.specs.Statements.{typed_statement};
+ghost use Rattle.program_trees.specs.TypedTree.{typed_tree};
+ghost use Rattle.program_trees.specs.TypedStatements.{typed_statement};
 ghost use Rattle.clear_eval.specs.inner.Parts.{HasParts, HasStatementParts};
 
-use typed_tree::{Connective, TypedExpression, TypedStatement};
+use program_trees::{Connective, TypedExpression, TypedStatement};
 
 /// Two arrays that are joined, the left one first, and the line of the expression.
 #[derive(Clone, Copy)]

@@ -1,14 +1,13 @@
 // What the public part of a file's inputs is to a run.
 ghost use Rattle.std.specs.Prelude.{◌≡◌, ◌≤◌, IfOk, map};
-ghost use Rattle.typed_tree.specs.Shapes.{shape_of};
+ghost use Rattle.program_trees.specs.Shapes.{shape_of};
 ghost use Rattle.value_file.specs.PublicFile.{IsWritable, public_count};
 ghost use Rattle.value_steps.specs.Views.{given_seen};
 ghost use Rattle.clear_eval.specs.Offers.{type_given, is_array, part_given};
 
 use crate::offering::{shape_given, words_given};
-use secrec_ast::DataType;
+use program_trees::{DataType, Shape};
 use std::alloc::{AllocError, Global};
-use typed_tree::Shape;
 use value_file::{PublicEntry, PublicPart, PublicValue};
 use value_steps::GivenInput;
 

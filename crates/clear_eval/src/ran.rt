@@ -1,7 +1,7 @@
 // The run of a program in a world, whatever its opened values are.
 ghost use Rattle.std.specs.Prelude.{◌≡◌, ℕ, ◌-◌, ◌≤◌, IfOk, map, []};
-ghost use Rattle.typed_tree.specs.Programs.{typed_function_tree, typed_program_tree};
-ghost use Rattle.typed_tree.specs.Sound.{IsSound};
+ghost use Rattle.program_trees.specs.TypedPrograms.{typed_function_tree, typed_program_tree};
+ghost use Rattle.program_trees.specs.Sound.{IsSound};
 ghost use Rattle.language_model.specs.Effects.{Ended};
 ghost use Rattle.language_model.specs.Evaluation.{deepest};
 ghost use Rattle.language_model.specs.Reports.{reported, report_of, evaluated, world_of};
@@ -14,9 +14,9 @@ use crate::beginning::Callee;
 use crate::dealer::dealing;
 use crate::evaluation::body;
 use crate::report::{Needs, Report};
+use program_trees::{TypedFunction, TypedProgram};
 use sc_text::{End, Ending, TapeOwner};
 use std::alloc::{AllocError, Global};
-use typed_tree::{TypedFunction, TypedProgram};
 use value_steps::{GivenInput, Halt, Lengths, MOST_CALLS, Source, Stage, World};
 
 /// Why a run stopped.

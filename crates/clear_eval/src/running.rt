@@ -1,8 +1,8 @@
 // The run of a program.
 ghost use Rattle.std.specs.Prelude.{◌≡◌, IfOk};
 ghost use Rattle.value_file.specs.Input.{AreInputs};
-ghost use Rattle.typed_tree.specs.Programs.{typed_program_tree};
-ghost use Rattle.typed_tree.specs.Sound.{IsSound};
+ghost use Rattle.program_trees.specs.TypedPrograms.{typed_program_tree};
+ghost use Rattle.program_trees.specs.Sound.{IsSound};
 ghost use Rattle.language_model.specs.Reports.{eval};
 ghost use Rattle.clear_eval.specs.Offers.{offered};
 ghost use Rattle.clear_eval.specs.Reports.{report_seen};
@@ -11,8 +11,8 @@ use crate::offering::inputs_given;
 use crate::ran::{StopReason, run, world_of};
 use crate::report::Report;
 use blind_evaluation::blind_runs_take_the_same_course;
+use program_trees::TypedProgram;
 use std::alloc::{AllocError, Global};
-use typed_tree::TypedProgram;
 use value_file::Inputs;
 use value_steps::Source;
 

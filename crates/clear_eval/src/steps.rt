@@ -1,8 +1,8 @@
 // The steps of expressions and statements, once their parts are evaluated.
 ghost use Rattle.std.specs.Prelude.{◌≡◌, ◌≤◌, true, length, map};
-ghost use Rattle.typed_tree.specs.Tree.{typed_tree};
-ghost use Rattle.typed_tree.specs.Statements.{typed_statement};
-ghost use Rattle.typed_tree.specs.Sound.{IsSoundTree, IsSoundStatementTree};
+ghost use Rattle.program_trees.specs.TypedTree.{typed_tree};
+ghost use Rattle.program_trees.specs.TypedStatements.{typed_statement};
+ghost use Rattle.program_trees.specs.Sound.{IsSoundTree, IsSoundStatementTree};
 ghost use Rattle.reached_instances.specs.Views.{setting};
 ghost use Rattle.language_model.specs.Operations.{wanted};
 ghost use Rattle.language_model.specs.Evaluation.{gives_private, truth_value};
@@ -17,9 +17,9 @@ use crate::held::Held;
 use crate::place::{Around, StatementContext};
 use crate::slots::{ArrayPlace, default_value, put, set_element, slot_value, store};
 use crate::words::truth_value;
+use program_trees::{Operation, TypedExpression, TypedStatement};
 use reached_instances::{domain, slot_is_private, slot_shape};
 use std::alloc::Global;
-use typed_tree::{Operation, TypedExpression, TypedStatement};
 use value_steps::{
     Asked, Halt, Stage, Value, World, asked_for, asserted, bits_extracted, cast_to, declassified,
     element_of_array, filled, negated, operation, published, size_told, summed, wanted,

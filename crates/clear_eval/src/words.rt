@@ -3,9 +3,8 @@ ghost use Rattle.std.specs.Prelude.{◌≡◌, IfOk};
 ghost use Rattle.language_model.specs.Evaluation.{truth_value, decides};
 ghost use Rattle.value_steps.specs.Views.{value_seen};
 
-use secrec_ast::DataType;
+use program_trees::{Connective, DataType, Shape};
 use std::alloc::{AllocError, Global};
-use typed_tree::{Connective, Shape};
 use value_steps::{Secrecy, Value};
 
 /// A public truth value.

@@ -2,8 +2,8 @@
 use Rattle.std.proofs.Common.{◌≡◌, ℕ, ◌^◌, List, Some, refl, ap, ◌∙◌, subst}
 use Rattle.std.specs.Prelude.{slice_get}
 use Rattle.std.proofs.lemmas.Bool.{ltb-true}
-use Rattle.secrec_ast.specs.Programs.{ProgramTree}
-use Rattle.typed_tree.specs.Programs.{TypedProgramTree}
+use Rattle.program_trees.specs.Programs.{ProgramTree}
+use Rattle.program_trees.specs.TypedPrograms.{TypedProgramTree}
 use Rattle.reached_instances.specs.Instances.{Instance}
 use Rattle.reached_instances.specs.Reached.{IsReachedList}
 use Rattle.bytecode.specs.Raw.{RawFunction}
@@ -13,8 +13,8 @@ use Rattle.code_model.specs.Kinded.{IsIn}
 use Rattle.code_model.specs.Programs.{code_of}
 use Rattle.lowered_code.specs.Instructions.{instruction, raw_function, names_of}
 use Rattle.lowered_code.proofs.Passing.{unmapped}
-use Rattle.said_code.specs.Programs.{IsWellTyped}
-use Rattle.said_code.proofs.Reaching.{accepted_well_typed}
+use Rattle.written_code.specs.Programs.{IsWellTyped}
+use Rattle.written_code.proofs.Reaching.{accepted_well_typed}
 use Rattle.lowered_code.specs.RawCodes.{raw_code_of_program}
 use Rattle.lowered_code.proofs.Limits.{within_small}
 use Rattle.lowered_code.proofs.RegistersOfPrograms.{small_numbered}
@@ -22,10 +22,10 @@ use Rattle.lowered_code.proofs.Verified.{well_typed_verified}
 use Rattle.gate_laws.specs.Laws.{LiteralIsWord}
 use Rattle.gate_laws.proofs.Verified.{verified_suits}
 use Rattle.code_inputs.specs.Laws.{HasWordsWhereWellTyped, SuitsWhereAccepted}
-use Rattle.said_code.specs.Says.{StepSays}
-use Rattle.said_code.specs.Laws.{is_word, any_number, any_text}
-use Rattle.said_code.proofs.Saying.{says_what_trees_say}
-use Rattle.said_code.proofs.Words.{well_typed_words as words_said}
+use Rattle.written_code.specs.Says.{StepSays}
+use Rattle.written_code.specs.Laws.{is_word, any_number, any_text}
+use Rattle.written_code.proofs.Saying.{says_what_trees_say}
+use Rattle.written_code.proofs.Words.{well_typed_words as words_said}
 
 -- ---- STEPS
 

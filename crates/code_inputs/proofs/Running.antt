@@ -1,13 +1,13 @@
 -- The code of an accepted program may run on the inputs of a file, and the gates of its evaluation suit what is dealt.
 use Rattle.std.proofs.Common.{ℕ, List, [], ap, ◌∙◌, subst, arith}
 use Rattle.std.specs.Prelude.{slice_get}
-use Rattle.secrec_ast.specs.Programs.{ProgramTree}
+use Rattle.program_trees.specs.Programs.{ProgramTree}
 use Rattle.proto_core.specs.Lists.{AreWords}
 use Rattle.value_file.specs.declared.inputs.Entry.{Entry}
 use Rattle.language_model.specs.Effects.{Clear}
 use Rattle.language_model.specs.Reports.{Offered, world_of}
 use Rattle.verified_code.specs.Settled.{settled}
-use Rattle.said_code.proofs.Reaching.{accepted_well_typed}
+use Rattle.written_code.proofs.Reaching.{accepted_well_typed}
 use Rattle.lowered_code.specs.RawCodes.{raw_code_of_program}
 use Rattle.lowered_code.proofs.Limits.{within_small}
 use Rattle.lowered_code.proofs.RegistersOfPrograms.{small_numbered}

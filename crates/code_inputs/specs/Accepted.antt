@@ -1,7 +1,7 @@
 -- Programs whose runs have views.
 use Rattle.std.specs.Prelude.{List}
-use Rattle.secrec_ast.specs.Programs.{ProgramTree}
-use Rattle.typed_tree.specs.Programs.{TypedProgramTree}
+use Rattle.program_trees.specs.Programs.{ProgramTree}
+use Rattle.program_trees.specs.TypedPrograms.{TypedProgramTree}
 use Rattle.reached_instances.specs.Instances.{Instance}
 use Rattle.code_inputs.specs.Laws.{IsAccepted}
 

@@ -1,7 +1,7 @@
 -- What a run is given of the entries of an input file, and what is dealt of them.
 use Rattle.std.specs.Prelude.{◌≡◌, ◌≤◌, ℕ, Bool, true, false, List, [], ◌∷◌, length, All}
-use Rattle.secrec_ast.specs.declared.expression.DataType.{DataType}
-use Rattle.secrec_ast.specs.declared.expression.DataType.TheVariants as datatype
+use Rattle.program_trees.specs.declared.expression.DataType.{DataType}
+use Rattle.program_trees.specs.declared.expression.DataType.TheVariants as datatype
 use Rattle.proto_core.specs.Lists.{AreWords}
 use Rattle.value_file.specs.declared.value.DataType as told
 use Rattle.value_file.specs.declared.value.DataType.TheVariants as kind
@@ -17,7 +17,7 @@ use Rattle.input_share.specs.Dealing.{need_of}
 use Rattle.input_share.specs.Values.{elements_of}
 use Rattle.view_model.specs.Dealing.{dealt_to}
 use Rattle.view_model.specs.Held.{private_kinds, private_values}
-use Rattle.typed_tree.specs.Shapes.{shape_of}
+use Rattle.program_trees.specs.Shapes.{shape_of}
 use Rattle.language_model.specs.Effects.{GivenInput}
 use Rattle.gate_laws.specs.Dealt.{Dealt}
 

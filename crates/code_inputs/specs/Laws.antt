@@ -1,8 +1,8 @@
 -- What is promised of the code of accepted programs, and of the inputs that it runs on.
 use Rattle.std.specs.Prelude.{◌≡◌, ℕ, List, Some}
-use Rattle.secrec_ast.specs.Programs.{ProgramTree}
+use Rattle.program_trees.specs.Programs.{ProgramTree}
 use Rattle.domain_types.specs.ProgramTypes as types
-use Rattle.typed_tree.specs.Programs.{TypedProgramTree}
+use Rattle.program_trees.specs.TypedPrograms.{TypedProgramTree}
 use Rattle.name_resolution.specs.Functions.{typed_of}
 use Rattle.reached_instances.specs.Instances.{Instance}
 use Rattle.reached_instances.specs.Reached.{IsReachedList}
@@ -13,8 +13,8 @@ use Rattle.language_model.specs.Reports.{Offered, world_of, eval}
 use Rattle.verified_code.specs.Settled.{settled}
 use Rattle.code_model.specs.Kinded.{AreSingle}
 use Rattle.code_model.specs.Laws.{AreFitting}
-use Rattle.said_code.specs.Programs.{IsWellTyped}
-use Rattle.said_code.specs.Sources.{IsWellWritten}
+use Rattle.written_code.specs.Programs.{IsWellTyped}
+use Rattle.written_code.specs.Sources.{IsWellWritten}
 use Rattle.lowered_code.specs.RawCodes.{raw_code_of_program}
 use Rattle.gate_laws.specs.Offers.{AreOffered}
 use Rattle.gate_laws.specs.Machines.{AreTaking}

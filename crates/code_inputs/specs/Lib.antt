@@ -1,5 +1,5 @@
 pub mod Accepted
 pub mod Inputs
 pub mod Laws
-pub use Rattle.said_code.specs.Sources
+pub use Rattle.written_code.specs.Sources
 pub use Rattle.view_model.specs.TapeMaps

@@ -1,7 +1,7 @@
 // What is true of the code of an accepted program, and of the inputs that it runs on.
 ghost use Rattle.std.specs.Prelude.{ℕ, List};
-ghost use Rattle.secrec_ast.specs.Programs.{ProgramTree};
-ghost use Rattle.typed_tree.specs.Programs.{TypedProgramTree};
+ghost use Rattle.program_trees.specs.Programs.{ProgramTree};
+ghost use Rattle.program_trees.specs.TypedPrograms.{TypedProgramTree};
 ghost use Rattle.reached_instances.specs.Instances.{Instance};
 ghost use Rattle.value_file.specs.declared.inputs.Entry.{Entry};
 ghost use Rattle.language_model.specs.Effects.{GivenInput};

@@ -8,8 +8,8 @@ ghost use Rattle.code_machine.specs.Views.{machine_seen, registers_seen};
 
 use crate::machine::Machine;
 use bytecode::Kind;
+use program_trees::Shape;
 use std::alloc::{AllocError, Global};
-use typed_tree::Shape;
 use value_steps::Value;
 use verified_code::Verified;
 

@@ -7,8 +7,8 @@ ghost use Rattle.code_machine.specs.Standing.{IsThere};
 
 use crate::machine::Machine;
 use bytecode::Register;
+use program_trees::Operation;
 use std::alloc::Global;
-use typed_tree::Operation;
 use value_steps::{
     Applied, Halt, Stage, Value, World, bits_extracted, concatenated, element_of_array, filled,
     operated,

@@ -23,9 +23,9 @@ use crate::values::{
     cast_value, classified, literal, moved, negation, opened, size_of, stored, sum_of,
 };
 use bytecode::{FunctionPlace, Register};
+use program_trees::Operation;
 use sc_text::Ending;
 use std::alloc::Global;
-use typed_tree::Operation;
 use value_steps::{Halt, Stage, Value, World};
 use verified_code::{Step, Verified};
 

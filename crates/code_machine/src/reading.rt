@@ -5,9 +5,8 @@ ghost use Rattle.code_machine.specs.Views.{registers_seen};
 
 use crate::machine::Machine;
 use bytecode::Register;
-use secrec_ast::DataType;
+use program_trees::{DataType, Shape};
 use std::alloc::{AllocError, Global};
-use typed_tree::Shape;
 use value_steps::Value;
 
 impl Machine {

@@ -10,8 +10,8 @@ ghost use Rattle.code_machine.specs.Views.{kept};
 use crate::change::Change;
 use crate::machine::Machine;
 use bytecode::Register;
+use program_trees::Shape;
 use std::alloc::{AllocError, Global};
-use typed_tree::Shape;
 use value_steps::{Secrecy, Value, WrittenElement};
 
 /// Whether a value is public, and has one word.

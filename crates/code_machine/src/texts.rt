@@ -10,9 +10,9 @@ ghost use Rattle.code_machine.specs.Standing.{IsThere};
 
 use crate::machine::Machine;
 use bytecode::{Kind, Register};
+use program_trees::Shape;
 use sc_text::Name;
 use std::alloc::{AllocError, Global};
-use typed_tree::Shape;
 use value_steps::{Asked, Halt, Stage, Value, World, asked_for, published};
 
 /// A name of the code in memory of its own. Each name of verified code is one; for another text no memory is found.

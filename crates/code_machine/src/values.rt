@@ -1,7 +1,7 @@
 // The values that steps make which have no line: what each reads is in the machine, and copied where an operation takes it. Public scalars that
 // are only moved are written in place.
 ghost use Rattle.std.specs.Prelude.{[], ◌∷◌, false, IfOk};
-ghost use Rattle.typed_tree.specs.Shapes.{shape_of};
+ghost use Rattle.program_trees.specs.Shapes.{shape_of};
 ghost use Rattle.language_model.specs.Effects.{Stage as Reached, done};
 ghost use Rattle.language_model.specs.Operations as row;
 ghost use Rattle.language_model.specs.Values.{plain};
@@ -18,9 +18,8 @@ use crate::change::Change;
 use crate::machine::Machine;
 use crate::scalars::{copy_into, scalar_into};
 use bytecode::Register;
-use secrec_ast::DataType;
+use program_trees::{Cast, DataType, Shape};
 use std::alloc::Global;
-use typed_tree::{Cast, Shape};
 use value_steps::{
     Halt, Stage, Value, World, cast_to, charged, declassified, negated, size_told, summed, wanted,
 };

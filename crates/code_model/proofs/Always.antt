@@ -1,10 +1,10 @@
 -- A body that always returns gives a value back wherever it ends.
 use Rattle.std.proofs.Common.{◌≡◌, ℕ, zero, suc, ◌+◌, List, Some, None, Ok, Err, Bool, true, false, ◌&&◌, ◌||◌, refl, ap, ◌∙◌}
-use Rattle.typed_tree.specs.Statements.{TypedStatementTree, TypedStatementTrees, empty_statement, block_statement, if_statement, loop_statement, do_statement}
-use Rattle.typed_tree.specs.Statements.{break_statement, continue_statement, return_statement, assert_statement, store_statement, default_statement}
-use Rattle.typed_tree.specs.Statements.{fill_statement, input_statement, element_statement, publish_statement, evaluate_statement}
-use Rattle.typed_tree.specs.Statements as Statements'
-use Rattle.typed_tree.specs.Tree.{TypedTree}
+use Rattle.program_trees.specs.TypedStatements.{TypedStatementTree, TypedStatementTrees, empty_statement, block_statement, if_statement, loop_statement, do_statement}
+use Rattle.program_trees.specs.TypedStatements.{break_statement, continue_statement, return_statement, assert_statement, store_statement, default_statement}
+use Rattle.program_trees.specs.TypedStatements.{fill_statement, input_statement, element_statement, publish_statement, evaluate_statement}
+use Rattle.program_trees.specs.TypedStatements as Statements'
+use Rattle.program_trees.specs.TypedTree.{TypedTree}
 use Rattle.reached_instances.specs.declared.instance.BoundDomain.{BoundDomain}
 use Rattle.reached_instances.specs.Domains.{Setting}
 use Rattle.sc_text.specs.declared.end.Ending.{Ending}

@@ -1,6 +1,6 @@
 -- A blind run of a program's code takes the course of the run in the clear.
 use Rattle.std.proofs.Common.{ℕ, List, [], ◌++◌, sym, subst}
-use Rattle.typed_tree.specs.Programs.{TypedProgramTree}
+use Rattle.program_trees.specs.TypedPrograms.{TypedProgramTree}
 use Rattle.reached_instances.specs.Instances.{Instance}
 use Rattle.blind_evaluation.specs.Effects.{Clear, Answers}
 use Rattle.blind_evaluation.specs.Reports.{Offered, world_of, public_part, eval}

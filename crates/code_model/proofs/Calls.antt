@@ -5,9 +5,9 @@ use Rattle.std.specs.Prelude.{slice_get, nat_lt, map, sum}
 use Rattle.std.proofs.lemmas.Bool.{lt-ltb, le-ltb}
 use Rattle.sc_text.specs.declared.end.Ending.TheVariants as ending
 use Rattle.sc_text.specs.declared.end.TrapKind.TheVariants as trap
-use Rattle.typed_tree.specs.declared.function.Returned.{Returned}
-use Rattle.typed_tree.specs.declared.function.Returned.TheVariants as given
-use Rattle.typed_tree.specs.Programs.{TypedFunctionTree}
+use Rattle.program_trees.specs.declared.typed_function.Returned.{Returned}
+use Rattle.program_trees.specs.declared.typed_function.Returned.TheVariants as given
+use Rattle.program_trees.specs.TypedPrograms.{TypedFunctionTree}
 use Rattle.reached_instances.specs.declared.instance.BoundDomain.{BoundDomain}
 use Rattle.reached_instances.specs.Domains.{given_domain}
 use Rattle.blind_evaluation.specs.Effects.{World, Stage, Run, Effect, ◌>>=◌, carry, done, end, charge, test}

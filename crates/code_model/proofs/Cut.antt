@@ -2,12 +2,12 @@
 use Rattle.std.proofs.Common.{◌≡◌, ℕ, ◌+◌, ◌≤◌, List, [], ◌∷◌, ◌++◌, length, Some, Bool, true, false, ◌||◌, refl, sym, ap, ◌∙◌, subst, arith}
 use Rattle.std.proofs.Common.{length-append}
 use Rattle.std.specs.Prelude.{slice_get}
-use Rattle.secrec_ast.specs.declared.expression.DataType.TheVariants as datatype
-use Rattle.typed_tree.specs.declared.operators.BinaryOperator.TheVariants as binary
-use Rattle.typed_tree.specs.declared.operators.Operands.TheVariants.{Scalars}
-use Rattle.typed_tree.specs.declared.operators.Connective.{Connective}
-use Rattle.typed_tree.specs.declared.operators.Connective.TheVariants.{AndAlso, OrElse}
-use Rattle.typed_tree.specs.Tree.{TypedTree, cut_node}
+use Rattle.program_trees.specs.declared.expression.DataType.TheVariants as datatype
+use Rattle.program_trees.specs.declared.operators.BinaryOperator.TheVariants as binary
+use Rattle.program_trees.specs.declared.operators.Operands.TheVariants.{Scalars}
+use Rattle.program_trees.specs.declared.operators.Connective.{Connective}
+use Rattle.program_trees.specs.declared.operators.Connective.TheVariants.{AndAlso, OrElse}
+use Rattle.program_trees.specs.TypedTree.{TypedTree, cut_node}
 use Rattle.reached_instances.specs.Domains.{Setting, domain}
 use Rattle.blind_evaluation.specs.Effects.{World, Effect, ◌>>=◌, carry, done}
 use Rattle.blind_evaluation.specs.Values.{Value}

@@ -2,21 +2,21 @@
 use Rattle.std.proofs.Common.{◌≡◌, ℕ, ◌+◌, ◌*◌, ◌≤◌, List, Option, Some, None, Bool, true, false, not, ◌&&◌, ◌||◌, Ok, Err, refl, ap}
 use Rattle.std.proofs.Common.{arith}
 use Rattle.std.specs.Prelude.{length, map}
-use Rattle.secrec_ast.specs.declared.expression.DataType.TheVariants.{Uint64}
+use Rattle.program_trees.specs.declared.expression.DataType.TheVariants.{Uint64}
 use Rattle.sc_text.specs.declared.end.Ending.{Ending}
 use Rattle.sc_text.specs.declared.end.TrapKind.TheVariants as trap
 use Rattle.sc_text.specs.declared.event.Event.TheVariants as event
-use Rattle.typed_tree.specs.declared.kinds.Shape.{Shape}
-use Rattle.typed_tree.specs.declared.operators.BinaryOperator.{BinaryOperator}
-use Rattle.typed_tree.specs.declared.operators.Operands.{Operands}
-use Rattle.typed_tree.specs.declared.operators.Cast.{Cast}
-use Rattle.typed_tree.specs.declared.operators.Cast.TheVariants.{WordToWord, WordToBool, BoolToWord, BoolToBool}
+use Rattle.program_trees.specs.declared.kinds.Shape.{Shape}
+use Rattle.program_trees.specs.declared.operators.BinaryOperator.{BinaryOperator}
+use Rattle.program_trees.specs.declared.operators.Operands.{Operands}
+use Rattle.program_trees.specs.declared.operators.Cast.{Cast}
+use Rattle.program_trees.specs.declared.operators.Cast.TheVariants.{WordToWord, WordToBool, BoolToWord, BoolToBool}
 use Rattle.blind_evaluation.specs.BitExtract.{bits_plan}
 use Rattle.gates.specs.declared.gate.Gate.TheVariants.{Spread}
 use Rattle.gates.specs.Clear.{bits_of}
 use Rattle.std.specs.List.{flat_map}
-use Rattle.typed_tree.specs.Shapes.{shape_of}
-use Rattle.secrec_ast.specs.declared.expression.DataType.TheVariants as datatype
+use Rattle.program_trees.specs.Shapes.{shape_of}
+use Rattle.program_trees.specs.declared.expression.DataType.TheVariants as datatype
 use Rattle.blind_evaluation.specs.Effects.{World, GivenInput, Stage, Run, Effect, ◌>>=◌, carry, done, end, test}
 use Rattle.blind_evaluation.specs.Values.{Secrecy, Plain, Private, Value, plain, is_secret, size, visible_words, elements_of}
 use Rattle.blind_evaluation.specs.Words as W

@@ -25,3 +25,9 @@ pub mod Kept
 pub mod Reached
 pub mod Blind
 pub mod Settled
+pub mod Names
+pub mod KindTests
+pub mod Settling
+pub mod Passing
+pub mod Whole
+pub mod StepSamples

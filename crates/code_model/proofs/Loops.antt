@@ -3,7 +3,7 @@ use Rattle.std.proofs.Common.{◌≡◌, ℕ, zero, suc, ◌+◌, ◌-◌, ◌<�
 use Rattle.std.specs.Prelude.{slice_get, nat_le}
 use Rattle.std.proofs.lemmas.Bool.{leb-true}
 use Rattle.sc_text.specs.declared.end.Ending.TheVariants as ending
-use Rattle.typed_tree.specs.Tree.{TypedTree}
+use Rattle.program_trees.specs.TypedTree.{TypedTree}
 use Rattle.blind_evaluation.specs.Effects.{World, Stage, Ended, Effect, ◌>>=◌, carry, done}
 use Rattle.blind_evaluation.specs.Values.{Value, is_true}
 use Rattle.blind_evaluation.specs.Operations.{tested}

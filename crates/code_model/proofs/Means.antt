@@ -4,7 +4,7 @@ use Rattle.std.proofs.Common.{◌⊎◌, inl, inr}
 use Rattle.std.specs.Prelude.{slice_get, nat_le, map, if◌then◌else◌}
 use Rattle.sc_text.specs.Lists.{Among}
 use Rattle.sc_text.specs.declared.end.Ending.TheVariants as ending
-use Rattle.typed_tree.specs.Programs.{TypedProgramTree}
+use Rattle.program_trees.specs.TypedPrograms.{TypedProgramTree}
 use Rattle.reached_instances.specs.declared.instance.BoundDomain.{BoundDomain}
 use Rattle.reached_instances.specs.Domains.{given_domain}
 use Rattle.reached_instances.specs.Instances.{Instance, same_instance}

@@ -6,11 +6,11 @@ use Rattle.std.specs.List.{list_all}
 use Rattle.std.proofs.lemmas.Bool.{ltb-true, and_parts}
 use Rattle.std.proofs.lemmas.List.{length-map}
 use Rattle.std.proofs.lemmas.Option.{slice_get-get_or, none-some, same_Some}
-use Rattle.secrec_ast.specs.declared.expression.DataType.{DataType}
-use Rattle.secrec_ast.specs.declared.expression.DataType.TheVariants.{Uint64}
-use Rattle.secrec_ast.specs.declared.expression.DataType.TheVariants as datatype
-use Rattle.typed_tree.specs.Operators.{element_made, operands_of, cast_between}
-use Rattle.typed_tree.specs.declared.operators.BinaryOperator.{BinaryOperator}
+use Rattle.program_trees.specs.declared.expression.DataType.{DataType}
+use Rattle.program_trees.specs.declared.expression.DataType.TheVariants.{Uint64}
+use Rattle.program_trees.specs.declared.expression.DataType.TheVariants as datatype
+use Rattle.program_trees.specs.Operators.{element_made, operands_of, cast_between}
+use Rattle.program_trees.specs.declared.operators.BinaryOperator.{BinaryOperator}
 use Rattle.blind_evaluation.specs.Operations.{result_shape}
 use Rattle.bytecode.specs.declared.kind.Kind.{Kind}
 use Rattle.bytecode.specs.Raw.{Raw, RawFunction, RawCode}

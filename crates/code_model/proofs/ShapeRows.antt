@@ -5,9 +5,9 @@ use Rattle.std.specs.Prelude.{get_or, map, nat_le, take, drop, nat_lt, bytes_eq,
 use Rattle.std.specs.List.{flat_map}
 use Rattle.std.proofs.lemmas.Bool.{leb-true, and_parts}
 use Rattle.std.proofs.lemmas.List.{length-map, length-take-le}
-use Rattle.secrec_ast.specs.declared.expression.DataType.{DataType}
-use Rattle.secrec_ast.specs.declared.expression.DataType.TheVariants.{Uint64}
-use Rattle.secrec_ast.specs.declared.expression.DataType.TheVariants as datatype
+use Rattle.program_trees.specs.declared.expression.DataType.{DataType}
+use Rattle.program_trees.specs.declared.expression.DataType.TheVariants.{Uint64}
+use Rattle.program_trees.specs.declared.expression.DataType.TheVariants as datatype
 use Rattle.sc_text.specs.Lists.{Among}
 use Rattle.sc_text.specs.declared.end.Ending.TheVariants as ending
 use Rattle.sc_text.specs.declared.end.TrapKind.{TrapKind}
@@ -16,13 +16,13 @@ use Rattle.sc_text.specs.declared.event.Event.TheVariants as event
 use Rattle.gates.specs.declared.gate.Gate.TheVariants as gates
 use Rattle.gates.specs.Clear.{each_two, first_word, bits_of}
 use Rattle.blind_evaluation.specs.BitExtract.{bits_plan}
-use Rattle.typed_tree.specs.declared.kinds.Shape.{Shape}
-use Rattle.typed_tree.specs.declared.operators.BinaryOperator.{BinaryOperator}
-use Rattle.typed_tree.specs.declared.operators.Operands.{Operands}
-use Rattle.typed_tree.specs.declared.operators.Operands.TheVariants.{Scalars, ArrayAndScalar, ScalarAndArray, Arrays}
-use Rattle.typed_tree.specs.declared.operators.Cast as casts
-use Rattle.typed_tree.specs.declared.operators.Cast.TheVariants.{WordToWord, WordToBool, BoolToWord, BoolToBool}
-use Rattle.typed_tree.specs.Shapes.{shape_of}
+use Rattle.program_trees.specs.declared.kinds.Shape.{Shape}
+use Rattle.program_trees.specs.declared.operators.BinaryOperator.{BinaryOperator}
+use Rattle.program_trees.specs.declared.operators.Operands.{Operands}
+use Rattle.program_trees.specs.declared.operators.Operands.TheVariants.{Scalars, ArrayAndScalar, ScalarAndArray, Arrays}
+use Rattle.program_trees.specs.declared.operators.Cast as casts
+use Rattle.program_trees.specs.declared.operators.Cast.TheVariants.{WordToWord, WordToBool, BoolToWord, BoolToBool}
+use Rattle.program_trees.specs.Shapes.{shape_of}
 use Rattle.blind_evaluation.specs.Effects.{World, GivenInput, Source, Clear, Answers, Stage, Short, done, test, charge, draw, gate}
 use Rattle.blind_evaluation.specs.Effects.{planned, show, emit, words_each, answer}
 use Rattle.blind_evaluation.specs.Values.{Secrecy, Plain, Private, Value, plain, size, elements_of, ring_for}

@@ -2,7 +2,7 @@
 use Rattle.std.proofs.Common.{◌≡◌, ◌≢◌, ℕ, ◌+◌, ◌<◌, ◌≤◌, List, [], ◌∷◌, ◌++◌, length, Some, Bool, refl, sym, ap, ◌∙◌, subst, arith}
 use Rattle.std.proofs.Common.{length-append}
 use Rattle.std.specs.Prelude.{slice_get}
-use Rattle.typed_tree.specs.Tree.{TypedTree}
+use Rattle.program_trees.specs.TypedTree.{TypedTree}
 use Rattle.reached_instances.specs.Domains.{Setting}
 use Rattle.blind_evaluation.specs.Effects.{World, Stage, Effect, ◌>>=◌, carry, done}
 use Rattle.blind_evaluation.specs.Values.{Value}

@@ -11,3 +11,6 @@ pub use Rattle.blind_evaluation.specs.Operations
 pub use Rattle.blind_evaluation.specs.Courses
 pub use Rattle.blind_evaluation.specs.Words
 pub use Rattle.blind_evaluation.specs.Evaluation
+pub mod Instructions
+pub mod Right
+pub mod StepLaws

@@ -3,7 +3,7 @@ use Rattle.std.specs.Prelude.{ℕ, zero, suc, ◌+◌, false, List, [], ◌∷�
 use Rattle.std.specs.List.{slice_get}
 use Rattle.sc_text.specs.declared.end.Ending.TheVariants as ending
 use Rattle.sc_text.specs.declared.end.TrapKind.TheVariants as trap
-use Rattle.typed_tree.specs.Shapes.{shape_of}
+use Rattle.program_trees.specs.Shapes.{shape_of}
 use Rattle.blind_evaluation.specs.Effects.{World, Stage, RunStop, Run, Effect, ◌>>=◌, done, end, charge, test}
 use Rattle.blind_evaluation.specs.Values.{Value, plain, never_stored, size}
 use Rattle.blind_evaluation.specs.Operations as row

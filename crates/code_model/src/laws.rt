@@ -1,6 +1,6 @@
 // What is true of the code of every program, and of every code whose jumps go forward.
 ghost use Rattle.std.specs.Prelude.{ℕ, List};
-ghost use Rattle.typed_tree.specs.Programs.{TypedProgramTree};
+ghost use Rattle.program_trees.specs.TypedPrograms.{TypedProgramTree};
 ghost use Rattle.reached_instances.specs.Instances.{Instance};
 ghost use Rattle.blind_evaluation.specs.Effects.{World};
 ghost use Rattle.blind_evaluation.specs.Reports.{Offered};

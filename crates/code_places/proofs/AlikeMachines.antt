@@ -2,7 +2,7 @@
 use Rattle.std.proofs.Common.{◌≡◌, ℕ, zero, suc, ◌+◌, List, [], ◌∷◌, Option, Some, None, Bool, true, false, cond, refl, ap, ◌∙◌, subst}
 use Rattle.std.specs.Prelude.{nat_eq, map, slice_get}
 use Rattle.std.specs.List.{AllZip}
-use Rattle.typed_tree.specs.declared.kinds.Shape.{Shape}
+use Rattle.program_trees.specs.declared.kinds.Shape.{Shape}
 use Rattle.language_model.specs.Values.{Secrecy, Plain, Private, Value, plain, size}
 use Rattle.language_model.specs.Evaluation.{Frame, put, array_elements, either}
 use Rattle.bytecode.specs.declared.kind.Kind.{Kind}

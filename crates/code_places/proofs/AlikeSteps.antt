@@ -5,7 +5,7 @@ use Rattle.std.specs.List.{AllZip}
 use Rattle.std.proofs.lemmas.List.Elements.{length_all_zip}
 use Rattle.sc_text.specs.declared.end.Ending.TheVariants as ending
 use Rattle.sc_text.specs.declared.end.TrapKind.TheVariants as trap
-use Rattle.typed_tree.specs.Shapes.{shape_of}
+use Rattle.program_trees.specs.Shapes.{shape_of}
 use Rattle.language_model.specs.Values.{Value}
 use Rattle.language_model.specs.Evaluation.{either}
 use Rattle.language_model.specs.Reports.{Offered}

@@ -5,12 +5,12 @@ use Rattle.std.proofs.lemmas.List.{append_cancel_left}
 use Rattle.std.proofs.lemmas.Bool.Decides.{nat_tests}
 use Rattle.sc_text.specs.declared.event.Event.{Event}
 use Rattle.sc_text.specs.declared.event.Event.TheVariants as event
-use Rattle.secrec_ast.specs.declared.expression.DataType.{DataType}
-use Rattle.secrec_ast.specs.declared.expression.DataType.TheVariants.{Uint64}
-use Rattle.secrec_ast.specs.declared.expression.DataType.TheVariants as datatype
+use Rattle.program_trees.specs.declared.expression.DataType.{DataType}
+use Rattle.program_trees.specs.declared.expression.DataType.TheVariants.{Uint64}
+use Rattle.program_trees.specs.declared.expression.DataType.TheVariants as datatype
 use Rattle.gates.specs.declared.gate.Gate.{Gate}
 use Rattle.gates.specs.declared.gate.Gate.TheVariants.{Open}
-use Rattle.typed_tree.specs.declared.kinds.Shape.{Shape}
+use Rattle.program_trees.specs.declared.kinds.Shape.{Shape}
 use Rattle.language_model.specs.Effects.{Stage, Short, Run, Effect, ◌>>=◌, carry, done, gate, words_each, emit, show}
 use Rattle.language_model.specs.Values.{Private, Value, plain, size, ring_for, elements_of}
 use Rattle.language_model.specs.Operations.{read_answer, revealed, opened_from, declassified}
@@ -70,6 +70,7 @@ still {R = R} {c = c} {c' = c'} q h = record { opened = opens_nothing q; same = 
 same_event : (e : Event) → LikeEvent e e
 same_event (event.Open elements) = refl
 same_event (event.Publish text elements) = (refl, refl)
+same_event (event.Hand text elements) = (refl, refl)
 
 same_events : (es : List Event) → LikeEvents es es
 same_events [] = tt

@@ -1,10 +1,10 @@
 -- Code in which a step has to be told words: a private input is opened and published.
 use Rattle.std.proofs.Common.{◌≡◌, List, [], ◌∷◌, None, Bool, true, false, refl}
-use Rattle.secrec_ast.specs.declared.expression.DataType.TheVariants.{Uint64}
+use Rattle.program_trees.specs.declared.expression.DataType.TheVariants.{Uint64}
 use Rattle.gates.specs.declared.gate.Gate.TheVariants.{Input, Open}
 use Rattle.gates.specs.declared.ring_kind.RingKind.TheVariants.{Arithmetic}
 use Rattle.proto_core.specs.Strand.{Words, Shown}
-use Rattle.typed_tree.specs.Shapes.{shape_of}
+use Rattle.program_trees.specs.Shapes.{shape_of}
 use Rattle.language_model.specs.Effects.{words_each}
 use Rattle.language_model.specs.Reports.{Offered}
 use Rattle.bytecode.specs.declared.kind.Kind.{Kind}

@@ -2,9 +2,9 @@
 -- tells of it.
 use Rattle.std.specs.Prelude.{ℕ, List, [], ◌∷◌, Option, Some, None, Ok, Err}
 use Rattle.std.specs.List.{slice_get}
-use Rattle.secrec_ast.specs.declared.expression.DataType.{DataType}
-use Rattle.secrec_ast.specs.declared.expression.DataType.TheVariants.{Uint64}
-use Rattle.secrec_ast.specs.declared.expression.DataType.TheVariants as datatype
+use Rattle.program_trees.specs.declared.expression.DataType.{DataType}
+use Rattle.program_trees.specs.declared.expression.DataType.TheVariants.{Uint64}
+use Rattle.program_trees.specs.declared.expression.DataType.TheVariants as datatype
 use Rattle.sc_text.specs.declared.end.Ending.{Ending}
 use Rattle.sc_text.specs.declared.event.Event.{Event}
 use Rattle.proto_core.specs.Strand.{Field, Words, Bits, Form, Notice, Shown, Published, Handed}
@@ -15,7 +15,7 @@ use Rattle.gate_laws.specs.Dealt.{Dealt}
 use Rattle.language_model.specs.Effects.{World, Answers, Stage, RunStop, Ended, Short, Run}
 use Rattle.language_model.specs.Values.{Secrecy, Plain, Private}
 use Rattle.language_model.specs.Reports.{Offered, beginning, world_of, public_part}
-use Rattle.typed_tree.specs.declared.kinds.Shape.{Shape}
+use Rattle.program_trees.specs.declared.kinds.Shape.{Shape}
 use Rattle.verified_code.specs.Steps.{Step, Publish, Declassify, Function}
 use Rattle.gate_laws.specs.Machine.{Machine, step, start}
 use Rattle.driven_nodes.specs.Steps.{Went, On, Over, Wants, Steps, ToRun, gained, last_of}

@@ -4,6 +4,7 @@ pub mod Stays
 pub mod Values
 pub mod Shown
 pub mod Ends
+pub mod Handing
 pub mod Notices
 pub mod Tellings
 pub mod Miners

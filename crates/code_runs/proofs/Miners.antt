@@ -23,7 +23,7 @@ use Rattle.code_model.specs.Machine.{start, exec}
 use Rattle.code_model.specs.Meaning.{fuel, stopped_or, report_at, mean}
 use Rattle.code_model.proofs.Ends.{starts}
 use Rattle.code_model.proofs.Kept.{begins}
-use Rattle.typed_tree.specs.Programs.{TypedProgramTree}
+use Rattle.program_trees.specs.TypedPrograms.{TypedProgramTree}
 use Rattle.reached_instances.specs.Instances.{Instance}
 use Rattle.code_model.specs.Programs.{code_of}
 use Rattle.code_model.proofs.Means.{means}
@@ -50,6 +50,7 @@ use Rattle.code_runs.proofs.Stays.{Stays}
 use Rattle.code_runs.proofs.Values.{ready, same_opened}
 use Rattle.code_runs.proofs.Shown.{reads}
 use Rattle.code_runs.proofs.Ends.{EndsAs, ends}
+use Rattle.code_runs.specs.Handing.{handed_in, kept_from}
 use Rattle.code_runs.proofs.Notices.{retold}
 use Rattle.code_runs.proofs.Tellings.{tellings}
 
@@ -255,6 +256,13 @@ module _ (o : Offered) (d : Dealt) (c : List Function) (budget : ℕ) (tapes : T
       tellings o d c tapes may.words may.long may.code twins (fuel c budget) first first stays_first alike (λ i. []) tapes refl refl end (stopped).1 in
       subst (λ es. Tells es (λ i. notices next (fuel c budget) i (Running first) (λ i. []) tapes)) (sym whole.all) whole.told
 
+  pub give_their_shares :
+      (i : Number) → handed_in (notices next (fuel c budget) i (Running first) (λ i. []) tapes) ≡ kept_from 0 (run_values gates (λ i. []) tapes i) (report).gates
+  give_their_shares i =
+      let whole =
+      tellings o d c tapes may.words may.long may.code twins (fuel c budget) first first stays_first alike (λ i. []) tapes refl refl end (stopped).1 in
+      whole.gave i
+
   pub as_reported : RunAsReported o d c budget tapes report
   as_reported =
       record {
@@ -269,6 +277,7 @@ module _ (o : Offered) (d : Dealt) (c : List Function) (budget : ℕ) (tapes : T
         finishes = finish;
         opened = open_the_words;
         told = retold (λ i. sym (notices_are i)) tell_the_events;
+        gave = λ i. ap handed_in (notices_are i) ∙ give_their_shares i;
         counted = deliveries_are_counted;
         in_order = default_is_accepted;
         shuffled = shuffles_are_accepted;

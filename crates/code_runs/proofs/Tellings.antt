@@ -29,6 +29,8 @@ use Rattle.code_runs.specs.Telling.{Tells}
 use Rattle.code_runs.specs.Telling as tells
 use Rattle.code_runs.proofs.Stays.{untold as untold_same, Stays, Along, Final, After, none_left, same_step, after_step}
 use Rattle.code_runs.proofs.Shown.{behind, left_behind, shown_last, values_behind, tapes_left}
+use Rattle.code_runs.specs.Handing.{handed_in}
+use Rattle.code_runs.proofs.Handing.{hands, handed-append, kept_at, kept-still}
 use Rattle.code_runs.proofs.Notices.{retold, none_made, step_told}
 
 module _ (o : Offered) (d : Dealt) (c : List Function) (tapes : Tapes) (words : (i : Number) → AreWords (tapes i))
@@ -111,6 +113,8 @@ module _ (o : Offered) (d : Dealt) (c : List Function) (tapes : Tapes) (words : 
     pub events : List Event
     pub all : x.1.events ≡ p.stage.events ++ events
     pub told : Tells events (λ i. notices next fuel i (Running b) values ts)
+    pub gave : (i : Number) → kept_at o d tapes words long p.stage i ++ handed_in (notices next fuel i (Running b) values ts)
+        ≡ kept_at o d tapes words long x.1 i
 
   pub tellings :
       (fuel : ℕ) (p b : Place) → Stays o d c p → GoAlike p b → (values : Shares) (ts : Tapes) → values ≡ behind d tapes p.stage.gates
@@ -145,6 +149,12 @@ module _ (o : Offered) (d : Dealt) (c : List Function) (tapes : Tapes) (words : 
             events = [];
             all = ap (λ z. z.1.events) (sym h) ∙ final.told.events ∙ sym (append-nil p.stage.events);
             told = retold (nothing_told q twin.0 final twin.1 twin.2) tells.nothing;
+            gave = λ i.
+                ap (λ ns. kept_at o d tapes words long p.stage i ++ handed_in ns) (sym (nothing_told q twin.0 final twin.1 twin.2 i))
+                ∙ append-nil (kept_at o d tapes words long p.stage i)
+                ∙ sym (kept-still o d tapes words long p.stage q.stage st.kinds final.kinds st.stage st.tapes final.stage final.tapes final.more final.gates
+                (ap hands final.told.events) i)
+                ∙ ap (λ (z : RunStop × Stage). kept_at o d tapes words long z.1 i) h;
           }
 
       by_run :
@@ -163,6 +173,19 @@ module _ (o : Offered) (d : Dealt) (c : List Function) (tapes : Tapes) (words : 
           record {
             events = here.events ++ rest.events;
             all = rest.all ∙ ap (λ z. z ++ rest.events) here.gained ∙ append_assoc p.stage.events here.events rest.events;
+            gave = λ i.
+                ap (λ ns. kept_at o d tapes words long p.stage i ++ handed_in ns)
+                (turned fuel values ts _ _ _ _ (follows fuel p b q a st alike along twin.1 values ts e f twin.3) i
+                ∙ ap
+                (λ v.
+                notices_between b a (v i)
+                ++ notices next fuel i (Running a) (run_values between values ts) (λ j. drop (needed between j) (ts j)))
+                now)
+                ∙ ap (λ vs. kept_at o d tapes words long p.stage i ++ vs) (handed-append (notices_between b a (behind d tapes q.stage.gates i)) _)
+                ∙ sym (append_assoc (kept_at o d tapes words long p.stage i) (handed_in (notices_between b a (behind d tapes q.stage.gates i))) _)
+                ∙ ap (λ vs. vs ++ handed_in (notices next fuel i (Running a) (run_values between values ts) (λ j. drop (needed between j) (ts j))))
+                (sym (here.gave i))
+                ∙ rest.gave i;
             told = retold
                 (λ i.
                 ap

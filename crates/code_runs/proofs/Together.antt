@@ -1,7 +1,7 @@
 -- What three miners tell that tell events, put together, is these events.
 use Rattle.std.proofs.Common.{◌≡◌, ℕ, suc, ◌<◌, ◌%◌, List, [], ◌∷◌, length, refl, sym, ◌∙◌, ap, arith}
 use Rattle.sc_text.specs.declared.event.Event.{Event}
-use Rattle.sc_text.specs.declared.event.Event.TheVariants.{Open, Publish}
+use Rattle.sc_text.specs.declared.event.Event.TheVariants.{Open, Publish, Hand}
 use Rattle.proto_core.specs.declared.party.Number.{Number}
 use Rattle.proto_core.specs.declared.party.Number.TheVariants.{One, Two, Three}
 use Rattle.proto_core.specs.Lists.{at}
@@ -65,7 +65,7 @@ together nothing = refl
 together (opened {events = events} form words range h) = ap (λ (es : List Event). Open (elements_told form words) ∷ es) (together h)
 together (published {events = events} text form words range h) = ap (λ (es : List Event). Publish text (elements_told form words) ∷ es) (together h)
 together (handed {events = events} text form words shares range are h) =
-    first_event _ _ _ events (ap (λ ws. Publish text (elements_told form ws)) (shares_add_up form.element words shares range are)) (together h)
+    first_event _ _ _ events (ap (λ ws. Hand text (elements_told form ws)) (shares_add_up form.element words shares range are)) (together h)
 
 pub told_together_are_the_events : ToldTogetherAreTheEvents
 told_together_are_the_events events notices h = together h

@@ -1,8 +1,8 @@
 -- A type and the form in which its words are told.
 use Rattle.std.proofs.Common.{◌≡◌, refl}
-use Rattle.secrec_ast.specs.declared.expression.DataType.{DataType}
-use Rattle.secrec_ast.specs.declared.expression.DataType.TheVariants.{Uint64}
-use Rattle.secrec_ast.specs.declared.expression.DataType.TheVariants as datatype
+use Rattle.program_trees.specs.declared.expression.DataType.{DataType}
+use Rattle.program_trees.specs.declared.expression.DataType.TheVariants.{Uint64}
+use Rattle.program_trees.specs.declared.expression.DataType.TheVariants as datatype
 use Rattle.code_places.specs.Places.{field_of}
 use Rattle.code_runs.specs.Telling.{type_of}
 

@@ -1,8 +1,8 @@
 -- What the client is told, by what the three miners tell.
 use Rattle.std.specs.Prelude.{ℕ, ◌%◌, List, [], ◌∷◌}
 use Rattle.sc_text.specs.declared.event.Event.{Event}
-use Rattle.sc_text.specs.declared.event.Event.TheVariants.{Open, Publish}
-use Rattle.share_ring.specs.Rings.{add_ring, xor_ring}
+use Rattle.sc_text.specs.declared.event.Event.TheVariants.{Open, Publish, Hand}
+use Rattle.proto_core.specs.Rings.{add_ring, xor_ring}
 use Rattle.proto_core.specs.declared.party.Number.{Number}
 use Rattle.proto_core.specs.declared.party.Number.TheVariants.{One, Two, Three}
 use Rattle.proto_core.specs.Strand.{Field, Words, Bits, Notice, Shown, Published, Handed}
@@ -22,7 +22,7 @@ all_added_up f xs ys zs = []
 abbrev pub told_by_three : Notice → (second third : List ℕ) → Event
 told_by_three (Shown form words) ys zs = Open (elements_told form words)
 told_by_three (Published text form words) ys zs = Publish text (elements_told form words)
-told_by_three (Handed text form words) ys zs = Publish text (elements_told form (all_added_up form.element words ys zs))
+told_by_three (Handed text form words) ys zs = Hand text (elements_told form (all_added_up form.element words ys zs))
 
 abbrev pub words_of : Notice → List ℕ
 words_of (Shown form words) = words

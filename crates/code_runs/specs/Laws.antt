@@ -7,7 +7,7 @@ use Rattle.protocol_model.specs.Runs.{Tapes}
 use Rattle.shared_gates.specs.Model.{miner_of}
 use Rattle.language_model.specs.Effects.{Clear}
 use Rattle.language_model.specs.Reports.{Offered, world_of, dealing, eval}
-use Rattle.typed_tree.specs.Programs.{TypedProgramTree}
+use Rattle.program_trees.specs.TypedPrograms.{TypedProgramTree}
 use Rattle.reached_instances.specs.Instances.{Instance}
 use Rattle.verified_code.specs.Steps.{Function}
 use Rattle.code_model.specs.Meaning.{mean, AreForward}

@@ -1,5 +1,6 @@
 -- What is promised of three miners that run code.
 pub mod Telling
+pub mod Handing
 pub mod Runs
 pub mod Laws
 pub mod ClientTold

@@ -22,6 +22,7 @@ use Rattle.driven_nodes.specs.Steps.{Stand, Running, Stopped, next_turn}
 use Rattle.code_places.specs.Places.{Place, first_place, run_dealt}
 use Rattle.code_places.specs.Places.{when_told}
 use Rattle.code_runs.specs.Telling.{Tells}
+use Rattle.code_runs.specs.Handing.{handed_in, kept_from}
 
 -- ---- THE MINERS
 
@@ -80,6 +81,9 @@ module _ (o : Offered) (d : Dealt) (c : List Function) (budget : ℕ) (tapes : T
     pub finishes : Finishes (miners o d c budget tapes) (messages d r tapes) (λ i. (Stopped turns.last, shares d r tapes i))
     pub opened : (i : Number) → opened_by (miners o d c budget tapes) (messages d r tapes) i ≡ r.opened
     pub told : Tells r.events (λ i. told_in (run_of (miners o d c budget tapes) (messages d r tapes) i).acts)
+    -- what each hands over are its own shares of the values that the gates make for that
+    pub gave :
+        (i : Number) → handed_in (told_in (run_of (miners o d c budget tapes) (messages d r tapes) i).acts) ≡ kept_from 0 (shares d r tapes i) r.gates
     pub counted :
         (delivery : Delivery)
         → walked (miners o d c budget tapes) 0 nothing (order_of (scripts d r) delivery) ≡ net (scripts d r) delivery

@@ -1,12 +1,12 @@
 -- What three miners tell beside the events of the run in the clear.
 use Rattle.std.specs.Prelude.{ℕ, List, [], ◌∷◌, map}
-use Rattle.secrec_ast.specs.declared.expression.DataType.{DataType}
-use Rattle.secrec_ast.specs.declared.expression.DataType.TheVariants.{Uint64}
-use Rattle.secrec_ast.specs.declared.expression.DataType.TheVariants as datatype
+use Rattle.program_trees.specs.declared.expression.DataType.{DataType}
+use Rattle.program_trees.specs.declared.expression.DataType.TheVariants.{Uint64}
+use Rattle.program_trees.specs.declared.expression.DataType.TheVariants as datatype
 use Rattle.sc_text.specs.declared.elements.Element.{Element}
 use Rattle.sc_text.specs.declared.event.Event.{Event}
-use Rattle.sc_text.specs.declared.event.Event.TheVariants.{Open, Publish}
-use Rattle.share_ring.specs.Ring.{Ring}
+use Rattle.sc_text.specs.declared.event.Event.TheVariants.{Open, Publish, Hand}
+use Rattle.proto_core.specs.Ring.{Ring}
 use Rattle.proto_core.specs.declared.party.Number.{Number}
 use Rattle.proto_core.specs.Strand.{Field, Words, Bits, Form, Notice, Shown, Published, Handed}
 use Rattle.gates.specs.Clear.{ring_of}
@@ -41,4 +41,4 @@ pub data Tells : List Event → (Number → List Notice) → Type 0 where
   handed :
       {events : List Event} {notices : Number → List Notice} (text : List ℕ) (form : Form) (words : List ℕ) (shares : Number → List ℕ)
       → AreOf form words → AreShares (ring_told form) words shares → Tells events notices
-      → Tells (Publish text (elements_told form words) ∷ events) (λ i. Handed text form (shares i) ∷ notices i)
+      → Tells (Hand text (elements_told form words) ∷ events) (λ i. Handed text form (shares i) ∷ notices i)

@@ -3,7 +3,7 @@ ghost use Rattle.std.specs.Prelude.{◌≡◌, IfOk};
 ghost use Rattle.code_runs.specs.ClientTold.{added_up, all_added_up};
 ghost use Rattle.code_places.specs.Places.{field_of};
 
-use secrec_ast::DataType;
+use program_trees::DataType;
 use std::alloc::{AllocError, Global};
 
 /// Three shares of an element added up.

@@ -2,7 +2,7 @@
 ghost use Rattle.std.specs.Prelude.{ℕ, List};
 ghost use Rattle.protocol_model.specs.Runs.{Tapes};
 ghost use Rattle.language_model.specs.Reports.{Offered};
-ghost use Rattle.typed_tree.specs.Programs.{TypedProgramTree};
+ghost use Rattle.program_trees.specs.TypedPrograms.{TypedProgramTree};
 ghost use Rattle.reached_instances.specs.Instances.{Instance};
 ghost use Rattle.verified_code.specs.Steps.{Function};
 ghost use Rattle.gate_laws.specs.Dealt.{Dealt};

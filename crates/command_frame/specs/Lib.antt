@@ -8,3 +8,5 @@ pub mod Said
 pub mod Status
 pub mod Stops
 pub mod Whole
+pub mod Faults
+pub mod FaultVectors

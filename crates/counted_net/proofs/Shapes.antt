@@ -93,6 +93,11 @@ module _ (moves : Number → List Move) where
   answer_same given (Err (err.Stalled miner link)) h = sym (net_same given) ∙ h
   answer_same given (Err err.Memory) h = tt
 
+-- a message is under way by the moves' links where it is by the scripts
+pub full_of : (s : Scripts) (moves : Number → List Move) → AreScripts moves s → (got : Counts) (l : Link) → is_full (plain_of s) got l ≡ is_full moves got l
+full_of s moves are got l =
+    ap (λ (m : Number → List Move). is_full m got l) (λ d. λ i. plain (are i d)) ∙ ap (nat_lt (got l)) (posted_same moves got l)
+
 -- what is answered of the moves' links is answered of the scripts
 pub answer_of : (s : Scripts) (moves : Number → List Move) → AreScripts moves s → (given : Delivery) (r : Result (Vec Link Global) DeliveryErr)
     → IsNetAnswer (plain_of s) given r → IsNetAnswer moves given r

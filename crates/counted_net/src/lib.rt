@@ -15,4 +15,5 @@ pub use answer::{ORDER_STREAM, deliver_counts};
 pub use choosing::chosen_link;
 pub use delivery::{Delivery, DeliveryErr};
 pub use moves::{Move, Scripts};
+pub use net::Net;
 pub use tally::Tally;

@@ -13,7 +13,7 @@ use std::marker::Model;
 
 /// Three miners joined by links. Contracts see their scripts, and the link of each delivery in order.
 #[derive(Drop)]
-pub(crate) struct Net<'a> {
+pub struct Net<'a> {
     scripts: &'a Scripts,
     miners: Miners,
     given: Tally,
@@ -101,6 +101,13 @@ impl<'a> Net<'a> {
             return Err(DeliveryErr::Stalled { miner, link });
         }
         Ok(())
+    }
+
+    /// The links of all deliveries so far, in order.
+    pub fn into_links(self) -> Vec<Link>
+        ensures { result.items ≡ self.entry.delivered }
+    {
+        self.delivered
     }
 
     /// The links of all deliveries in order, where no miner waits.

@@ -4,7 +4,7 @@ use Rattle.std.proofs.Common.{cond, arith}
 use Rattle.std.specs.Prelude.{map, bytes_eq, option_map}
 use Rattle.std.specs.List.{slice_get}
 use denote.Ref.{Bor}
-use Rattle.secrec_ast.specs.declared.function.Function.{Function}
+use Rattle.program_trees.specs.declared.function.Function.{Function}
 use Rattle.declarations.specs.Declarations.{number_in, function_named, defined}
 use Rattle.declarations.specs.Named.{name_of}
 use Rattle.declarations.specs.Views.{tree_at}

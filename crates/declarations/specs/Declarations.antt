@@ -1,6 +1,6 @@
 -- What a program declares, and what a name of it means.
 use Rattle.std.specs.Prelude.{ℕ, ◌+◌, Bool, false, ◌&&◌, ◌||◌, if◌then◌else◌, List, [], ◌∷◌, Option, Some, None, codes, bytes_eq, option_map}
-use Rattle.secrec_ast.specs.Programs.{FunctionTree, ItemTree, imports, kind, domain as domains_item, defines, ProgramTree}
+use Rattle.program_trees.specs.Programs.{FunctionTree, ItemTree, imports, kind, domain as domains_item, defines, ProgramTree}
 use Rattle.declarations.specs.declared.built_in.BuiltIn.{BuiltIn}
 use Rattle.declarations.specs.declared.built_in.BuiltIn.TheVariants.{Size, Cat, Sum, BitExtract}
 

@@ -1,8 +1,8 @@
 -- What the declarations in memory stand for.
 use Rattle.std.specs.Prelude.{map}
 use denote.Ref.{Bor}
-use Rattle.secrec_ast.specs.declared.function.Function.{Function}
-use Rattle.secrec_ast.specs.Programs.{FunctionTree, function_tree}
+use Rattle.program_trees.specs.declared.function.Function.{Function}
+use Rattle.program_trees.specs.Programs.{FunctionTree, function_tree}
 use Rattle.declarations.specs.declared.declarations.Declarations.{Declarations}
 use Rattle.declarations.specs.declared.declarations.Called.{Called}
 use Rattle.declarations.specs.declared.declarations.Called.TheVariants.{BuiltIn, Defined}

@@ -1,12 +1,12 @@
 // What the declarations of a program declare.
 ghost use Rattle.std.specs.Prelude.{◌≡◌, IfOk, map};
-ghost use Rattle.secrec_ast.specs.Programs.{item_tree};
+ghost use Rattle.program_trees.specs.Programs.{item_tree};
 ghost use Rattle.declarations.specs.Declarations.{is_imported, is_kind, declared_in};
 ghost use Rattle.declarations.specs.Views.{declared};
 
 use crate::declarations::Declarations;
 use crate::name_index::NameIndex;
-use secrec_ast::Item;
+use program_trees::Item;
 use std::alloc::{AllocError, Global};
 
 // Whether one of these imports the module of this name.

@@ -3,7 +3,7 @@ ghost use Rattle.declarations.specs.Named.{name_of};
 
 use crate::built_in::BuiltIn as BuiltInFunction;
 use crate::name_index::NameIndex;
-use secrec_ast::Function;
+use program_trees::Function;
 
 /// What a program declares, for look-ups by name.
 pub struct Declarations<'p> {

@@ -27,7 +27,7 @@ use Rattle.program_run.specs.Codes.{CanRunOn, code_report}
 use Rattle.program_run.proofs.Told.{known_so}
 use Rattle.link_schedule.specs.Streams.{StreamNet, with_tapes}
 use Rattle.delivered_run.specs.declared.errors.CourseErr.{CourseErr}
-use Rattle.delivered_run.specs.declared.running.NetRun.{NetRun}
+use Rattle.delivered_run.specs.States.{RunState}
 use Rattle.delivered_run.specs.Courses.{HasNetRun, IsNetRun}
 use Rattle.delivered_run.specs.Drawing.{GoesOn}
 use Rattle.delivered_run.specs.Nets.{Delivers, net_with}
@@ -75,7 +75,7 @@ module _ (code : RawCode) (entries : List Entry) (t : FourTapes) (budget : ℕ) 
 
   -- what comes of it from that net
   pub goes_on :
-      (net : StreamNet) → with_tapes net (miners_of t) ≡ start → (given : Delivery) (result : Result NetRun CourseErr)
+      (net : StreamNet) → with_tapes net (miners_of t) ≡ start → (given : Delivery) (result : Result RunState CourseErr)
       → GoesOn given net result (miners_of t) → IsNetRun offer dealing (settled code) budget (miners_of t) report given result
   goes_on net is given (Ok ran) h =
       has_net_run offer dealing (settled code) budget (miners_of t) report own given (with_tapes ran.net (miners_of t)) ran

@@ -15,7 +15,7 @@ use Rattle.input_share.specs.declared.dealing.DealErr.TheVariants as refusal
 use Rattle.input_share.specs.declared.dealing.Dealt as sharing
 use Rattle.verified_code.specs.Settled.{settled}
 use Rattle.clear_eval.specs.Offers.{offered}
-use Rattle.typed_tree.specs.Programs.{TypedProgramTree}
+use Rattle.program_trees.specs.TypedPrograms.{TypedProgramTree}
 use Rattle.language_model.specs.Reports.{Report}
 use Rattle.code_runs.specs.Dealt.{Dealt}
 use Rattle.view_model.specs.TapeMaps.{miners_of}
@@ -29,17 +29,16 @@ use Rattle.miner_core.specs.declared.answer.Lost.TheVariants as lost
 use Rattle.miner_core.specs.Drawing.{IsLostBy}
 use Rattle.link_schedule.proofs.Drawing.{net_drew_none}
 use Rattle.counted_net.specs.declared.delivery.DeliveryErr.{DeliveryErr}
-use Rattle.delivered_run.specs.declared.course.Course.{Course}
-use Rattle.delivered_run.specs.declared.course.Course.TheVariants as course
+use Rattle.delivered_run.specs.States.{CourseState, run_told}
+use Rattle.delivered_run.specs.States as course
 use Rattle.delivered_run.specs.declared.errors.CourseErr.{CourseErr}
 use Rattle.delivered_run.specs.declared.errors.CourseErr.TheVariants as fault
 use Rattle.delivered_run.specs.declared.running.DeliveredRun.{DeliveredRun}
 use Rattle.delivered_run.specs.declared.running.Job.{Job}
-use Rattle.delivered_run.specs.declared.running.NetRun.{NetRun}
-use Rattle.delivered_run.specs.Courses.{HasCourse, HasNetRun, IsNetRun, file_of, run_told}
+use Rattle.delivered_run.specs.States.{RunState}
+use Rattle.delivered_run.specs.Courses.{HasCourse, HasNetRun, IsNetRun, file_of}
 use Rattle.delivered_run.specs.Deliveries.{HasRunOf, IsOr}
 use Rattle.delivered_run.specs.Drawing.{course_of, AreDealt, AreDealtWith, CourseDraws, NetRuns, RunsDealt}
-use Rattle.delivered_run.specs.Lean.{run_only, told_only, AsKept}
 use Rattle.delivered_run.specs.Sources.{IsCause}
 use Rattle.delivered_run.specs.Undealt.{IsUndealtBy}
 use Rattle.delivered_run.proofs.Dealing.{dealt-front}
@@ -63,11 +62,11 @@ same_err d r given Q R fault.TapeFault h = tt
 -- ---- what was told
 
 module _ (p : TypedProgramTree) (entries : List Entry) (t : FourTapes) (budget : ℕ) (given : Delivery) where
-  told_so : (went : Course) → HasCourse p entries t budget given went → HasRunOf p entries t budget given (run_told went)
+  told_so : (went : CourseState) → HasCourse p entries t budget given went → HasRunOf p entries t budget given (run_told went)
   told_so (course.Dealt files end) h = h.ran.run
   told_so (course.Undealt run) h = h.ran
 
-  pub run_so : (went : Course) → HasCourse p entries t budget given went → (run : DeliveredRun) → run ≡ run_told went
+  pub run_so : (went : CourseState) → HasCourse p entries t budget given went → (run : DeliveredRun) → run ≡ run_told went
       → HasRunOf p entries t budget given run
   run_so went h run is = subst (HasRunOf p entries t budget given) (sym is) (told_so went h)
 
@@ -117,7 +116,7 @@ module _ (job : Job) (words : List ℕ) (given : Delivery) (files : sharing.Deal
           report_so p accepted job.code.now code entries t sound suffice (are.of_words.miners One) (are.of_words.miners Two)
           (are.of_words.miners Three) job.budget
 
-      ran_so : (r : Result NetRun CourseErr) → RunsDealt job files given r t
+      ran_so : (r : Result RunState CourseErr) → RunsDealt job files given r t
           → IsNetRun (offered entries (lengths_of t)) (dealt_of entries t.dealer) (settled job.code.now) job.budget (miners_of t)
           (eval_with p entries t job.budget) given r
       ran_so r h =
@@ -129,7 +128,7 @@ module _ (job : Job) (words : List ℕ) (given : Delivery) (files : sharing.Deal
     too_few : {P : Type 0} → length words < need_of entries → P
     too_few h = absurd (omega (arith, h, enough))
 
-    pub dealt_course : (end : NetRun) → NetRuns a b (Ok end) (RunsDealt job files given (Ok end)) →
+    pub dealt_course : (end : RunState) → NetRuns a b (Ok end) (RunsDealt job files given (Ok end)) →
         CourseDraws job words given a b (Ok (course.Dealt files end))
     dealt_course end h =
         record {
@@ -150,7 +149,7 @@ module _ (job : Job) (words : List ℕ) (given : Delivery) (files : sharing.Deal
           undealt = λ few i. too_few few;
         }
 
-    pub dealt_refused : (e : CourseErr) → NetRuns a b {A = NetRun} (Err e) (RunsDealt job files given (Err e)) → CourseDraws job words given a b (Err e)
+    pub dealt_refused : (e : CourseErr) → NetRuns a b {A = RunState} (Err e) (RunsDealt job files given (Err e)) → CourseDraws job words given a b (Err e)
     dealt_refused e h =
         record {
           runs =
@@ -167,17 +166,6 @@ module _ (job : Job) (words : List ℕ) (given : Delivery) (files : sharing.Deal
               };
           undealt = λ few i. too_few few;
         }
-
-    -- the same where no net is kept
-    pub dealt_kept :
-        (result : Result DeliveredRun CourseErr) → AsKept run_only (λ r. NetRuns a b r (RunsDealt job files given r)) result
-        → AsKept told_only (CourseDraws job words given a b) result
-    dealt_kept result h = by_kept h.kept h.same h.goes
-      where
-        by_kept : (r : Result NetRun CourseErr) → run_only r ≡ result → NetRuns a b r (RunsDealt job files given r)
-            → AsKept told_only (CourseDraws job words given a b) result
-        by_kept (Ok end) same ran = record { kept = Ok (course.Dealt files end); same = same; goes = dealt_course end ran }
-        by_kept (Err e) same ran = record { kept = Err e; same = same; goes = dealt_refused e ran }
 
 -- ---- or can't be dealt
 

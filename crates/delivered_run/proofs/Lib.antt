@@ -5,6 +5,7 @@ pub mod Runs
 pub mod DealtRuns
 pub mod Undealt
 pub mod Dealing
+pub mod States
 pub mod Going
 pub mod Netting
 pub mod Sources

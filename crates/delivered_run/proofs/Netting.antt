@@ -39,8 +39,8 @@ use Rattle.miner_core.specs.Views.{notice_seen, task_code, task_world}
 use Rattle.link_schedule.specs.declared.errors.RunErr.{RunErr}
 use Rattle.link_schedule.specs.declared.errors.RunErr.TheVariants as running
 use Rattle.link_schedule.specs.Answers.{RunAnswers}
-use Rattle.link_schedule.specs.declared.lean_net.LeanNet.{LeanNet}
-use Rattle.link_schedule.specs.Lean.{LeanAlong}
+use Rattle.link_schedule.specs.declared.net.Net3.{Net3}
+use Rattle.link_schedule.specs.Miners.{GoesAlong}
 use Rattle.link_schedule.specs.Net.{NetState, net_node}
 use Rattle.link_schedule.specs.Orders as orders
 use Rattle.link_schedule.specs.Parts.{AreAlike}
@@ -52,10 +52,9 @@ use Rattle.delivered_run.specs.declared.errors.CourseErr.{CourseErr}
 use Rattle.delivered_run.specs.declared.errors.CourseErr.TheVariants as course
 use Rattle.delivered_run.specs.declared.net.Setting.{Setting}
 use Rattle.delivered_run.specs.declared.running.Job.{Job}
-use Rattle.delivered_run.specs.declared.running.NetRun.{NetRun}
+use Rattle.delivered_run.specs.States.{RunState}
 use Rattle.delivered_run.specs.Courses.{HasNetRun}
-use Rattle.delivered_run.specs.Drawing.{course_of, made, scheduled, DeliversAll, HasGoneOn, IsNew, Makes, NetGoes, NetRuns, RunsDealt}
-use Rattle.delivered_run.specs.Lean.{DeliversLean}
+use Rattle.delivered_run.specs.Drawing.{course_of, made, scheduled, DeliversAll, DeliversOn, HasGoneOn, IsNew, Makes, NetGoes, NetRuns, RunsDealt}
 use Rattle.delivered_run.specs.Nets.{Delivers, HasTold, IsToldBy, net_with, setting_world, story_for}
 use Rattle.delivered_run.specs.Sources.{IsCause}
 use Rattle.delivered_run.proofs.DealtRuns.{goes_on, net_is}
@@ -227,15 +226,17 @@ module _ (before after : StreamNet) (a b : TapesState) where
         still = h.still;
       }
 
--- the same of a net that keeps little
-pub lean_made :
-    (before : StreamNet) (n : LeanNet) (a b : TapesState) (words : ℕ → ℕ) (given : Delivery) (r : Result (Unit {0}) Lost)
-    → ((x y : NetState) → orders.Makes words x y → Delivers given x y (Ok tt))
-    → LeanAlong before n a b (lost_by r) (λ x y. OnOk r (orders.Makes words x y)) → DeliversLean a b given before n (made r)
-lean_made before n a b words given (Ok done) is h =
-    record { then = h.then; delivers = all_made before h.then a b words given (Ok done) is h.along; is = h.is }
-lean_made before n a b words given (Err why) is h =
-    record { then = h.then; delivers = all_made before h.then a b words given (Err why) is h.along; is = tt }
+-- the same of a net, by the states that it may be in
+module _ (before : StreamNet) (n : Net3) (a b : TapesState) where
+  pub on_made :
+      (words : ℕ → ℕ) (given : Delivery) (r : Result (Unit {0}) Lost) → ((x y : NetState) → orders.Makes words x y → Delivers given x y (Ok tt))
+      → GoesAlong before n a b (lost_by r) (λ x y. OnOk r (orders.Makes words x y)) → DeliversOn a b given before n (made r)
+  on_made words given r is h = record { then = h.then; delivers = all_made before h.then a b words given r is h.along; is = h.is }
+
+  pub on_schedule :
+      (links : List Link) (r : Result (Unit {0}) RunErr) → GoesAlong before n a b (run_lost r) (λ x y. RunAnswers x y links r)
+      → DeliversOn a b (Listed links) before n (scheduled r)
+  on_schedule links r h = record { then = h.then; delivers = all_scheduled before h.then a b links r h.along; is = h.is }
 
 -- ---- what comes of a net
 
@@ -288,7 +289,7 @@ module _ (a b : TapesState) (given : Delivery) (net after : StreamNet) where
       }
 
   pub goes_well :
-      (ran : NetRun) → ran.net ≡ after → DeliversAll a b given net after (Ok tt) → ForEachTapes after (λ n. HasTold n ran.run.report)
+      (ran : RunState) → ran.net ≡ after → DeliversAll a b given net after (Ok tt) → ForEachTapes after (λ n. HasTold n ran.run.report)
       → ran.run.delivered.items ≡ after.delivered → NetGoes a b given net (Ok ran)
   goes_well ran is h told delivered =
       record {
@@ -312,21 +313,21 @@ later_cause a b c taken d still course.TapeFault h = lost_later a b c taken d st
 -- ---- what comes of what was dealt
 
 module _ (job : Job) (files : sharing.Dealt) (given : Delivery) where
-  pub runs_without : (a : TapesState) → NetRuns a a {A = NetRun} (Err (course.Delivery err.Memory))
+  pub runs_without : (a : TapesState) → NetRuns a a {A = RunState} (Err (course.Delivery err.Memory))
       (RunsDealt job files given (Err (course.Delivery err.Memory)))
   runs_without a =
       record { taken = λ i. []; drew = net_drew_none a; cause = tt; holds = λ t of are. tt; still = λ s. s }
 
   pub runs_unmade :
       {A : Type 0} (Is : A → StreamNet → Type 0) (setting : Setting) (a b : TapesState) (why : Lost) → Makes a b Is setting files (Err why)
-      → NetRuns a b {A = NetRun} (Err (course_of why)) (RunsDealt job files given (Err (course_of why)))
+      → NetRuns a b {A = RunState} (Err (course_of why)) (RunsDealt job files given (Err (course_of why)))
   runs_unmade Is setting a b why h =
       record {
         taken = h.taken;
         drew = h.drew;
         cause = cause_so a b why h.err;
         holds = λ t of are.
-            lost_so NetRun (dealt_of job.inputs.now t.dealer) (code_report job.code.now job.inputs.now t job.budget) given
+            lost_so RunState (dealt_of job.inputs.now t.dealer) (code_report job.code.now job.inputs.now t job.budget) given
             (HasNetRun (offered job.inputs.now (lengths_of t)) (dealt_of job.inputs.now t.dealer) (settled job.code.now) job.budget (miners_of t)
             (code_report job.code.now job.inputs.now t job.budget) given) why;
         still = h.still;
@@ -335,7 +336,7 @@ module _ (job : Job) (files : sharing.Dealt) (given : Delivery) where
   module _ (setting : Setting) (same_code : setting.code.now ≡ job.code.now) (same_lengths : setting.lengths ≡ job.lengths)
       (same_budget : setting.budget ≡ job.budget) (part : setting.part.now ≡ part_of job.inputs.now) where
     pub runs_made :
-        {A : Type 0} (Is : A → StreamNet → Type 0) (a b c : TapesState) (x : A) (m : Makes a b Is setting files (Ok x)) (result : Result NetRun CourseErr)
+        {A : Type 0} (Is : A → StreamNet → Type 0) (a b c : TapesState) (x : A) (m : Makes a b Is setting files (Ok x)) (result : Result RunState CourseErr)
         → NetGoes b c given m.ok.0 result → NetRuns a c result (RunsDealt job files given result)
     runs_made Is a b c x m result g =
         record {

@@ -28,7 +28,7 @@ use Rattle.link_schedule.specs.Streams.{MayHave, with_tapes}
 use Rattle.counted_net.specs.declared.delivery.DeliveryErr.TheVariants as err
 use Rattle.delivered_run.specs.declared.errors.CourseErr.{CourseErr}
 use Rattle.delivered_run.specs.declared.errors.CourseErr.TheVariants as course
-use Rattle.delivered_run.specs.declared.running.NetRun.{NetRun}
+use Rattle.delivered_run.specs.States.{RunState}
 use Rattle.delivered_run.specs.Courses.{HasNetRun, IsAtItsEnd}
 use Rattle.delivered_run.specs.Deliveries.{IsOr}
 use Rattle.delivered_run.specs.Nets.{Delivers, HasTold, StopsAt, net_with}
@@ -149,7 +149,7 @@ module _ (o : Offered) (d : Dealt) (c : List Function) (budget : ℕ) (tapes : T
         node = node_at_end links then all;
       }
 
-  pub has_net_run : (given : Delivery) (then : NetState) (ran : NetRun) → Delivers given at_first then (Ok tt) → with_tapes ran.net tapes ≡ then
+  pub has_net_run : (given : Delivery) (then : NetState) (ran : RunState) → Delivers given at_first then (Ok tt) → with_tapes ran.net tapes ≡ then
       → MayHave ran.net tapes → HasTold then ran.run.report → ran.run.delivered.items ≡ then.delivered → HasNetRun o d c budget tapes r given ran
   has_net_run given then ran h stands may told delivered = record {
     run = record {

@@ -16,7 +16,7 @@ use Rattle.tape_file.specs.Tapes.{FourTapes}
 use Rattle.tape_sources.specs.Parties.{four_of as source_words}
 use Rattle.value_file.specs.declared.inputs.Entry.{Entry}
 use Rattle.input_share.specs.Dealing.{need_of}
-use Rattle.typed_tree.specs.Programs.{TypedProgramTree}
+use Rattle.program_trees.specs.TypedPrograms.{TypedProgramTree}
 use Rattle.view_model.specs.TapeMaps.{miners_of, four_of, AreTapes}
 use Rattle.program_run.specs.Accepted.{IsAccepted}
 use Rattle.program_run.specs.Codes.{IsCodeOf}
@@ -28,14 +28,14 @@ use Rattle.miner_core.specs.Drawing.{left_for, IsTapeFault}
 use Rattle.miner_core.proofs.Sources.{drew_none, drew_same}
 use Rattle.link_schedule.specs.Streams.{AreTapesOf, NetDrew}
 use Rattle.link_schedule.proofs.Drawing.{net_drew_none}
-use Rattle.delivered_run.specs.declared.course.Course.{Course}
+use Rattle.delivered_run.specs.States.{CourseState, IsAnswerIn, run_told}
 use Rattle.delivered_run.specs.declared.errors.CourseErr.{CourseErr}
 use Rattle.delivered_run.specs.declared.errors.CourseErr.TheVariants as fault
 use Rattle.delivered_run.specs.declared.running.Job.{Job}
-use Rattle.delivered_run.specs.Courses.{HasCourse, IsCourseOf, run_told}
+use Rattle.delivered_run.specs.Courses.{HasCourse, IsCourseOf}
 use Rattle.delivered_run.specs.Deliveries.{HasRunOf, IsRunOf}
 use Rattle.delivered_run.specs.Drawing.{course_of, lengths_in, AreDealtWith, CourseDraws, DealerDraws}
-use Rattle.delivered_run.specs.Lean.{told_only}
+use Rattle.delivered_run.specs.declared.running.DeliveredRun.{DeliveredRun}
 use Rattle.delivered_run.specs.Sources.{DrewFour, HaveGone, IsCause, MayBe, RunsFrom}
 use Rattle.delivered_run.proofs.Going.{cause_so, run_so, same_err}
 
@@ -187,7 +187,7 @@ no_more : (words rest : List ℕ) → length (words ++ rest) ≡ length words + 
 no_more words [] h = append-none words
 no_more words (x ∷ rest) h = let long = length-append words (x ∷ rest) in absurd (omega (arith, h, long))
 
-module _ {B : Type 0} (a b c : TapesState) (job : Job) (items : B → List ℕ) (words : B) (given : Delivery) (result : Result Course CourseErr)
+module _ {B : Type 0} (a b c : TapesState) (job : Job) (items : B → List ℕ) (words : B) (given : Delivery) (result : Result CourseState CourseErr)
     (dealer : DealerDraws a b job.inputs.now items (Ok words)) (went : CourseDraws job (items words) given b c result) (lengths : job.lengths ≡ lengths_in a)
     (p : TypedProgramTree) (accepted : IsAccepted p) (code : IsCodeOf p job.code.now) (sound : AreSound job.inputs.now) where
   abbrev drawn : FourTapes
@@ -254,7 +254,7 @@ module _ {B : Type 0} (a b c : TapesState) (job : Job) (items : B → List ℕ) 
 
 -- the same, with the dealer's words under another name
 pub runs_with :
-    {B : Type 0} (a b c : TapesState) (job : Job) (items : B → List ℕ) (words : B) (seen : List ℕ) (given : Delivery) (result : Result Course CourseErr)
+    {B : Type 0} (a b c : TapesState) (job : Job) (items : B → List ℕ) (words : B) (seen : List ℕ) (given : Delivery) (result : Result CourseState CourseErr)
     → DealerDraws a b job.inputs.now items (Ok words) → CourseDraws job seen given b c result → seen ≡ items words → job.lengths ≡ lengths_in a
     → (p : TypedProgramTree) → IsAccepted p → IsCodeOf p job.code.now → AreSound job.inputs.now
     → RunsFrom a c job.inputs.now result (λ t. IsCourseOf p job.inputs.now t job.budget given result)
@@ -278,13 +278,17 @@ runs_as a b entries r x Q R h cause step =
 
 -- what a course tells is the run
 pub told_from :
-    (a b : TapesState) (p : TypedProgramTree) (entries : List Entry) (budget : ℕ) (given : Delivery) (kept : Result Course CourseErr)
-    → RunsFrom a b entries kept (λ t. IsCourseOf p entries t budget given kept)
-    → RunsFrom a b entries (told_only kept) (λ t. IsRunOf p entries t budget given (told_only kept))
-told_from a b p entries budget given (Ok went) h =
-    runs_as a b entries (Ok went) (Ok (run_told went)) (λ t. IsCourseOf p entries t budget given (Ok went))
-    (λ t. IsRunOf p entries t budget given (Ok (run_told went))) h tt (λ t k. run_so p entries t budget given went k (run_told went) refl)
-told_from a b p entries budget given (Err e) h =
-    runs_as a b entries (Err e) (Err e) (λ t. IsCourseOf p entries t budget given (Err e)) (λ t. IsRunOf p entries t budget given (Err e)) h h.cause
+    (a b : TapesState) (p : TypedProgramTree) (entries : List Entry) (budget : ℕ) (given : Delivery) (seen : Result CourseState CourseErr)
+    (result : Result DeliveredRun CourseErr) → IsAnswerIn (λ run went. run ≡ run_told went) result seen
+    → RunsFrom a b entries seen (λ t. IsCourseOf p entries t budget given seen)
+    → RunsFrom a b entries result (λ t. IsRunOf p entries t budget given result)
+told_from a b p entries budget given (Ok went) (Ok run) is h =
+    runs_as a b entries (Ok went) (Ok run) (λ t. IsCourseOf p entries t budget given (Ok went))
+    (λ t. IsRunOf p entries t budget given (Ok run)) h tt (λ t k. run_so p entries t budget given went k run is)
+told_from a b p entries budget given (Err e) (Err f) is h =
+    subst (λ x. RunsFrom a b {A = DeliveredRun} entries (Err x) (λ t. IsRunOf p entries t budget given (Err x))) (sym is)
+    (runs_as a b entries (Err e) (Err e) (λ t. IsCourseOf p entries t budget given (Err e)) (λ t. IsRunOf p entries t budget given (Err e)) h h.cause
     (λ t k.
-    same_err (dealt_of entries t.dealer) (eval_with p entries t budget) given (HasCourse p entries t budget given) (HasRunOf p entries t budget given) e k)
+    same_err (dealt_of entries t.dealer) (eval_with p entries t budget) given (HasCourse p entries t budget given) (HasRunOf p entries t budget given) e k))
+told_from a b p entries budget given (Ok went) (Err f) is h = absurd is
+told_from a b p entries budget given (Err e) (Ok run) is h = absurd is

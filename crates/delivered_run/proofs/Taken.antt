@@ -8,7 +8,7 @@ use Rattle.protocol_model.specs.Network.{Accepted, Default, Delivery, Listed, Sh
 use Rattle.tape_file.specs.Tapes.{FourTapes}
 use Rattle.value_file.specs.declared.inputs.Entry.{Entry}
 use Rattle.input_share.specs.Dealing.{need_of}
-use Rattle.typed_tree.specs.Programs.{TypedProgramTree}
+use Rattle.program_trees.specs.TypedPrograms.{TypedProgramTree}
 use Rattle.language_model.specs.Reports.{Report}
 use Rattle.program_run.specs.Inputs.{dealt_of}
 use Rattle.code_runs.specs.Runs.{scripts}

@@ -11,7 +11,7 @@ use Rattle.input_share.specs.Dealing.{need_of}
 use Rattle.input_share.specs.Refusal.{Refuses}
 use Rattle.input_share.specs.declared.dealing.DealErr.{DealErr}
 use Rattle.input_share.specs.declared.dealing.DealErr.TheVariants as refusal
-use Rattle.typed_tree.specs.Programs.{TypedProgramTree}
+use Rattle.program_trees.specs.TypedPrograms.{TypedProgramTree}
 use Rattle.program_run.proofs.Told.{undealt_so}
 use Rattle.counted_net.specs.declared.delivery.DeliveryErr.{DeliveryErr}
 use Rattle.counted_net.specs.declared.delivery.DeliveryErr.TheVariants as err

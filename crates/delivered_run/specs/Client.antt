@@ -1,7 +1,7 @@
 -- What the client makes of the shares that are handed in.
 use Rattle.std.specs.Prelude.{ℕ, List}
 use Rattle.sc_text.specs.declared.elements.Element.{Element}
-use Rattle.typed_tree.specs.declared.kinds.Shape.{Shape}
+use Rattle.program_trees.specs.declared.kinds.Shape.{Shape}
 use Rattle.miner_core.specs.Places.{form_of}
 use Rattle.program_run.specs.Telling.{elements_told}
 use Rattle.code_runs.specs.ClientTold.{all_added_up}

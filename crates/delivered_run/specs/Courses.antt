@@ -5,7 +5,7 @@ use Rattle.proto_core.specs.Net.{run_of}
 use Rattle.protocol_model.specs.Network.{Delivery, order_of}
 use Rattle.protocol_model.specs.Runs.{Tapes}
 use Rattle.tape_file.specs.Tapes.{FourTapes}
-use Rattle.typed_tree.specs.Programs.{TypedProgramTree}
+use Rattle.program_trees.specs.TypedPrograms.{TypedProgramTree}
 use Rattle.value_file.specs.declared.inputs.Entry.{Entry}
 use Rattle.input_share.specs.Dealing.{dealt, need_of}
 use Rattle.input_share.specs.ShareFile.{MinerFile}
@@ -25,11 +25,11 @@ use Rattle.program_run.specs.Reports.{eval_with, lengths_of}
 use Rattle.miner_runs.specs.OwnRuns.{OwnRunAsReported, own_nodes}
 use Rattle.link_schedule.specs.Net.{NetState, by_number, net_node}
 use Rattle.link_schedule.specs.Streams.{MayHave, with_tapes}
-use Rattle.delivered_run.specs.declared.course.Course.{Course}
-use Rattle.delivered_run.specs.declared.course.Course.TheVariants as course
+use Rattle.delivered_run.specs.States.{CourseState}
+use Rattle.delivered_run.specs.States as course
 use Rattle.delivered_run.specs.declared.errors.CourseErr.{CourseErr}
 use Rattle.delivered_run.specs.declared.running.DeliveredRun.{DeliveredRun}
-use Rattle.delivered_run.specs.declared.running.NetRun.{NetRun}
+use Rattle.delivered_run.specs.States.{RunState}
 use Rattle.delivered_run.specs.Deliveries.{HasRun, HasRunOf, IsOr, IsOrRefused}
 
 -- ---- three miners with this code, by what was offered and dealt, and the report of the run in the clear
@@ -44,13 +44,13 @@ module _ (o : Offered) (d : Dealt) (c : List Function) (budget : ℕ) (tapes : T
     pub node : (i : Number) → net_node net i ≡ run_of (own_nodes o d c budget tapes) (messages d r tapes) i
 
   -- these are tapes that the net may have, with which it is so
-  pub record HasNetRun (given : Delivery) (ran : NetRun) : Type 0 where
+  pub record HasNetRun (given : Delivery) (ran : RunState) : Type 0 where
     pub run : HasRun d r given ran.run
     pub may : MayHave ran.net tapes
     pub net : IsAtItsEnd given (with_tapes ran.net tapes)
 
   -- so it is, or the schedule is refused
-  abbrev pub IsNetRun : Delivery → Result NetRun CourseErr → Type 0
+  abbrev pub IsNetRun : Delivery → Result RunState CourseErr → Type 0
   IsNetRun given result = IsOr d r given (HasNetRun given) result
 
 -- ---- of a program
@@ -62,14 +62,9 @@ IsSettledOf p c = (raw : RawCode) × IsCodeOf p raw × (c ≡ settled raw)
 abbrev pub file_of : sharing.Dealt → Number → MinerFile
 file_of files i = by_number files.first files.second files.third i
 
--- what came of it
-abbrev pub run_told : Course → DeliveredRun
-run_told (course.Dealt files end) = end.run
-run_told (course.Undealt run) = run
-
 module _ (p : TypedProgramTree) (entries : List Entry) (t : FourTapes) (budget : ℕ) (given : Delivery) where
   -- the inputs are dealt in these files, with which the miners have run the program's code
-  pub record IsDealtRun (files : sharing.Dealt) (end : NetRun) : Type 0 where
+  pub record IsDealtRun (files : sharing.Dealt) (end : RunState) : Type 0 where
     pub code : List Function
     pub of_program : IsSettledOf p code
     pub can : CanBeDealt entries t
@@ -82,9 +77,9 @@ module _ (p : TypedProgramTree) (entries : List Entry) (t : FourTapes) (budget :
     pub few : length t.dealer < need_of entries
     pub ran : HasRunOf p entries t budget given run
 
-  abbrev pub HasCourse : Course → Type 0
+  abbrev pub HasCourse : CourseState → Type 0
   HasCourse (course.Dealt files end) = IsDealtRun files end
   HasCourse (course.Undealt run) = IsUndealtRun run
 
-  abbrev pub IsCourseOf : Result Course CourseErr → Type 0
+  abbrev pub IsCourseOf : Result CourseState CourseErr → Type 0
   IsCourseOf result = IsOrRefused p entries t budget given HasCourse result

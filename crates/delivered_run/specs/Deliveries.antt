@@ -4,7 +4,7 @@ use Rattle.proto_core.specs.declared.link.Link.{Link}
 use Rattle.protocol_model.specs.Network as network
 use Rattle.protocol_model.specs.Network.{net, order_of}
 use Rattle.tape_file.specs.Tapes.{FourTapes}
-use Rattle.typed_tree.specs.Programs.{TypedProgramTree}
+use Rattle.program_trees.specs.TypedPrograms.{TypedProgramTree}
 use Rattle.value_file.specs.declared.inputs.Entry.{Entry}
 use Rattle.language_model.specs.Reports.{Report}
 use Rattle.code_runs.specs.Dealt.{Dealt}

@@ -9,7 +9,7 @@ use Rattle.protocol_model.specs.Runs.{Tapes}
 use Rattle.gates.specs.Clear.{Values}
 use Rattle.verified_code.specs.Settled.{settled}
 use Rattle.tape_file.specs.Tapes.{FourTapes}
-use Rattle.typed_tree.specs.Programs.{TypedProgramTree}
+use Rattle.program_trees.specs.TypedPrograms.{TypedProgramTree}
 use Rattle.value_file.specs.declared.inputs.Entry.{Entry}
 use Rattle.input_share.specs.Dealing.{dealt, need_of}
 use Rattle.input_share.specs.declared.dealing.Dealt as sharing
@@ -22,19 +22,23 @@ use Rattle.program_run.specs.Inputs.{AreSound, dealt_of}
 use Rattle.program_run.specs.Reports.{lengths_of}
 use Rattle.miner_core.specs.declared.answer.Lost.{Lost}
 use Rattle.miner_core.specs.declared.answer.Lost.TheVariants as lost
+use Rattle.miner_core.specs.declared.kept.Kept.{Kept}
 use Rattle.miner_core.specs.Drawing.{left_for, IsLostBy}
+use Rattle.miner_core.specs.Miners.{MinerSeen, IsOf}
 use Rattle.miner_core.specs.Streams.{StreamState}
 use Rattle.link_schedule.specs.declared.errors.RunErr.{RunErr}
 use Rattle.link_schedule.specs.declared.errors.RunErr.TheVariants as running
+use Rattle.link_schedule.specs.declared.net.Net3.{Net3}
+use Rattle.link_schedule.specs.Miners.{unfetched, IsNetOf}
 use Rattle.link_schedule.specs.Net.{NetState}
 use Rattle.link_schedule.specs.Streams.{StreamNet, drawn_in, ahead_in, with_tapes, AreTapesOf, MayHave, NetDrew, HasGone}
 use Rattle.counted_net.specs.declared.delivery.DeliveryErr.TheVariants as err
-use Rattle.delivered_run.specs.declared.course.Course.{Course}
+use Rattle.delivered_run.specs.States.{CourseState}
 use Rattle.delivered_run.specs.declared.errors.CourseErr.{CourseErr}
 use Rattle.delivered_run.specs.declared.errors.CourseErr.TheVariants as course
 use Rattle.delivered_run.specs.declared.net.Setting.{Setting}
 use Rattle.delivered_run.specs.declared.running.Job.{Job}
-use Rattle.delivered_run.specs.declared.running.NetRun.{NetRun}
+use Rattle.delivered_run.specs.States.{RunState}
 use Rattle.delivered_run.specs.Courses.{IsCourseOf, IsNetRun}
 use Rattle.delivered_run.specs.Nets.{Delivers, HasTold, net_with, setting_world, story_for}
 use Rattle.delivered_run.specs.Sources.{IsCause}
@@ -60,13 +64,13 @@ made (Ok done) = Ok tt
 made (Err why) = Err (course_of why)
 
 -- the net's messages are delivered so, and what comes of it is what its miners then tell; with all tapes that they may have
-pub record HasGoneOn (given : Delivery) (net : StreamNet) (ran : NetRun) (tapes : Tapes) : Type 0 where
+pub record HasGoneOn (given : Delivery) (net : StreamNet) (ran : RunState) (tapes : Tapes) : Type 0 where
   pub delivers : Delivers given (with_tapes net tapes) (with_tapes ran.net tapes) (Ok tt)
   pub may : MayHave ran.net tapes
   pub told : HasTold (with_tapes ran.net tapes) ran.run.report
   pub delivered : ran.run.delivered.items ≡ ran.net.delivered
 
-abbrev pub GoesOn : Delivery → StreamNet → Result NetRun CourseErr → (tapes : Tapes) → Type 0
+abbrev pub GoesOn : Delivery → StreamNet → Result RunState CourseErr → (tapes : Tapes) → Type 0
 GoesOn given net (Ok ran) tapes = HasGoneOn given net ran tapes
 GoesOn given net (Err e) tapes = (then : NetState) × Delivers given (with_tapes net tapes) then (Err e)
 
@@ -96,6 +100,13 @@ module _ (old new : TapesState) where
     pub story :
         m.story ≡ story_for (setting_world setting) (settled setting.code.now) setting.budget (record { dealt = shares; tape = taken })
     pub ahead : left_for i new ≡ m.ahead
+
+  -- the same of a miner that may let go what is done with
+  pub record IsNewSo {P : Type 0} (i : Number) (setting : Setting) (shares : Values) (past : Kept) (m : MinerSeen P) : Type 0 where
+    pub stream : StreamState
+    pub made : IsNew i setting shares stream
+    pub is : IsOf i m (unfetched stream)
+    pub past_is : m.past ≡ past
 
   -- ---- three miners
 
@@ -130,7 +141,13 @@ module _ (old new : TapesState) where
         Delivers given (with_tapes before tapes) (with_tapes after tapes) result
     pub still : old.steady ≡ true → new.steady ≡ true
 
-  pub record NetGoes (given : Delivery) (net : StreamNet) (result : Result NetRun CourseErr) : Type 0 where
+  -- the same of a net, by the states that it may be in
+  pub record DeliversOn (given : Delivery) (before : StreamNet) (n : Net3) (result : Result (Unit {0}) CourseErr) : Type 0 where
+    pub then : StreamNet
+    pub delivers : DeliversAll given before then result
+    pub is : IsNetOf n then
+
+  pub record NetGoes (given : Delivery) (net : StreamNet) (result : Result RunState CourseErr) : Type 0 where
     pub taken : Tapes
     pub drew : NetDrew old new taken
     pub cause : IfErr result (IsCause old new)
@@ -157,7 +174,7 @@ pub record AreDealt (job : Job) (files : sharing.Dealt) (t : FourTapes) : Type 0
   pub third : files.third ≡ dealt Three job.inputs.now t.dealer (lengths_of t)
   pub runs : CanRunOn job.code.now job.inputs.now t
 
-abbrev pub RunsDealt : Job → sharing.Dealt → Delivery → (result : Result NetRun CourseErr) → FourTapes → Type 0
+abbrev pub RunsDealt : Job → sharing.Dealt → Delivery → (result : Result RunState CourseErr) → FourTapes → Type 0
 RunsDealt job files given result t =
     AreDealt job files t
     → IsNetRun (offered job.inputs.now (lengths_of t)) (dealt_of job.inputs.now t.dealer) (settled job.code.now) job.budget (miners_of t)
@@ -173,11 +190,11 @@ pub record AreDealtWith (job : Job) (words : List ℕ) (t : FourTapes) : Type 0 
   pub of_words : AreTapes t
 
 -- it goes as the program's does of which the code is
-abbrev pub GoesWith : Job → (words : List ℕ) → Delivery → (result : Result Course CourseErr) → FourTapes → Type 0
+abbrev pub GoesWith : Job → (words : List ℕ) → Delivery → (result : Result CourseState CourseErr) → FourTapes → Type 0
 GoesWith job words given result t =
     (p : TypedProgramTree) → IsAccepted p → IsCodeOf p job.code.now → AreSound job.inputs.now → AreDealtWith job words t →
     IsCourseOf p job.inputs.now t job.budget given result
 
-pub record CourseDraws (job : Job) (words : List ℕ) (given : Delivery) (old new : TapesState) (result : Result Course CourseErr) : Type 0 where
+pub record CourseDraws (job : Job) (words : List ℕ) (given : Delivery) (old new : TapesState) (result : Result CourseState CourseErr) : Type 0 where
   pub runs : NetRuns old new result (GoesWith job words given result)
   pub undealt : length words < need_of job.inputs.now → (i : Number) → runs.taken i ≡ []

@@ -3,7 +3,7 @@ use Rattle.std.specs.Prelude.{◌≡◌, ℕ, List}
 use Rattle.protocol_model.specs.Network.{Accepted, Delivery}
 use Rattle.tape_file.specs.Tapes.{FourTapes}
 use Rattle.value_file.specs.declared.inputs.Entry.{Entry}
-use Rattle.typed_tree.specs.Programs.{TypedProgramTree}
+use Rattle.program_trees.specs.TypedPrograms.{TypedProgramTree}
 use Rattle.program_run.specs.Accepted.{IsAccepted}
 use Rattle.delivered_run.specs.Deliveries.{net_of}
 use Rattle.delivered_run.specs.Premises.{HaveWords, IsMade}

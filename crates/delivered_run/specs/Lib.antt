@@ -1,5 +1,6 @@
 pub mod Client
 pub mod Deliveries
+pub mod States
 pub mod Courses
 pub mod Nets
 pub mod Sources
@@ -7,7 +8,6 @@ pub mod Drawing
 pub mod Undealt
 pub mod Premises
 pub mod Laws
-pub mod Lean
 pub use Rattle.miner_runs.specs.Programs
 pub use Rattle.miner_runs.specs.Accepted
 pub use Rattle.miner_runs.specs.Dealt

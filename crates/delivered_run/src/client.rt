@@ -6,9 +6,9 @@ ghost use Rattle.delivered_run.specs.Client.{handed_elements};
 
 use code_runs::all_added_up;
 use miner_core::Notice;
+use program_trees::Shape;
 use sc_text::{Elements, Event};
 use std::alloc::{AllocError, Global};
-use typed_tree::Shape;
 use vector_ops::elements;
 
 /// The values of which three miners hand in these shares.
@@ -49,7 +49,7 @@ fn event_of(
         Notice::Handed { name, shape, words } => {
             let name = name.copy(alloc)?;
             let given = shared_elements(alloc, *shape, words, second, third)?;
-            Ok(Event::Publish(name, given))
+            Ok(Event::Hand(name, given))
         }
     }
 }

@@ -1,26 +1,25 @@
 // How a program's run goes.
 ghost use Rattle.std.specs.Prelude.{◌≡◌, ◌<◌, ◌≤◌, IfOk};
 ghost use Rattle.outside.specs.Tapes.{TapesState};
-ghost use Rattle.typed_tree.specs.Programs.{typed_program_tree};
+ghost use Rattle.program_trees.specs.TypedPrograms.{typed_program_tree};
 ghost use Rattle.value_file.specs.Input.{AreInputs};
 ghost use Rattle.program_run.specs.Accepted.{IsAccepted};
 ghost use Rattle.program_run.specs.Codes.{IsCodeOf};
-ghost use Rattle.delivered_run.specs.Courses.{IsCourseOf, run_told};
+ghost use Rattle.delivered_run.specs.Courses.{IsCourseOf};
 ghost use Rattle.delivered_run.specs.Deliveries.{IsRunOf, delivery_seen};
 ghost use Rattle.delivered_run.specs.Drawing.{lengths_in, DealerDraws, CourseDraws};
-ghost use Rattle.delivered_run.specs.Lean.{told_only, AsKept};
-ghost use Rattle.delivered_run.specs.Premises.{IsMade};
 ghost use Rattle.delivered_run.specs.Sources.{RunsFrom};
+ghost use Rattle.delivered_run.specs.States.{told_of, AsSeen, IsCourseIn, KeepInCourse};
 
 use crate::errors::CourseErr;
-use crate::running::{DeliveredRun, Job, NetRun, run_dealt, run_dealt_lean, run_refused};
+use crate::running::{DeliveredRun, Job, NetRun, run_dealt, run_refused};
 use counted_net::Delivery;
 use input_share::{Dealt, deal, need, see_entries};
-use miner_core::Lost;
+use miner_core::{Kept, Lost};
 use outside::TapeSource;
 use program_run::compile_program;
+use program_trees::TypedProgram;
 use std::alloc::Global;
-use typed_tree::TypedProgram;
 use value_file::Inputs;
 use verified_code::Verified;
 
@@ -45,7 +44,7 @@ impl Drop for Course {
 impl Course {
     /// What was told, and the links on which messages were delivered.
     pub fn into_run(self) -> DeliveredRun
-        ensures { result ≡ run_told self }
+        ensures { result ≡ told_of self }
     {
         match self {
             Course::Dealt { files: _, end } => end.into_run(),
@@ -118,20 +117,23 @@ fn prepared<T: TapeSource>(
     })
 }
 
-/// The inputs are dealt with these words of the dealer's, and three miners run the code; or they can't be dealt.
+/// The inputs are dealt with these words of the dealer's, and three miners that keep this of what is done with run the code; or they can't be dealt.
 fn run_with<T: TapeSource>(
     alloc: Global,
     job: &Job<'_>,
     words: &[u64],
+    past: Kept,
     delivery: &Delivery,
     tapes: &mut T,
 ) -> Result<Course, CourseErr>
     requires { AreInputs job.now.inputs.now }
-    ensures { CourseDraws job.now words.now (delivery_seen delivery.now) (T.state tapes.old) (T.state tapes.new) result }
+    ensures runs { AsSeen IsCourseIn
+        (CourseDraws job.now words.now (delivery_seen delivery.now) (T.state tapes.old) (T.state tapes.new)) result }
+    ensures kept { IfOk result (KeepInCourse past) }
 {
     match deal(alloc, job.inputs, words, job.lengths) {
         Ok(files) => {
-            let end = run_dealt(alloc, job, &files, delivery, tapes)?;
+            let end = run_dealt(alloc, job, &files, past, delivery, tapes)?;
             Ok(Course::Dealt { files, end })
         }
         Err(refusal) => {
@@ -141,30 +143,9 @@ fn run_with<T: TapeSource>(
     }
 }
 
-/// The same with miners that keep little, in an order that their net makes itself; what was dealt and the miners aren't kept.
-fn run_lean_with<T: TapeSource>(
-    alloc: Global,
-    job: &Job<'_>,
-    words: &[u64],
-    delivery: &Delivery,
-    tapes: &mut T,
-) -> Result<DeliveredRun, CourseErr>
-    requires inputs { AreInputs job.now.inputs.now }
-    requires made { IsMade (delivery_seen delivery.now) }
-    ensures { AsKept told_only (CourseDraws job.now words.now (delivery_seen delivery.now) (T.state tapes.old) (T.state tapes.new)) result }
-{
-    match deal(alloc, job.inputs, words, job.lengths) {
-        Ok(files) => run_dealt_lean(alloc, job, &files, delivery, tapes),
-        Err(refusal) => {
-            let run = run_refused(alloc, refusal, delivery)?;
-            Ok(run)
-        }
-    }
-}
-
 /// Runs a program: its code is verified, its inputs are dealt with the next words of the dealer's tape, as many as they need, and three miners, each with
 /// its shares and its tape alone, run the code, with their messages delivered in this order. The words of the tapes are drawn from the source when they are
-/// needed. What was dealt and the three miners, as they then stand, are kept.
+/// needed. The miners keep all, or let go what is done with; what was dealt and the three miners, as they then stand, are kept.
 ///
 /// A schedule is refused for its first entry without a message, else for the lowest miner that it leaves waiting. `TapeFault` comes only where
 /// the source counted a fault in this call, and never where it is steady. What is said holds with all four tapes of words that begin with the words
@@ -176,11 +157,13 @@ pub fn run_in_net<T: TapeSource>(
     tapes: &mut T,
     budget: u64,
     delivery: &Delivery,
+    past: Kept,
 ) -> Result<Course, CourseErr>
     requires accepted { IsAccepted (typed_program_tree program.now) }
     requires inputs { AreInputs inputs.now }
-    ensures { RunsFrom (T.state tapes.old) (T.state tapes.new) inputs.now result
-        (λ t. IsCourseOf (typed_program_tree program.now) inputs.now t budget (delivery_seen delivery.now) result) }
+    ensures runs { AsSeen IsCourseIn (λ seen. RunsFrom (T.state tapes.old) (T.state tapes.new) inputs.now seen
+        (λ t. IsCourseOf (typed_program_tree program.now) inputs.now t budget (delivery_seen delivery.now) seen)) result }
+    ensures kept { IfOk result (KeepInCourse past) }
 {
     see_entries(inputs.entries());
     let prepared = prepared(alloc, program, inputs, tapes)?;
@@ -190,37 +173,11 @@ pub fn run_in_net<T: TapeSource>(
         lengths: prepared.lengths,
         budget,
     };
-    run_with(alloc, &job, &prepared.words, delivery, tapes)
+    run_with(alloc, &job, &prepared.words, past, delivery, tapes)
 }
 
-/// Runs a program as `run_in_net` does, in an order that the net makes itself, with miners that keep little.
-fn run_lean<T: TapeSource>(
-    alloc: Global,
-    program: &TypedProgram,
-    inputs: &Inputs,
-    tapes: &mut T,
-    budget: u64,
-    delivery: &Delivery,
-) -> Result<DeliveredRun, CourseErr>
-    requires accepted { IsAccepted (typed_program_tree program.now) }
-    requires inputs { AreInputs inputs.now }
-    requires made { IsMade (delivery_seen delivery.now) }
-    ensures { RunsFrom (T.state tapes.old) (T.state tapes.new) inputs.now result
-        (λ t. IsRunOf (typed_program_tree program.now) inputs.now t budget (delivery_seen delivery.now) result) }
-{
-    see_entries(inputs.entries());
-    let prepared = prepared(alloc, program, inputs, tapes)?;
-    let job = Job {
-        code: &prepared.code,
-        inputs,
-        lengths: prepared.lengths,
-        budget,
-    };
-    run_lean_with(alloc, &job, &prepared.words, delivery, tapes)
-}
-
-/// Runs a program as `run_in_net` does, and keeps what the miners told and on which links messages were delivered. In an order that the net makes
-/// itself the miners keep little: no message that was taken, and no word of a tape that was drawn.
+/// Runs a program as `run_in_net` does, and keeps what the miners told and on which links messages were delivered. The miners let go what is done
+/// with: no message stays that was taken, and no word of a tape that was drawn.
 pub fn run_delivered<T: TapeSource>(
     alloc: Global,
     program: &TypedProgram,
@@ -234,13 +191,7 @@ pub fn run_delivered<T: TapeSource>(
     ensures { RunsFrom (T.state tapes.old) (T.state tapes.new) inputs.now result
         (λ t. IsRunOf (typed_program_tree program.now) inputs.now t budget (delivery_seen delivery.now) result) }
 {
-    match delivery {
-        Delivery::InTurn | Delivery::Shuffled(_) => {
-            run_lean(alloc, program, inputs, tapes, budget, delivery)
-        }
-        Delivery::Scheduled(_) => {
-            let course = run_in_net(alloc, program, inputs, tapes, budget, delivery)?;
-            Ok(course.into_run())
-        }
-    }
+    let past = Kept::Needed;
+    let course = run_in_net(alloc, program, inputs, tapes, budget, delivery, past)?;
+    Ok(course.into_run())
 }

@@ -6,20 +6,17 @@ ghost use Rattle.value_file.specs.PublicFile.{IsWritable};
 ghost use Rattle.view_model.specs.Dealing.{private_shares};
 ghost use Rattle.miner_core.specs.Drawing.{Draws};
 ghost use Rattle.miner_core.specs.Views.{task_world, task_code};
-ghost use Rattle.link_schedule.specs.Lean.{ForEachState, IsLeanNet, IsLeanNetOf};
-ghost use Rattle.link_schedule.specs.Streams.{HasLeft};
+ghost use Rattle.link_schedule.specs.Miners.{ForEachState, IsNetOf, IsSomeNet, KeepSo};
 ghost use Rattle.delivered_run.specs.Deliveries.{delivery_seen};
-ghost use Rattle.delivered_run.specs.Drawing.{made, scheduled, DeliversAll, IsNew, Makes};
-ghost use Rattle.delivered_run.specs.Lean.{DeliversLean, IsNewLean};
+ghost use Rattle.delivered_run.specs.Drawing.{made, scheduled, DeliversOn, IsNewSo, Makes};
 ghost use Rattle.delivered_run.specs.Nets.{setting_world};
-ghost use Rattle.delivered_run.specs.Premises.{IsMade};
 
 use crate::errors::CourseErr;
 use clear_eval::parts_given;
 use counted_net::{Delivery, DeliveryErr};
 use input_share::{Dealt, ShareFile};
-use link_schedule::{LeanNet, Net3, RunErr};
-use miner_core::{LeanMiner, Lost, StreamMiner, Task};
+use link_schedule::{Net3, RunErr};
+use miner_core::{Kept, Lost, Miner, Task};
 use outside::TapeSource;
 use proto_core::Party;
 use std::alloc::{AllocError, Global};
@@ -59,68 +56,39 @@ fn task(alloc: Global, setting: &Setting<'_>) -> Result<Task, AllocError>
     })
 }
 
-/// A miner with its shares of the inputs. It draws its tape up to its first wait.
+/// A miner with its shares of the inputs, which keeps this of what is done with. It draws its tape up to its first wait.
 fn miner<P: Party, T: TapeSource>(
     alloc: Global,
     setting: &Setting<'_>,
     file: &ShareFile,
+    past: Kept,
     tapes: &mut T,
-) -> Result<StreamMiner<P>, Lost>
+) -> Result<Miner<P>, Lost>
     requires { IsWritable setting.now.part.now }
-    ensures made { IfOk result (IsNew (T.state tapes.old) (T.state tapes.new) P.me setting.now (private_shares file.now.entries)) }
+    ensures made { IfOk result (IsNewSo (T.state tapes.old) (T.state tapes.new) P.me setting.now (private_shares file.now.entries) past) }
     ensures draws { Draws P.me (T.state tapes.old) (T.state tapes.new) result }
 {
     let dealt = own_shares(alloc, file.entries())?;
     let task = task(alloc, setting)?;
-    StreamMiner::new(alloc, task, dealt, setting.budget, tapes)
+    Miner::keeping(alloc, task, dealt, setting.budget, past, tapes)
 }
 
-/// The same that keeps little.
-fn lean_miner<P: Party, T: TapeSource>(
-    alloc: Global,
-    setting: &Setting<'_>,
-    file: &ShareFile,
-    tapes: &mut T,
-) -> Result<LeanMiner<P>, Lost>
-    requires { IsWritable setting.now.part.now }
-    ensures made { IfOk result (IsNewLean (T.state tapes.old) (T.state tapes.new) P.me setting.now (private_shares file.now.entries)) }
-    ensures draws { Draws P.me (T.state tapes.old) (T.state tapes.new) result }
-{
-    let dealt = own_shares(alloc, file.entries())?;
-    let task = task(alloc, setting)?;
-    LeanMiner::new(alloc, task, dealt, setting.budget, tapes)
-}
-
-/// The three miners, to which nothing was delivered.
+/// The three miners, to which nothing was delivered, and which keep this of what is done with.
 pub(crate) fn net<T: TapeSource>(
     alloc: Global,
     setting: &Setting<'_>,
     files: &Dealt,
+    past: Kept,
     tapes: &mut T,
 ) -> Result<Net3, Lost>
     requires { IsWritable setting.now.part.now }
-    ensures { Makes (T.state tapes.old) (T.state tapes.new) (λ n s. n ≡ s) setting.now files.now result }
+    ensures makes { Makes (T.state tapes.old) (T.state tapes.new) IsNetOf setting.now files.now result }
+    ensures kept { IfOk result (KeepSo past) }
 {
-    let one = miner(alloc, setting, &files.first, tapes)?;
-    let two = miner(alloc, setting, &files.second, tapes)?;
-    let three = miner(alloc, setting, &files.third, tapes)?;
+    let one = miner(alloc, setting, &files.first, past, tapes)?;
+    let two = miner(alloc, setting, &files.second, past, tapes)?;
+    let three = miner(alloc, setting, &files.third, past, tapes)?;
     Ok(Net3::new(one, two, three, alloc))
-}
-
-/// The same that keep little.
-pub(crate) fn lean_net<T: TapeSource>(
-    alloc: Global,
-    setting: &Setting<'_>,
-    files: &Dealt,
-    tapes: &mut T,
-) -> Result<LeanNet, Lost>
-    requires { IsWritable setting.now.part.now }
-    ensures { Makes (T.state tapes.old) (T.state tapes.new) IsLeanNetOf setting.now files.now result }
-{
-    let one = lean_miner(alloc, setting, &files.first, tapes)?;
-    let two = lean_miner(alloc, setting, &files.second, tapes)?;
-    let three = lean_miner(alloc, setting, &files.third, tapes)?;
-    Ok(LeanNet::new(one, two, three, alloc))
 }
 
 /// What comes of a schedule.
@@ -157,31 +125,13 @@ pub(crate) fn deliver_all<T: TapeSource>(
     delivery: &Delivery,
     tapes: &mut T,
 ) -> Result<(), CourseErr>
-    requires going { net.old.lost ≡ None }
-    requires left { HasLeft net.old (T.state tapes.old) }
-    ensures { DeliversAll (T.state tapes.old) (T.state tapes.new) (delivery_seen delivery.now) net.old net.new result }
+    requires { IsSomeNet net.old (T.state tapes.old) }
+    ensures { ForEachState net.old (T.state tapes.old) (λ s.
+        DeliversOn (T.state tapes.old) (T.state tapes.new) (delivery_seen delivery.now) s net.new result) }
 {
     match delivery {
         Delivery::InTurn => made(net.drain(tapes)),
         Delivery::Scheduled(links) => scheduled(net.run(links, tapes)),
-        Delivery::Shuffled(seed) => made(net.shuffled(*seed, tapes)),
-    }
-}
-
-/// Delivers the messages of a net that keeps little in this order, which the net makes itself, to the end.
-pub(crate) fn deliver_lean<T: TapeSource>(
-    net: &mut LeanNet,
-    delivery: &Delivery,
-    tapes: &mut T,
-) -> Result<(), CourseErr>
-    requires net { IsLeanNet net.old (T.state tapes.old) }
-    requires made { IsMade (delivery_seen delivery.now) }
-    ensures { ForEachState net.old (T.state tapes.old) (λ s.
-        DeliversLean (T.state tapes.old) (T.state tapes.new) (delivery_seen delivery.now) s net.new result) }
-{
-    match delivery {
-        Delivery::InTurn => made(net.drain(tapes)),
-        Delivery::Scheduled(_) => unreachable!(),
         Delivery::Shuffled(seed) => made(net.shuffled(*seed, tapes)),
     }
 }

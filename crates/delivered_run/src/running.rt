@@ -2,22 +2,22 @@
 ghost use Rattle.std.specs.Prelude.{◌≡◌, None, IfOk};
 ghost use Rattle.outside.specs.Tapes.{TapesState};
 ghost use Rattle.value_file.specs.Input.{AreInputs};
-ghost use Rattle.link_schedule.specs.Lean.{ForEachState, IsLeanNet, IsLeanNetOf};
+ghost use Rattle.link_schedule.specs.Miners.{ForEachState, IsNetOf, IsSomeNet, KeepSo};
 ghost use Rattle.link_schedule.specs.Streams.{ForEachTapes, HasLeft, StreamNet};
+ghost use Rattle.miner_core.specs.declared.kept.Kept.{Kept};
 ghost use Rattle.delivered_run.specs.Deliveries.{delivery_seen};
 ghost use Rattle.delivered_run.specs.Drawing.{NetGoes, NetRuns, RunsDealt};
-ghost use Rattle.delivered_run.specs.Lean.{run_only, AsKept};
 ghost use Rattle.delivered_run.specs.Nets.{HasTold, IsToldBy};
-ghost use Rattle.delivered_run.specs.Premises.{IsMade};
+ghost use Rattle.delivered_run.specs.States.{AsSeen, IsRunIn};
 ghost use Rattle.delivered_run.specs.Undealt.{IsFirstEntry, IsUndealt, IsUndealtBy};
 
 use crate::client::told_to_client;
 use crate::errors::CourseErr;
-use crate::net::{Setting, deliver_all, deliver_lean, lean_net, net};
+use crate::net::{Setting, deliver_all, net};
 use counted_net::{Delivery, DeliveryErr};
 use input_share::{DealErr, Dealt};
-use link_schedule::{LeanNet, Net3};
-use miner_core::Notice;
+use link_schedule::Net3;
+use miner_core::{Kept, Notice};
 use outside::TapeSource;
 use program_run::{RunReport, undealt};
 use proto_core::Link;
@@ -80,19 +80,7 @@ fn report(
 
 // What the miners of a net have told that has come to its end.
 fn reported(alloc: Global, net: &Net3) -> Result<RunReport, AllocError>
-    requires { net.now.lost ≡ None }
-    ensures { IfOk result (λ told. ForEachTapes net.now (λ n. HasTold n told)) }
-{
-    let first = net.miner1();
-    let second = net.miner2().notices();
-    let third = net.miner3().notices();
-    let cost = first.cost();
-    report(alloc, first.notices(), second, third, cost, first.ending())
-}
-
-// The same of a net that keeps little.
-fn reported_lean(alloc: Global, net: &LeanNet) -> Result<RunReport, AllocError>
-    ensures { (s : StreamNet) → IsLeanNetOf net.now s → IfOk result (λ told. ForEachTapes s (λ n. HasTold n told)) }
+    ensures { (s : StreamNet) → IsNetOf net.now s → s.lost ≡ None → IfOk result (λ told. ForEachTapes s (λ n. HasTold n told)) }
 {
     let first = net.miner1();
     let second = net.miner2().notices();
@@ -117,9 +105,11 @@ fn run_net<T: TapeSource>(
     delivery: &Delivery,
     tapes: &mut T,
 ) -> Result<NetRun, CourseErr>
-    requires going { net.lost ≡ None }
-    requires left { HasLeft net (T.state tapes.old) }
-    ensures { NetGoes (T.state tapes.old) (T.state tapes.new) (delivery_seen delivery.now) net result }
+    requires { IsSomeNet net (T.state tapes.old) }
+    ensures goes { ForEachState net (T.state tapes.old) (λ s.
+        AsSeen IsRunIn (NetGoes (T.state tapes.old) (T.state tapes.new) (delivery_seen delivery.now) s) result) }
+    ensures kept { (past : Kept) → (s : StreamNet) → IsNetOf net s → s.lost ≡ None → HasLeft s (T.state tapes.old) →
+        KeepSo past net → IfOk result (λ ran. KeepSo past ran.net) }
 {
     let mut net = net;
     deliver_all(&mut net, delivery, tapes)?;
@@ -129,59 +119,19 @@ fn run_net<T: TapeSource>(
     Ok(NetRun { run, net })
 }
 
-/// The same of a net that keeps little, which isn't kept.
-fn run_lean_net<T: TapeSource>(
-    alloc: Global,
-    net: LeanNet,
-    delivery: &Delivery,
-    tapes: &mut T,
-) -> Result<DeliveredRun, CourseErr>
-    requires net { IsLeanNet net (T.state tapes.old) }
-    requires made { IsMade (delivery_seen delivery.now) }
-    ensures { ForEachState net (T.state tapes.old) (λ s.
-        AsKept run_only (NetGoes (T.state tapes.old) (T.state tapes.new) (delivery_seen delivery.now) s) result) }
-{
-    let mut net = net;
-    deliver_lean(&mut net, delivery, tapes)?;
-    let report = reported_lean(alloc, &net)?;
-    let delivered = Vec::from_slice(alloc, net.recorded())?;
-    Ok(DeliveredRun { report, delivered })
-}
-
-/// Three miners run the code on their shares, and draw their tapes.
+/// Three miners that keep this of what is done with run the code on their shares, and draw their tapes.
 pub(crate) fn run_dealt<T: TapeSource>(
     alloc: Global,
     job: &Job<'_>,
     files: &Dealt,
+    past: Kept,
     delivery: &Delivery,
     tapes: &mut T,
 ) -> Result<NetRun, CourseErr>
     requires { AreInputs job.now.inputs.now }
-    ensures { NetRuns (T.state tapes.old) (T.state tapes.new) result (RunsDealt job.now files.now (delivery_seen delivery.now) result) }
-{
-    let part = public_part(alloc, job.inputs)?;
-    let setting = Setting {
-        code: job.code,
-        part: &part,
-        lengths: job.lengths,
-        budget: job.budget,
-    };
-    let net = net(alloc, &setting, files, tapes)?;
-    run_net(alloc, net, delivery, tapes)
-}
-
-/// The same with miners that keep little, in an order that their net makes itself.
-pub(crate) fn run_dealt_lean<T: TapeSource>(
-    alloc: Global,
-    job: &Job<'_>,
-    files: &Dealt,
-    delivery: &Delivery,
-    tapes: &mut T,
-) -> Result<DeliveredRun, CourseErr>
-    requires inputs { AreInputs job.now.inputs.now }
-    requires made { IsMade (delivery_seen delivery.now) }
-    ensures { AsKept run_only
+    ensures runs { AsSeen IsRunIn
         (λ r. NetRuns (T.state tapes.old) (T.state tapes.new) r (RunsDealt job.now files.now (delivery_seen delivery.now) r)) result }
+    ensures kept { IfOk result (λ ran. KeepSo past ran.net) }
 {
     let part = public_part(alloc, job.inputs)?;
     let setting = Setting {
@@ -190,8 +140,8 @@ pub(crate) fn run_dealt_lean<T: TapeSource>(
         lengths: job.lengths,
         budget: job.budget,
     };
-    let net = lean_net(alloc, &setting, files, tapes)?;
-    run_lean_net(alloc, net, delivery, tapes)
+    let net = net(alloc, &setting, files, past, tapes)?;
+    run_net(alloc, net, delivery, tapes)
 }
 
 // The first link of a schedule.

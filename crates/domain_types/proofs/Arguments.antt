@@ -1,7 +1,7 @@
 -- The arguments of a call, one after another.
 use Rattle.std.proofs.Common.{◌≡◌, List, [], ◌∷◌, ◌++◌, refl, sym, ap, ◌∙◌, Option, Some, None, append_assoc, append-nil}
-use Rattle.secrec_ast.specs.Tree.{Tree, trees_of}
-use Rattle.secrec_ast.specs.Heights.{place_of}
+use Rattle.program_trees.specs.Tree.{Tree, trees_of}
+use Rattle.program_trees.specs.Heights.{place_of}
 use Rattle.domain_types.specs.declared.value_type.Argument.{Argument}
 use Rattle.domain_types.specs.declared.value_type.ValueType.{ValueType}
 use Rattle.domain_types.specs.Settings.{Setting}

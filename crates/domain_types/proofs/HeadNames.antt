@@ -3,7 +3,7 @@ use Rattle.std.proofs.Common.{◌≡◌, ℕ, suc, ◌+◌, List, [], ◌∷◌,
 use Rattle.std.specs.Prelude.{map, bytes_eq, option_map, option_and_then}
 use Rattle.std.specs.List.{slice_get, find}
 use denote.Ref.{Bor}
-use Rattle.secrec_ast.specs.declared.statement.Identifier.{Identifier}
+use Rattle.program_trees.specs.declared.statement.Identifier.{Identifier}
 use Rattle.declarations.specs.Declarations.{number_in}
 use Rattle.domain_types.specs.inner.Lent.{identifier_at, text_at}
 

@@ -2,8 +2,8 @@
 use Rattle.std.proofs.Common.{◌≡◌, ℕ, ◌+◌, ◌<◌, List, [], ◌∷◌, ◌++◌, length, take, get_or, refl, sym, ap, ◌∙◌, Bool, true, false}
 use Rattle.std.specs.Prelude.{map, ◌||◌}
 use Rattle.std.proofs.lemmas.List.{map-append, take_more}
-use Rattle.secrec_ast.specs.declared.statement.Statement.{Statement}
-use Rattle.secrec_ast.specs.Statements.{StatementTree, statement, statements_of}
+use Rattle.program_trees.specs.declared.statement.Statement.{Statement}
+use Rattle.program_trees.specs.Statements.{StatementTree, statement, statements_of}
 use Rattle.domain_types.specs.StatementTypes.{always_returns, one_returns}
 
 one_returns-more : (ts : List StatementTree) (t : StatementTree)

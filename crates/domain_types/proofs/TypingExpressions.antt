@@ -5,11 +5,11 @@ use Rattle.std.specs.Prelude.{option_map, option_and_then}
 use Rattle.std.specs.List.{slice_get}
 use Rattle.std.proofs.lemmas.Option.{none-some, same_Some}
 use Rattle.sc_text.specs.declared.span.Span.{Span}
-use Rattle.secrec_ast.specs.declared.expression.DataType.TheVariants as datatype
-use Rattle.secrec_ast.specs.Tree.{Tree, Trees, number, truth, variable, call, index, parentheses, negation, cast, binary, declassify, argument}
-use Rattle.secrec_ast.specs.Tree.{publish, none, also}
-use Rattle.secrec_ast.specs.Heights.{place_of}
-use Rattle.secrec_ast.specs.Programs.{FunctionTree}
+use Rattle.program_trees.specs.declared.expression.DataType.TheVariants as datatype
+use Rattle.program_trees.specs.Tree.{Tree, Trees, number, truth, variable, call, index, parentheses, negation, cast, binary, declassify, argument}
+use Rattle.program_trees.specs.Tree.{publish, none, also}
+use Rattle.program_trees.specs.Heights.{place_of}
+use Rattle.program_trees.specs.Programs.{FunctionTree}
 use Rattle.domain_types.specs.declared.fault.TypeProblem.TheVariants.{UnknownName, TypeMismatch, ArgumentPlace}
 use Rattle.domain_types.specs.declared.fault.TypeFault.{TypeFault}
 use Rattle.domain_types.specs.declared.value_type.Argument.{Argument}

@@ -4,12 +4,12 @@ use Rattle.std.specs.Prelude.{not, ◌&&◌, ◌||◌, bytes_eq, codes, option_m
 use Rattle.std.specs.List.{find}
 use Rattle.std.proofs.lemmas.Bool.{not-false, or_parts}
 use Rattle.std.proofs.lemmas.Option.{none-some}
-use Rattle.secrec_ast.specs.declared.statement.Identifier.{Identifier}
-use Rattle.secrec_ast.specs.declared.function.DomainVariable.{DomainVariable}
-use Rattle.secrec_ast.specs.declared.function.Parameter.{Parameter}
-use Rattle.secrec_ast.specs.declared.function.ResultType.{ResultType}
-use Rattle.secrec_ast.specs.declared.function.ResultType.TheVariants as returned
-use Rattle.secrec_ast.specs.Programs.{FunctionTree, ItemTree}
+use Rattle.program_trees.specs.declared.statement.Identifier.{Identifier}
+use Rattle.program_trees.specs.declared.function.DomainVariable.{DomainVariable}
+use Rattle.program_trees.specs.declared.function.Parameter.{Parameter}
+use Rattle.program_trees.specs.declared.function.ResultType.{ResultType}
+use Rattle.program_trees.specs.declared.function.ResultType.TheVariants as returned
+use Rattle.program_trees.specs.Programs.{FunctionTree, ItemTree}
 use Rattle.domain_types.specs.declared.fault.TypeProblem.TheVariants.{UnknownName, Twice, TypeMismatch, MissingReturn}
 use Rattle.domain_types.specs.declared.value_type.ExpressionType.TheVariants.{Value}
 use Rattle.domain_types.specs.declared.fault.TypeFault.{TypeFault}

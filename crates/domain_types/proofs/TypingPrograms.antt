@@ -3,8 +3,8 @@ use Rattle.std.proofs.Common.{ℕ, ◌≡◌, List, [], ◌∷◌, inl, refl, ap
 use Rattle.std.specs.Prelude.{not, ◌&&◌, ◌||◌, bytes_eq, codes}
 use Rattle.std.specs.List.{slice_get}
 use Rattle.std.proofs.lemmas.Bool.{not-false, or_parts}
-use Rattle.secrec_ast.specs.declared.statement.Identifier.{Identifier}
-use Rattle.secrec_ast.specs.Programs.{FunctionTree, ItemTree, imports, kind, domain, defines, ProgramTree}
+use Rattle.program_trees.specs.declared.statement.Identifier.{Identifier}
+use Rattle.program_trees.specs.Programs.{FunctionTree, ItemTree, imports, kind, domain, defines, ProgramTree}
 use Rattle.domain_types.specs.declared.fault.TypeProblem.TheVariants.{UnknownName, Twice, NoMain, BadImport}
 use Rattle.domain_types.specs.declared.fault.TypeFault.{TypeFault}
 use Rattle.declarations.specs.declared.built_in.BuiltIn.{BuiltIn}

@@ -4,15 +4,15 @@ use Rattle.std.specs.Prelude.{codes}
 use Rattle.std.specs.List.{slice_get}
 use Rattle.std.proofs.lemmas.Option.{none-some, same_Some}
 use Rattle.sc_text.specs.declared.span.Span.{Span}
-use Rattle.secrec_ast.specs.declared.expression.DataType.TheVariants as datatype
-use Rattle.secrec_ast.specs.declared.expression.Operator.TheVariants.{Multiply}
-use Rattle.secrec_ast.specs.declared.statement.Domain.TheVariants as domain
-use Rattle.secrec_ast.specs.declared.statement.Identifier.{Identifier}
-use Rattle.secrec_ast.specs.declared.statement.DeclaredType.{DeclaredType}
-use Rattle.secrec_ast.specs.declared.function.ResultType.TheVariants as returned
-use Rattle.secrec_ast.specs.Tree.{variable, binary, declassify, argument, publish}
-use Rattle.secrec_ast.specs.Statements.{StatementTree, declaration, evaluation, statements_of}
-use Rattle.secrec_ast.specs.Programs.{FunctionTree, imports, domain as domain_item, defines, ProgramTree}
+use Rattle.program_trees.specs.declared.expression.DataType.TheVariants as datatype
+use Rattle.program_trees.specs.declared.expression.Operator.TheVariants.{Multiply}
+use Rattle.program_trees.specs.declared.statement.Domain.TheVariants as domain
+use Rattle.program_trees.specs.declared.statement.Identifier.{Identifier}
+use Rattle.program_trees.specs.declared.statement.DeclaredType.{DeclaredType}
+use Rattle.program_trees.specs.declared.function.ResultType.TheVariants as returned
+use Rattle.program_trees.specs.Tree.{variable, binary, declassify, argument, publish}
+use Rattle.program_trees.specs.Statements.{StatementTree, declaration, evaluation, statements_of}
+use Rattle.program_trees.specs.Programs.{FunctionTree, imports, domain as domain_item, defines, ProgramTree}
 use Rattle.domain_types.specs.declared.fault.TypeProblem.TheVariants.{PrivateToPublic}
 use Rattle.domain_types.specs.declared.value_type.Protection.{Protection}
 use Rattle.declarations.specs.Declarations.{declared_by}

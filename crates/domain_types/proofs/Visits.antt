@@ -4,7 +4,7 @@ use Rattle.std.specs.Prelude.{Result, Ok, Err, IfOk}
 use Rattle.domain_types.specs.declared.calls.Found.{Found}
 use Rattle.domain_types.specs.declared.fault.TypeFault.{TypeFault}
 use Rattle.domain_types.specs.declared.value_type.ValueType.{ValueType}
-use Rattle.secrec_ast.specs.Tree.{Tree}
+use Rattle.program_trees.specs.Tree.{Tree}
 use Rattle.domain_types.specs.Types.{of_typed}
 use Rattle.domain_types.specs.Settings.{Setting}
 use Rattle.domain_types.specs.Scopes.{Scope}

@@ -8,7 +8,7 @@ use Rattle.std.proofs.lemmas.List.Folds.{list_any-append}
 use Rattle.std.proofs.lemmas.Option.{same_Some}
 use Rattle.domain_types.specs.declared.fault.TypeFault.{TypeFault}
 use Rattle.domain_types.specs.declared.value_type.Protection.{Protection}
-use Rattle.secrec_ast.specs.Programs.{FunctionTree}
+use Rattle.program_trees.specs.Programs.{FunctionTree}
 use Rattle.domain_types.specs.Types.{is_without}
 use Rattle.declarations.specs.Declarations.{Declared}
 use Rattle.sc_text.specs.Lists.{Among}

@@ -1,7 +1,7 @@
 -- What the checker answers.
 use Rattle.std.specs.Prelude.{◌↔◌, List, map, Vec, vec_items, Option, Some, None, Result, Ok, Err}
 use Rattle.std.specs.declared.alloc.Global.{Global}
-use Rattle.secrec_ast.specs.Programs.{ProgramTree}
+use Rattle.program_trees.specs.Programs.{ProgramTree}
 use Rattle.domain_types.specs.declared.fault.TypeFault.{TypeFault}
 use Rattle.domain_types.specs.declared.type_err.TypeErr.{TypeErr}
 use Rattle.domain_types.specs.declared.type_err.TypeErr.TheVariants.{Refused, Memory}

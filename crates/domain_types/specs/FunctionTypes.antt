@@ -2,12 +2,12 @@
 use Rattle.std.specs.Prelude.{ℕ, Bool, not, ◌&&◌, ◌||◌, nat_eq, nat_lt, if◌then◌else◌, List, [], ◌∷◌, ◌++◌, Option, codes, bytes_eq}
 use Rattle.std.specs.List.{find, fold, list_any}
 use Rattle.sc_text.specs.declared.span.Span.{Span}
-use Rattle.secrec_ast.specs.declared.statement.Identifier.{Identifier}
-use Rattle.secrec_ast.specs.declared.function.DomainVariable.{DomainVariable}
-use Rattle.secrec_ast.specs.declared.function.Parameter.{Parameter}
-use Rattle.secrec_ast.specs.declared.function.ResultType.{ResultType}
-use Rattle.secrec_ast.specs.declared.function.ResultType.TheVariants as returned
-use Rattle.secrec_ast.specs.Programs.{FunctionTree, ItemTree, kind, domain}
+use Rattle.program_trees.specs.declared.statement.Identifier.{Identifier}
+use Rattle.program_trees.specs.declared.function.DomainVariable.{DomainVariable}
+use Rattle.program_trees.specs.declared.function.Parameter.{Parameter}
+use Rattle.program_trees.specs.declared.function.ResultType.{ResultType}
+use Rattle.program_trees.specs.declared.function.ResultType.TheVariants as returned
+use Rattle.program_trees.specs.Programs.{FunctionTree, ItemTree, kind, domain}
 use Rattle.domain_types.specs.declared.fault.TypeProblem.TheVariants.{UnknownName, Twice, TypeMismatch, MissingReturn}
 use Rattle.domain_types.specs.declared.fault.TypeFault.{TypeFault}
 use Rattle.domain_types.specs.Types.{fault_at, fault_if, of_typed}

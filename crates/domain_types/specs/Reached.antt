@@ -2,14 +2,14 @@
 -- checked function gives it.
 use Rattle.std.specs.Prelude.{ℕ, ◌≡◌, List, [], ◌∷◌, ◌++◌, Option, Some, None, option_and_then}
 use Rattle.std.specs.List.{slice_get}
-use Rattle.secrec_ast.specs.Tree.{Tree, Trees, call, index, parentheses, negation, cast, binary, declassify, publish}
-use Rattle.secrec_ast.specs.Tree as Tree'
-use Rattle.secrec_ast.specs.Statements.{DeclarationTree, TargetTree, AssignmentTree, StartTree, starts_with_nothing, starts_with_declaration}
-use Rattle.secrec_ast.specs.Statements.{starts_with_assignment, StepTree, steps_by_nothing, steps_by_assignment, steps_by_expression, StatementTree}
-use Rattle.secrec_ast.specs.Statements.{block, branch, choice, while_loop, do_loop, for_loop, returns, assertion}
-use Rattle.secrec_ast.specs.Statements.{declaration, assignment, evaluation, StatementTrees}
-use Rattle.secrec_ast.specs.Statements as Statements'
-use Rattle.secrec_ast.specs.Programs.{FunctionTree, ProgramTree}
+use Rattle.program_trees.specs.Tree.{Tree, Trees, call, index, parentheses, negation, cast, binary, declassify, publish}
+use Rattle.program_trees.specs.Tree as Tree'
+use Rattle.program_trees.specs.Statements.{DeclarationTree, TargetTree, AssignmentTree, StartTree, starts_with_nothing, starts_with_declaration}
+use Rattle.program_trees.specs.Statements.{starts_with_assignment, StepTree, steps_by_nothing, steps_by_assignment, steps_by_expression, StatementTree}
+use Rattle.program_trees.specs.Statements.{block, branch, choice, while_loop, do_loop, for_loop, returns, assertion}
+use Rattle.program_trees.specs.Statements.{declaration, assignment, evaluation, StatementTrees}
+use Rattle.program_trees.specs.Statements as Statements'
+use Rattle.program_trees.specs.Programs.{FunctionTree, ProgramTree}
 use Rattle.sc_text.specs.declared.span.Span.{Span}
 use Rattle.domain_types.specs.declared.value_type.Argument.{Argument}
 use Rattle.domain_types.specs.declared.value_type.Protection.{Protection}

@@ -1,7 +1,7 @@
 -- The variables that are known at a place.
 use Rattle.std.specs.Prelude.{ℕ, Bool, List, [], ◌∷◌, ◌++◌, ◌-◌, length, take, drop, Option, bytes_eq}
 use Rattle.std.specs.List.{find, list_any}
-use Rattle.secrec_ast.specs.declared.statement.Identifier.{Identifier}
+use Rattle.program_trees.specs.declared.statement.Identifier.{Identifier}
 use Rattle.domain_types.specs.declared.value_type.ValueType.{ValueType}
 use Rattle.domain_types.specs.declared.fault.TypeProblem.TheVariants.{Twice}
 use Rattle.domain_types.specs.declared.fault.TypeFault.{TypeFault}

@@ -1,10 +1,10 @@
 -- What a written domain or type means where domain variables are bound.
 use Rattle.std.specs.Prelude.{ℕ, if◌then◌else◌, List, [], ◌∷◌, Option, Some, None, bytes_eq, option_map}
 use Rattle.std.specs.Option.{option_or}
-use Rattle.secrec_ast.specs.declared.statement.Domain.{Domain}
-use Rattle.secrec_ast.specs.declared.statement.Domain.TheVariants as domain
-use Rattle.secrec_ast.specs.declared.statement.DeclaredType.{DeclaredType}
-use Rattle.secrec_ast.specs.declared.function.DomainVariable.{DomainVariable}
+use Rattle.program_trees.specs.declared.statement.Domain.{Domain}
+use Rattle.program_trees.specs.declared.statement.Domain.TheVariants as domain
+use Rattle.program_trees.specs.declared.statement.DeclaredType.{DeclaredType}
+use Rattle.program_trees.specs.declared.function.DomainVariable.{DomainVariable}
 use Rattle.declarations.specs.Declarations.{Declared, number_in}
 use Rattle.domain_types.specs.declared.value_type.Protection.{Protection}
 use Rattle.domain_types.specs.declared.value_type.Protection.TheVariants.{Public, Private}

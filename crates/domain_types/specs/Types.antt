@@ -1,8 +1,8 @@
 -- Where a value may go, and the faults that say that it may not.
 use Rattle.std.specs.Prelude.{Bool, true, false, not, ◌&&◌, nat_eq, if◌then◌else◌, List, [], ◌∷◌, ◌++◌, Option, Some, None}
 use Rattle.sc_text.specs.declared.span.Span.{Span}
-use Rattle.secrec_ast.specs.declared.expression.DataType.{DataType}
-use Rattle.secrec_ast.specs.declared.expression.DataType.TheVariants as datatype
+use Rattle.program_trees.specs.declared.expression.DataType.{DataType}
+use Rattle.program_trees.specs.declared.expression.DataType.TheVariants as datatype
 use Rattle.domain_types.specs.declared.fault.TypeProblem.{TypeProblem}
 use Rattle.domain_types.specs.declared.fault.TypeProblem.TheVariants.{TypeMismatch, PrivateToPublic, DomainMix}
 use Rattle.domain_types.specs.declared.fault.TypeFault.{TypeFault}

@@ -1,17 +1,17 @@
 -- Programs of the language and their faults, worked out by hand from the rules.
 use Rattle.std.specs.Prelude.{ℕ, ◌≡◌, ◌+◌, Bool, true, false, List, [], ◌∷◌, ◌++◌, Option, Some, None, codes, refl}
 use Rattle.sc_text.specs.declared.span.Span.{Span}
-use Rattle.secrec_ast.specs.declared.expression.DataType.{DataType}
-use Rattle.secrec_ast.specs.declared.expression.DataType.TheVariants as datatype
-use Rattle.secrec_ast.specs.declared.expression.Operator.TheVariants.{Add, Multiply, Divide, Equal, Less}
-use Rattle.secrec_ast.specs.declared.statement.Domain.TheVariants as domain
-use Rattle.secrec_ast.specs.declared.statement.Identifier.{Identifier}
-use Rattle.secrec_ast.specs.declared.statement.DeclaredType.{DeclaredType}
-use Rattle.secrec_ast.specs.declared.function.ResultType.TheVariants as returned
-use Rattle.secrec_ast.specs.Tree.{Tree, Trees, number, truth, variable, call, index, binary, declassify, argument, publish}
-use Rattle.secrec_ast.specs.Tree as Tree'
-use Rattle.secrec_ast.specs.Statements.{StatementTree, block, branch, returns, assertion, declaration, evaluation, statements_of}
-use Rattle.secrec_ast.specs.Programs.{FunctionTree, ItemTree, imports, domain as domains_item, defines, ProgramTree}
+use Rattle.program_trees.specs.declared.expression.DataType.{DataType}
+use Rattle.program_trees.specs.declared.expression.DataType.TheVariants as datatype
+use Rattle.program_trees.specs.declared.expression.Operator.TheVariants.{Add, Multiply, Divide, Equal, Less}
+use Rattle.program_trees.specs.declared.statement.Domain.TheVariants as domain
+use Rattle.program_trees.specs.declared.statement.Identifier.{Identifier}
+use Rattle.program_trees.specs.declared.statement.DeclaredType.{DeclaredType}
+use Rattle.program_trees.specs.declared.function.ResultType.TheVariants as returned
+use Rattle.program_trees.specs.Tree.{Tree, Trees, number, truth, variable, call, index, binary, declassify, argument, publish}
+use Rattle.program_trees.specs.Tree as Tree'
+use Rattle.program_trees.specs.Statements.{StatementTree, block, branch, returns, assertion, declaration, evaluation, statements_of}
+use Rattle.program_trees.specs.Programs.{FunctionTree, ItemTree, imports, domain as domains_item, defines, ProgramTree}
 use Rattle.domain_types.specs.declared.fault.TypeProblem.{TypeProblem}
 use Rattle.domain_types.specs.declared.fault.TypeProblem.TheVariants.{UnknownName, Twice, TypeMismatch, PrivateCondition, PrivateIndex, PrivateSize}
 use Rattle.domain_types.specs.declared.fault.TypeProblem.TheVariants.{PrivateToPublic, PrivateDivision, PrivateAssert, MissingReturn}

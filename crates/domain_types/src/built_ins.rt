@@ -10,8 +10,8 @@ use crate::least_fault::{note, note_if};
 use crate::rules::{is_uint64, meet, mix, same_element};
 use crate::value_type::{Argument, Protection, ValueType};
 use declarations::BuiltIn;
+use program_trees::DataType;
 use sc_text::Span;
-use secrec_ast::DataType;
 
 #[tactic(auto, using(crate::proofs::Faults::joins), unfolding(crate::specs::ExpressionTypes::built_in_faults, crate::specs::ExpressionTypes::built_in_result))]
 fn size(

@@ -1,6 +1,6 @@
 // The rule of a call, on the types of its arguments.
 ghost use Rattle.std.specs.Prelude.{IfOk, Some, option_map, option_and_then, vec_items};
-ghost use Rattle.secrec_ast.specs.Programs.{function_tree};
+ghost use Rattle.program_trees.specs.Programs.{function_tree};
 ghost use Rattle.domain_types.specs.Types.{of_typed};
 ghost use Rattle.declarations.specs.Declarations.{defined, callee};
 ghost use Rattle.domain_types.specs.ExpressionTypes.{defined_faults, callee_type, call_faults, call_type};
@@ -16,8 +16,8 @@ use crate::least_fault::note;
 use crate::setting::Setting;
 use crate::value_type::{Argument, ExpressionType};
 use declarations::Called;
+use program_trees::Function;
 use sc_text::Span;
-use secrec_ast::Function;
 use std::alloc::AllocError;
 
 // A call of the function of the program with this number; the call is kept.

@@ -1,6 +1,6 @@
 // The checker over a whole program.
 ghost use Rattle.std.specs.Prelude.{◌≡◌, ◌↔◌, IfOk, map, vec_items};
-ghost use Rattle.secrec_ast.specs.Programs.{ProgramTree, program_tree};
+ghost use Rattle.program_trees.specs.Programs.{ProgramTree, program_tree};
 ghost use Rattle.domain_types.specs.declared.fault.TypeFault.{TypeFault};
 ghost use Rattle.domain_types.specs.Instances.{instance_seen};
 ghost use Rattle.domain_types.specs.ProgramTypes.{IsAccepted, IsRefused};
@@ -15,7 +15,7 @@ use crate::protections::Protections;
 use crate::type_err::TypeErr;
 use crate::visiting::{called_heads, visit_all};
 use declarations::collect;
-use secrec_ast::Program;
+use program_trees::Program;
 use std::alloc::{AllocError, Global};
 
 // The instances that are checked, each once, and the fault that is told, if there is one.

@@ -1,7 +1,7 @@
 // The rules of declarations and assignments.
 ghost use Rattle.std.specs.Prelude.{◌≡◌, ◌++◌, IfOk, Some, None};
-ghost use Rattle.secrec_ast.specs.Tree.{expression};
-ghost use Rattle.secrec_ast.specs.Statements.{optional, declaration_tree, target_tree, assignment_tree};
+ghost use Rattle.program_trees.specs.Tree.{expression};
+ghost use Rattle.program_trees.specs.Statements.{optional, declaration_tree, target_tree, assignment_tree};
 ghost use Rattle.domain_types.specs.Types.{of_typed};
 ghost use Rattle.domain_types.specs.Scopes.{twice_faults, with_variable};
 ghost use Rattle.domain_types.specs.StatementTypes.{domain_faults, is_argument, sized_faults, filled_faults, initial_faults, declared_faults};
@@ -19,10 +19,10 @@ use crate::rules::{scalar, store, store_typed};
 use crate::setting::{Setting, domain, written};
 use crate::value_type::ValueType;
 use crate::variables::Variables;
-use sc_text::Span;
-use secrec_ast::{
+use program_trees::{
     Assignment, DataType, Declaration, DeclaredType, Domain, Expression, Identifier, Target,
 };
+use sc_text::Span;
 use std::alloc::AllocError;
 
 /// The name of a domain is known.

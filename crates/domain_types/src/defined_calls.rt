@@ -1,6 +1,6 @@
 // The rule of a call of a function of the program, on the types of its arguments.
 ghost use Rattle.std.specs.Prelude.{◌≡◌, IfOk, option_map, vec_items};
-ghost use Rattle.secrec_ast.specs.Programs.{function_tree};
+ghost use Rattle.program_trees.specs.Programs.{function_tree};
 ghost use Rattle.domain_types.specs.Types.{is_without, of_typed, unless_refused};
 ghost use Rattle.domain_types.specs.Settings.{type_written};
 ghost use Rattle.declarations.specs.Views.{declared};
@@ -14,8 +14,8 @@ use crate::least_fault::note;
 use crate::rules::{meet, store};
 use crate::setting::{Setting, written};
 use crate::value_type::{Argument, ExpressionType, Protection};
+use program_trees::{Domain, DomainVariable, Function, Identifier, Parameter, ResultType};
 use sc_text::Span;
-use secrec_ast::{Domain, DomainVariable, Function, Identifier, Parameter, ResultType};
 use std::alloc::{AllocError, Global};
 
 // Whether a domain is written with this name.

@@ -1,6 +1,6 @@
 // The types of expressions: the checker goes over a tree once, keeps the least fault and what is called.
 ghost use Rattle.std.specs.Prelude.{◌≡◌, IfOk, Some, map, option_map, vec_items};
-ghost use Rattle.secrec_ast.specs.Tree.{expression, trees_of};
+ghost use Rattle.program_trees.specs.Tree.{expression, trees_of};
 ghost use Rattle.domain_types.specs.Types.{value_of, void_faults, public_scalar};
 ghost use Rattle.domain_types.specs.declared.value_type.ExpressionType.TheVariants.{Void, Value};
 ghost use Rattle.domain_types.specs.Scopes.{variable_named};
@@ -19,8 +19,8 @@ use crate::operations::{indexing, negation, operation};
 use crate::setting::Setting;
 use crate::value_type::{Argument, ExpressionType, Protection, ValueType};
 use crate::variables::Variables;
+use program_trees::{DataType, Expression};
 use sc_text::Span;
-use secrec_ast::{DataType, Expression};
 use std::alloc::AllocError;
 
 /// What an expression that is used as a value gives: a void call there is a fault.

@@ -1,7 +1,7 @@
 // The faults of a function whose domain variables are bound.
 ghost use Rattle.std.specs.Prelude.{◌≡◌, ◌++◌, IfOk, map};
-ghost use Rattle.secrec_ast.specs.Statements.{statement, statements_of};
-ghost use Rattle.secrec_ast.specs.Programs.{function_tree};
+ghost use Rattle.program_trees.specs.Statements.{statement, statements_of};
+ghost use Rattle.program_trees.specs.Programs.{function_tree};
 ghost use Rattle.domain_types.specs.Scopes.{nothing_known};
 ghost use Rattle.domain_types.specs.StatementTypes.{always_returns, one_returns};
 ghost use Rattle.domain_types.specs.FunctionTypes.{with_parameters, parameter_faults, result_faults, way_faults, function_faults};
@@ -16,7 +16,7 @@ use crate::least_fault::note_if;
 use crate::setting::{Setting, written};
 use crate::statements::statements;
 use crate::variables::Variables;
-use secrec_ast::{Function, Parameter, ResultType, Statement};
+use program_trees::{Function, Parameter, ResultType, Statement};
 use std::alloc::AllocError;
 
 // Whether a statement always returns.

@@ -1,6 +1,6 @@
 // The faults of a template's head, which needs no binding.
 ghost use Rattle.std.specs.Prelude.{◌≡◌, [], reverse};
-ghost use Rattle.secrec_ast.specs.Programs.{function_tree};
+ghost use Rattle.program_trees.specs.Programs.{function_tree};
 ghost use Rattle.domain_types.specs.FunctionTypes.{is_earlier, later_of, hiding_faults, kind_faults, is_variable, is_in_parameter};
 ghost use Rattle.domain_types.specs.FunctionTypes.{domain_variable_faults, domain_variables_faults};
 ghost use Rattle.declarations.specs.Views.{declared};
@@ -12,8 +12,8 @@ use crate::items::is_known_kind;
 use crate::least_fault::{note, note_if};
 use crate::protections::Protections;
 use declarations::Declarations;
+use program_trees::{DomainVariable, Function, Identifier, Parameter};
 use sc_text::Span;
-use secrec_ast::{DomainVariable, Function, Identifier, Parameter};
 
 fn is_earlier(first: Span, second: Span) -> bool
     ensures { result ≡ is_earlier first second }

@@ -1,6 +1,6 @@
 // The faults of declarations.
 ghost use Rattle.std.specs.Prelude.{◌≡◌, [], IfOk, map};
-ghost use Rattle.secrec_ast.specs.Programs.{function_tree, item_tree};
+ghost use Rattle.program_trees.specs.Programs.{function_tree, item_tree};
 ghost use Rattle.declarations.specs.Declarations.{is_known_kind};
 ghost use Rattle.domain_types.specs.ProgramTypes.{is_module, space_faults, item_faults, items_faults, is_main, has_main};
 ghost use Rattle.declarations.specs.Views.{declared, tree_at};
@@ -9,7 +9,7 @@ ghost use Rattle.domain_types.specs.inner.LeastFault.{least};
 use crate::fault::{TypeFault, TypeProblem};
 use crate::least_fault::note_if;
 use declarations::{Declarations, NameIndex};
-use secrec_ast::{Function, Identifier, Item, ResultType};
+use program_trees::{Function, Identifier, Item, ResultType};
 use std::alloc::{AllocError, Global};
 
 fn is_module(name: &str) -> bool

@@ -9,8 +9,8 @@ use crate::fault::{TypeFault, TypeProblem};
 use crate::least_fault::note_if;
 use crate::rules::{is_private, is_uint64, meet, mix, scalar};
 use crate::value_type::ValueType;
+use program_trees::{DataType, Operator};
 use sc_text::Span;
-use secrec_ast::{DataType, Operator};
 
 fn uint64_result(op: Operator, private_one: bool) -> Option<DataType>
     ensures { result ≡ uint64_result op private_one }

@@ -1,12 +1,12 @@
 // The kinds and domains of a program.
 ghost use Rattle.std.specs.Prelude.{◌≡◌, ◌++◌, ◌∷◌, [], IfOk, map, option_map, bytes_eq};
 ghost use Rattle.std.specs.List.{find};
-ghost use Rattle.secrec_ast.specs.Programs.{item_tree};
+ghost use Rattle.program_trees.specs.Programs.{item_tree};
 ghost use Rattle.domain_types.specs.FunctionTypes.{protections_of};
 ghost use Rattle.domain_types.specs.inner.Lent.{identifier_at};
 
 use declarations::NameIndex;
-use secrec_ast::{Identifier, Item};
+use program_trees::{Identifier, Item};
 use std::alloc::{AllocError, Global};
 use std::marker::Model;
 
@@ -30,7 +30,7 @@ impl Drop for Protections<'_> {
 
 impl<'p> Model for Protections<'p> {
     ghost use Rattle.std.specs.Prelude.{List, map, ◌≡◌};
-    ghost use Rattle.secrec_ast.specs.declared.statement.Identifier.{Identifier};
+    ghost use Rattle.program_trees.specs.declared.statement.Identifier.{Identifier};
     ghost use Rattle.domain_types.specs.inner.Lent.{identifier_at, text_at};
 
     ghost Value = { List Identifier };

@@ -7,8 +7,8 @@ ghost use Rattle.domain_types.specs.inner.LeastFault.{least};
 use crate::fault::{TypeFault, TypeProblem};
 use crate::least_fault::{note, note_if};
 use crate::value_type::{Protection, ValueType};
+use program_trees::DataType;
 use sc_text::Span;
-use secrec_ast::DataType;
 
 /// Whether a domain is private.
 pub fn is_private(domain: Protection) -> bool

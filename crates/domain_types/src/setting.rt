@@ -4,7 +4,7 @@ ghost use Rattle.domain_types.specs.Views.{setting};
 
 use crate::value_type::{Protection, ValueType};
 use declarations::Declarations;
-use secrec_ast::{DeclaredType, Domain, DomainVariable, Function};
+use program_trees::{DeclaredType, Domain, DomainVariable, Function};
 use std::alloc::Global;
 
 /// Where a piece of a program stands: in a function whose domain variables are bound. What is found there is kept in memory from

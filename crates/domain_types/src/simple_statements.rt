@@ -1,7 +1,7 @@
 // The parts of a `for`, and returns.
 ghost use Rattle.std.specs.Prelude.{◌≡◌, ◌++◌, IfOk};
-ghost use Rattle.secrec_ast.specs.Tree.{expression};
-ghost use Rattle.secrec_ast.specs.Statements.{optional, start_tree, step_tree};
+ghost use Rattle.program_trees.specs.Tree.{expression};
+ghost use Rattle.program_trees.specs.Statements.{optional, start_tree, step_tree};
 ghost use Rattle.domain_types.specs.StatementTypes.{start_faults, after_start, step_faults, is_step_typed, optional_faults};
 ghost use Rattle.domain_types.specs.Reached.{optional_calls, start_calls, step_calls};
 ghost use Rattle.domain_types.specs.Views.{setting, calls_seen};
@@ -17,8 +17,8 @@ use crate::rules::{scalar, store_typed};
 use crate::setting::{Setting, written};
 use crate::value_type::ValueType;
 use crate::variables::Variables;
+use program_trees::{DataType, Expression, ForStart, ForStep, ResultType};
 use sc_text::Span;
-use secrec_ast::{DataType, Expression, ForStart, ForStep, ResultType};
 use std::alloc::AllocError;
 
 /// Checks the first part of a `for`.

@@ -1,6 +1,6 @@
 // The faults of statements: a `for`, and each branch or body, is a block.
 ghost use Rattle.std.specs.Prelude.{◌≡◌, ◌++◌, IfOk, map};
-ghost use Rattle.secrec_ast.specs.Statements.{statement, statements_of};
+ghost use Rattle.program_trees.specs.Statements.{statement, statements_of};
 ghost use Rattle.domain_types.specs.Scopes.{inner};
 ghost use Rattle.domain_types.specs.StatementTypes.{after, after_all, statement_faults, block_faults};
 ghost use Rattle.domain_types.specs.Reached.{statement_calls, block_calls};
@@ -15,7 +15,7 @@ use crate::setting::Setting;
 use crate::simple_statements::{for_condition, optional_value, returning, start, step};
 use crate::values::test;
 use crate::variables::Variables;
-use secrec_ast::Statement;
+use program_trees::Statement;
 use std::alloc::AllocError;
 
 /// Checks statements in order, each in what is known there.

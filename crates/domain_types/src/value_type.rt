@@ -1,5 +1,5 @@
+use program_trees::DataType;
 use sc_text::Span;
-use secrec_ast::DataType;
 
 /// Who may see a value: everybody, or only what a private domain protects. Private domains are numbered from 0 in the order
 /// in which the program declares them.

@@ -1,6 +1,6 @@
 // Conditions and assertions.
 ghost use Rattle.std.specs.Prelude.{◌≡◌, ◌++◌, IfOk};
-ghost use Rattle.secrec_ast.specs.Tree.{expression};
+ghost use Rattle.program_trees.specs.Tree.{expression};
 ghost use Rattle.domain_types.specs.StatementTypes.{test_faults};
 ghost use Rattle.domain_types.specs.Reached.{calls_of};
 ghost use Rattle.domain_types.specs.Views.{setting, calls_seen};
@@ -12,7 +12,7 @@ use crate::fault::TypeProblem;
 use crate::rules::scalar;
 use crate::setting::Setting;
 use crate::variables::Variables;
-use secrec_ast::{DataType, Expression};
+use program_trees::{DataType, Expression};
 use std::alloc::AllocError;
 
 /// A condition or an assertion: a public truth value is wanted, where a private one is this problem.

@@ -2,7 +2,7 @@
 ghost use Rattle.std.specs.Prelude.{◌≡◌, ◌||◌, ℕ, [], IfOk, map, if◌then◌else◌};
 ghost use Rattle.std.specs.BTreeSet.{contains};
 ghost use Rattle.std.specs.Ordering.{nat_cmp};
-ghost use Rattle.secrec_ast.specs.Programs.{function_tree};
+ghost use Rattle.program_trees.specs.Programs.{function_tree};
 ghost use Rattle.domain_types.specs.FunctionTypes.{domain_variables_faults};
 ghost use Rattle.domain_types.specs.Types.{is_without};
 ghost use Rattle.declarations.specs.Views.{declared, tree_at};
@@ -21,7 +21,7 @@ use crate::protections::Protections;
 use crate::setting::Setting;
 use crate::work_list::WorkList;
 use declarations::Declarations;
-use secrec_ast::Function;
+use program_trees::Function;
 use std::alloc::{AllocError, Global};
 use std::collections::BTreeSet;
 

@@ -6,8 +6,8 @@ use Rattle.secrec_lexer.specs.Tokens.{is_sign, IsEnded}
 use Rattle.secrec_lexer.specs.declared.sign.Sign.TheVariants as signs
 use Rattle.secrec_lexer.specs.declared.token.TokenKind.TheVariants as kinds
 use Rattle.secrec_lexer.specs.declared.token.Token.{Token}
-use Rattle.secrec_ast.specs.Tree.{Tree, Trees, variable, call, none, also}
-use Rattle.secrec_ast.specs.Heights.{height}
+use Rattle.program_trees.specs.Tree.{Tree, Trees, variable, call, none, also}
+use Rattle.program_trees.specs.Heights.{height}
 use Rattle.expression_parser.specs.Phrases.{Phrase, token, one_at, sign_at, sign, ◌then◌}
 use Rattle.expression_parser.specs.Grammar.{IsExpression, AreArguments, AreMore, loosest}
 use Rattle.expression_parser.specs.Follow.{goes_on, Free}

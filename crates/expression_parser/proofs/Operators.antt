@@ -6,8 +6,8 @@ use Rattle.secrec_lexer.specs.declared.sign.Sign.{Sign}
 use Rattle.secrec_lexer.specs.declared.sign.Sign.TheVariants as signs
 use Rattle.secrec_lexer.specs.declared.token.TokenKind.{TokenKind}
 use Rattle.secrec_lexer.specs.declared.token.TokenKind.TheVariants as kinds
-use Rattle.secrec_ast.specs.declared.expression.Operator.{Operator}
-use Rattle.secrec_ast.specs.declared.expression.Operator.TheVariants as operators
+use Rattle.program_trees.specs.declared.expression.Operator.{Operator}
+use Rattle.program_trees.specs.declared.expression.Operator.TheVariants as operators
 use Rattle.expression_parser.specs.Grammar.{sign_of, operator_of, level}
 use Rattle.expression_parser.specs.Follow.{operator_goes_on, sign_goes_on, goes_on}
 use Rattle.expression_parser.specs.Steps.{operator_at, at_level}

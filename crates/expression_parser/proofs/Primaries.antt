@@ -8,8 +8,8 @@ use Rattle.secrec_lexer.specs.declared.sign.Sign.TheVariants as signs
 use Rattle.secrec_lexer.specs.declared.token.TokenKind.{TokenKind}
 use Rattle.secrec_lexer.specs.declared.token.TokenKind.TheVariants as kinds
 use Rattle.secrec_lexer.specs.declared.token.Token.{Token}
-use Rattle.secrec_ast.specs.Tree.{Tree, Trees, number, truth, variable, call, index, parentheses, negation, cast, binary, declassify, argument, publish}
-use Rattle.secrec_ast.specs.Heights.{height}
+use Rattle.program_trees.specs.Tree.{Tree, Trees, number, truth, variable, call, index, parentheses, negation, cast, binary, declassify, argument, publish}
+use Rattle.program_trees.specs.Heights.{height}
 use Rattle.expression_parser.specs.declared.problem.ParseProblem.TheVariants.{Unexpected}
 use Rattle.expression_parser.specs.Phrases.{Phrase, token, one_at, one, sign_at, sign, ◌then◌}
 use Rattle.expression_parser.specs.Grammar.{IsPrimary, IsExpression, AreArguments, loosest, unary}

@@ -2,7 +2,7 @@
 use Rattle.std.proofs.Common.{ℕ, List, [], ◌∷◌, ◌++◌, sym, ap, ◌∙◌, subst, append_assoc, Result, Ok, Err}
 use Rattle.secrec_lexer.specs.Tokens.{IsEnded}
 use Rattle.secrec_lexer.specs.declared.token.Token.{Token}
-use Rattle.secrec_ast.specs.Tree.{Tree}
+use Rattle.program_trees.specs.Tree.{Tree}
 use Rattle.expression_parser.specs.declared.problem.ParseProblem.{ParseProblem}
 use Rattle.expression_parser.specs.declared.problem.ParseProblem.TheVariants.{Unexpected, TooHigh}
 use Rattle.expression_parser.specs.declared.stopped.Stopped.{Stopped}

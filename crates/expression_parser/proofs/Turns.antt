@@ -5,9 +5,9 @@ use Rattle.std.proofs.lemmas.Bool.{le-leb, lt-leb}
 use Rattle.secrec_lexer.specs.Tokens.{is_sign}
 use Rattle.secrec_lexer.specs.declared.sign.Sign.TheVariants as signs
 use Rattle.secrec_lexer.specs.declared.token.Token.{Token}
-use Rattle.secrec_ast.specs.declared.expression.Operator.{Operator}
-use Rattle.secrec_ast.specs.Tree.{Tree, Trees, none, also, binary, trees_of}
-use Rattle.secrec_ast.specs.Heights.{height, heights, place_of}
+use Rattle.program_trees.specs.declared.expression.Operator.{Operator}
+use Rattle.program_trees.specs.Tree.{Tree, Trees, none, also, binary, trees_of}
+use Rattle.program_trees.specs.Heights.{height, heights, place_of}
 use Rattle.expression_parser.specs.declared.problem.ParseProblem.{ParseProblem}
 use Rattle.expression_parser.specs.declared.problem.ParseProblem.TheVariants.{Unexpected, TooHigh}
 use Rattle.expression_parser.specs.Grammar.{loosest, unary}

@@ -5,8 +5,8 @@ use Rattle.secrec_lexer.specs.declared.sign.Sign.TheVariants as signs
 use Rattle.secrec_lexer.specs.declared.token.TokenKind.{TokenKind}
 use Rattle.secrec_lexer.specs.declared.token.TokenKind.TheVariants as kinds
 use Rattle.secrec_lexer.specs.declared.token.Token.{Token}
-use Rattle.secrec_ast.specs.declared.expression.Operator.{Operator}
-use Rattle.secrec_ast.specs.Tree.{Tree}
+use Rattle.program_trees.specs.declared.expression.Operator.{Operator}
+use Rattle.program_trees.specs.Tree.{Tree}
 use Rattle.expression_parser.specs.Grammar.{level, operator_of}
 
 abbrev pub operator_goes_on : ℕ → Option Operator → Bool

@@ -2,10 +2,10 @@
 use Rattle.std.specs.Prelude.{◌≡◌, ℕ, ◌+◌, max, List, [], ◌∷◌, ◌++◌, map, Result, Ok, Err}
 use Rattle.std.proofs.Common.{Bor, Box, Global}
 use Rattle.secrec_lexer.specs.declared.token.Token.{Token}
-use Rattle.secrec_ast.specs.declared.expression.Operator.{Operator}
-use Rattle.secrec_ast.specs.declared.expression.Expression.{Expression}
-use Rattle.secrec_ast.specs.Tree.{Tree, Trees, binary, index, expression, trees_of}
-use Rattle.secrec_ast.specs.Heights.{height, heights, place_of}
+use Rattle.program_trees.specs.declared.expression.Operator.{Operator}
+use Rattle.program_trees.specs.declared.expression.Expression.{Expression}
+use Rattle.program_trees.specs.Tree.{Tree, Trees, binary, index, expression, trees_of}
+use Rattle.program_trees.specs.Heights.{height, heights, place_of}
 use Rattle.expression_parser.specs.declared.stopped.Stopped.{Stopped}
 use Rattle.expression_parser.specs.declared.stopped.Stopped.TheVariants.{Memory, At}
 use Rattle.expression_parser.specs.declared.parsed.Parsed.{Parsed}

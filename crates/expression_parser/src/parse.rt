@@ -13,8 +13,8 @@ use crate::parsed::{Parsed, ParsedTrees, added, below, binary, element, leaf, no
 use crate::sign::{operator_at, why_not};
 use crate::token::{begins_data_type, data_type, expect, text};
 use crate::{ParseProblem, Read, Stopped};
+use program_trees::Expression;
 use sc_text::{Name, Span};
-use secrec_ast::Expression;
 use secrec_lexer::{Sign, Token, TokenKind};
 use std::alloc::Global;
 

@@ -2,7 +2,7 @@ ghost use Rattle.std.specs.Prelude.{◌≡◌, ◌<◌, [], IfOk};
 ghost use Rattle.expression_parser.specs.Given.{tree_of, tree_height, trees_height, Below, Joined, Element, Added};
 
 use crate::{Read, Stopped};
-use secrec_ast::{Expression, Operator};
+use program_trees::{Expression, Operator};
 use std::alloc::{AllocError, Global};
 
 /// A tree, and how many nodes lie on its longest way down.

@@ -3,7 +3,7 @@ ghost use Rattle.expression_parser.specs.Grammar.{operator_of, level};
 ghost use Rattle.expression_parser.specs.Steps.{least_of_sign, least, why_not, operator_at, at_level};
 
 use crate::ParseProblem;
-use secrec_ast::Operator;
+use program_trees::Operator;
 use secrec_lexer::{Sign, TokenKind};
 
 fn least_of_sign(sign: Sign) -> Option<u8>

@@ -3,8 +3,8 @@ ghost use Rattle.expression_parser.specs.Steps.{expect, text, identifier, data_t
 ghost use Rattle.expression_parser.specs.Given.{Gives};
 
 use crate::{ParseProblem, Read, Stopped};
+use program_trees::{DataType, Identifier};
 use sc_text::{Name, Span};
-use secrec_ast::{DataType, Identifier};
 use secrec_lexer::{Sign, Token, TokenKind};
 use std::alloc::Global;
 

@@ -6,8 +6,8 @@ use Rattle.proto_core.specs.declared.link.Link.{Link}
 use Rattle.proto_core.specs.Strand.{Shape, same_link}
 use Rattle.proto_core.specs.Script.{Move, Sends, Takes, sends_on}
 use Rattle.proto_core.specs.Protocol.{Protocol}
-use Rattle.share_ring.specs.Ring.{Ring}
-use Rattle.share_ring.specs.Rings.{add_ring, xor_ring}
+use Rattle.proto_core.specs.Ring.{Ring}
+use Rattle.proto_core.specs.Rings.{add_ring, xor_ring}
 use Rattle.protocol_model.specs.Gates.{Joined, Local}
 use Rattle.protocol_model.specs.Gates as model
 use Rattle.blocked_protocol.specs.Multiplying.{mul_protocol}

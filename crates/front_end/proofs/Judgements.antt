@@ -9,9 +9,9 @@ use Rattle.secrec_lexer.specs.declared.lex_err.LexErr.TheVariants as lexing
 use Rattle.secrec_lexer.specs.Faults.{placed_fault}
 use Rattle.secrec_lexer.specs.Lexis.{HasTokens, IsTokens, IsRefusal}
 use Rattle.secrec_lexer.specs.Lexis as lexis
-use Rattle.secrec_ast.specs.declared.program.Program.{Program}
-use Rattle.secrec_ast.specs.Programs.{ProgramTree, program_tree}
-use Rattle.secrec_ast.specs.Heights.{program_height}
+use Rattle.program_trees.specs.declared.program.Program.{Program}
+use Rattle.program_trees.specs.Programs.{ProgramTree, program_tree}
+use Rattle.program_trees.specs.Heights.{program_height}
 use Rattle.expression_parser.specs.declared.problem.ParseProblem as syntax
 use Rattle.secrec_parser.specs.declared.parse_err.ParseErr.{ParseErr}
 use Rattle.secrec_parser.specs.declared.parse_err.ParseErr.TheVariants as parsing

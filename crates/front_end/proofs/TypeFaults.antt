@@ -1,6 +1,6 @@
 -- A program has one fault of the type rules that is told, and none where it is accepted.
 use Rattle.std.proofs.Common.{◌≡◌}
-use Rattle.secrec_ast.specs.Programs.{ProgramTree}
+use Rattle.program_trees.specs.Programs.{ProgramTree}
 use Rattle.domain_types.specs.declared.fault.TypeFault.{TypeFault}
 use Rattle.domain_types.specs.ProgramTypes.{IsAccepted, IsRefused}
 use Rattle.domain_types.proofs.Laws.{same_fault}

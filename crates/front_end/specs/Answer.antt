@@ -1,7 +1,7 @@
 -- What is answered of a text.
 use Rattle.std.specs.Prelude.{◌≡◌, ℕ, List, Result, Ok, Err}
-use Rattle.secrec_ast.specs.declared.program.Program.{Program}
-use Rattle.secrec_ast.specs.Programs.{program_tree}
+use Rattle.program_trees.specs.declared.program.Program.{Program}
+use Rattle.program_trees.specs.Programs.{program_tree}
 use Rattle.front_end.specs.declared.program_err.ProgramErr.{ProgramErr}
 use Rattle.front_end.specs.declared.program_err.ProgramErr.TheVariants.{Memory, Refused}
 use Rattle.front_end.specs.Judgement.{Judged, IsJudged}

@@ -8,8 +8,8 @@ use Rattle.secrec_lexer.specs.declared.lex_err.LexFault.{LexFault}
 use Rattle.secrec_lexer.specs.Faults.{placed_fault}
 use Rattle.secrec_lexer.specs.Lexis.{HasTokens}
 use Rattle.secrec_lexer.specs.Lexis as lexis
-use Rattle.secrec_ast.specs.Programs.{ProgramTree}
-use Rattle.secrec_ast.specs.Heights.{program_height}
+use Rattle.program_trees.specs.Programs.{ProgramTree}
+use Rattle.program_trees.specs.Heights.{program_height}
 use Rattle.expression_parser.specs.declared.problem.ParseProblem as syntax
 use Rattle.expression_parser.specs.declared.problem.ParseProblem.TheVariants.{Unexpected, TooHigh}
 use Rattle.secrec_parser.specs.Grammar.{IsProgram}

@@ -1,6 +1,6 @@
 // Which texts are programs, by the typing relation.
 ghost use Rattle.std.specs.Prelude.{◌↔◌, ℕ, List};
-ghost use Rattle.secrec_ast.specs.Programs.{ProgramTree};
+ghost use Rattle.program_trees.specs.Programs.{ProgramTree};
 ghost use Rattle.domain_types.specs.Typing.{IsTypedProgram};
 ghost use Rattle.front_end.specs.Judgement.{IsProgramText, Spells};
 

@@ -4,7 +4,7 @@ ghost use Rattle.front_end.specs.Answer.{IsAnswer, IsJust};
 
 use crate::program_err::ProgramErr;
 use domain_types::check;
-use secrec_ast::Program;
+use program_trees::Program;
 use secrec_lexer::lex;
 use secrec_parser::parse;
 use std::alloc::Global;

@@ -3,11 +3,11 @@ use Rattle.std.proofs.Common.{◌≡◌, ℕ, zero, suc, ◌+◌, ◌<◌, ◌�
 use Rattle.std.specs.Prelude.{get_or, nat_le, nat_lt, replicate, set, take, drop}
 use Rattle.std.proofs.lemmas.Bool.{leb-true, ltb-true}
 use Rattle.sc_text.specs.declared.end.TrapKind.TheVariants as trap
-use Rattle.secrec_ast.specs.declared.expression.DataType.{DataType}
+use Rattle.program_trees.specs.declared.expression.DataType.{DataType}
 use Rattle.gates.specs.declared.ring_kind.RingKind.{RingKind}
 use Rattle.gates.specs.declared.gate.Gate.TheVariants as gates
 use Rattle.gates.specs.Clear.{first_word}
-use Rattle.typed_tree.specs.Shapes.{shape_of}
+use Rattle.program_trees.specs.Shapes.{shape_of}
 use Rattle.language_model.specs.Effects.{World, ◌>>=◌, test, gate}
 use Rattle.language_model.specs.Values.{Secrecy, Plain, Private, Value, size, visible_words, seen_of, ring_for}
 use Rattle.language_model.specs.Operations.{charged, largest, not_too_large, number_of, made_private, concatenated_from, concatenated, position}

@@ -7,7 +7,8 @@ use Rattle.sc_text.specs.declared.end.Ending.TheVariants.{Budget, Tape}
 use Rattle.sc_text.specs.declared.end.TrapKind.{TrapKind}
 use Rattle.sc_text.specs.declared.end.TapeOwner.{TapeOwner}
 use Rattle.sc_text.specs.declared.end.TapeOwner.TheVariants as owner
-use Rattle.sc_text.specs.declared.event.Event.{Event}
+use Rattle.sc_text.specs.declared.elements.Element.{Element}
+use Rattle.sc_text.specs.declared.event.Event.TheVariants.{Publish}
 use Rattle.proto_core.specs.declared.party.Number.{Number}
 use Rattle.proto_core.specs.declared.party.Number.TheVariants.{One, Two, Three}
 use Rattle.gates.specs.Clear.{FitFrom}
@@ -19,7 +20,7 @@ use Rattle.shared_plans.specs.GateRuns.{GateRun, words_drawn}
 use Rattle.shared_plans.proofs.KindedPlans.{shared-grown}
 use Rattle.language_model.specs.Effects.{Words, World, Stage, Ended, Run, Effect, ◌>>=◌, carry, done, end, charge, test, with_more, fits, drawn_yet}
 use Rattle.language_model.specs.Effects.{take_words, draw, emit}
-use Rattle.gate_laws.specs.Facts.{and_told, none_of, Fact, Stands, AllStand, run_at, IsAt, Grows, Comes, ComesAt, Suits}
+use Rattle.gate_laws.specs.Facts.{and_published, none_of, Fact, Stands, AllStand, run_at, IsAt, Grows, Comes, ComesAt, Suits}
 use Rattle.gate_laws.specs.Dealt.{drawn_by, Dealt}
 
 -- ---- facts
@@ -183,17 +184,17 @@ module _ (w : World) (d : Dealt) where
   }
   test_suits fs false kind line = record { from = λ kinds s at stands. same_stage s s kinds none_of refl at }
 
-  pub emit_suits : (fs : List Fact) (owed : Miner → ℕ) (e : Event) → Suits w d fs owed (emit e) owed (NoFacts {A = Unit {0}}) (Any {A = Unit {0}})
-  emit_suits fs owed e =
+  pub publish_suits : (fs : List Fact) (owed : Miner → ℕ) (text : List ℕ) (elements : List Element)
+      → Suits w d fs owed (emit (Publish text elements)) owed (NoFacts {A = Unit {0}}) (Any {A = Unit {0}})
+  publish_suits fs owed text elements =
       record {
-        from = λ kinds s at stands. same_stage s (record s { events = s.events ++ e ∷ [] }) kinds owed refl
+        from = λ kinds s at stands. same_stage s (record s { events = s.events ++ Publish text elements ∷ [] }) kinds owed refl
             (record {
               formed = at.formed;
               made = at.made;
               drawn = at.drawn;
               answers = at.answers;
-              handed = λ values fit. and_told e
-                  (at.handed values fit);
+              handed = λ values fit. and_published text elements (at.handed values fit);
               opened = at.opened;
             });
       }

@@ -3,24 +3,24 @@ use Rattle.std.proofs.Common.{◌≡◌, ℕ, zero, suc, ◌<◌, ◌^◌, ◌%�
 use Rattle.std.specs.Prelude.{nat_eq, nat_lt, nat_le, ◌==◌, replicate, bit_and, bit_or, bit_xor, if◌then◌else◌}
 use Rattle.std.proofs.lemmas.Bool.{cases_lt}
 use Rattle.std.proofs.lemmas.Bool.Decides.{nat_tests}
-use Rattle.share_ring.specs.Rings.{add_ring, xor_ring}
+use Rattle.proto_core.specs.Rings.{add_ring, xor_ring}
 use Rattle.gates.specs.Clear.{each_two}
 use Rattle.gates.specs.WordTests.{zero_test, less_test}
 use Rattle.language_model.specs.Words.{truth_word, flipped}
 use Rattle.language_model.specs.Words.{meaning}
-use Rattle.secrec_ast.specs.declared.expression.DataType.{DataType}
-use Rattle.secrec_ast.specs.declared.expression.DataType.TheVariants.{Uint64}
-use Rattle.secrec_ast.specs.declared.expression.DataType.TheVariants as datatype
-use Rattle.share_ring.specs.RingsKeepLaws.{add_ring_laws}
+use Rattle.program_trees.specs.declared.expression.DataType.{DataType}
+use Rattle.program_trees.specs.declared.expression.DataType.TheVariants.{Uint64}
+use Rattle.program_trees.specs.declared.expression.DataType.TheVariants as datatype
+use Rattle.proto_core.specs.RingsKeepLaws.{add_ring_laws}
 use Rattle.std.proofs.Math.Nat.{div-le_self, mod-le}
 use Rattle.std.proofs.lemmas.Nat.{xor_lt, or_lt, and_le_l}
-use Rattle.typed_tree.specs.declared.operators.WordOperator.{WordOperator}
-use Rattle.typed_tree.specs.declared.operators.WordOperator.TheVariants as word
-use Rattle.typed_tree.specs.declared.operators.BoolOperator.{BoolOperator}
-use Rattle.typed_tree.specs.declared.operators.BoolOperator.TheVariants as truth
-use Rattle.typed_tree.specs.declared.operators.BinaryOperator.{BinaryOperator}
-use Rattle.typed_tree.specs.declared.operators.BinaryOperator.TheVariants.{Words, Bools}
-use Rattle.typed_tree.specs.Operators.{element_made}
+use Rattle.program_trees.specs.declared.operators.WordOperator.{WordOperator}
+use Rattle.program_trees.specs.declared.operators.WordOperator.TheVariants as word
+use Rattle.program_trees.specs.declared.operators.BoolOperator.{BoolOperator}
+use Rattle.program_trees.specs.declared.operators.BoolOperator.TheVariants as truth
+use Rattle.program_trees.specs.declared.operators.BinaryOperator.{BinaryOperator}
+use Rattle.program_trees.specs.declared.operators.BinaryOperator.TheVariants.{Words, Bools}
+use Rattle.program_trees.specs.Operators.{element_made}
 use Rattle.gate_laws.specs.Dealt.{bound}
 use Rattle.gate_laws.specs.Rows.{element_taken}
 use Rattle.gate_laws.proofs.Ranges.{Below, below_head, below_tail, two_below, truth_below}

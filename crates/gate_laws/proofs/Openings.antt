@@ -5,9 +5,9 @@ use Rattle.std.specs.Prelude.{nat_le}
 use Rattle.std.proofs.lemmas.List.{length-map, get_or_append_left}
 use Rattle.std.proofs.lemmas.Nat.{mod_below}
 use Rattle.sc_text.specs.declared.event.Event.TheVariants as event
-use Rattle.secrec_ast.specs.declared.expression.DataType.{DataType}
-use Rattle.secrec_ast.specs.declared.expression.DataType.TheVariants.{Uint64}
-use Rattle.secrec_ast.specs.declared.expression.DataType.TheVariants as datatype
+use Rattle.program_trees.specs.declared.expression.DataType.{DataType}
+use Rattle.program_trees.specs.declared.expression.DataType.TheVariants.{Uint64}
+use Rattle.program_trees.specs.declared.expression.DataType.TheVariants as datatype
 use Rattle.proto_core.specs.declared.party.Number.{Number}
 use Rattle.proto_core.specs.Lists.{AreWords}
 use Rattle.protocol_model.specs.Gates.{needed}
@@ -32,7 +32,7 @@ use Rattle.shared_plans.proofs.PlanRuns.{made-then}
 use Rattle.language_model.specs.Effects.{World, Source, Clear, Answers, Stage, Short, Effect, ◌>>=◌, carry, done, gate, emit, answer, show, words_each}
 use Rattle.language_model.specs.Values.{Secrecy, Plain, Private, Value, plain, size, ring_for, elements_of}
 use Rattle.language_model.specs.Operations.{read_answer, revealed, opened_from, declassified}
-use Rattle.gate_laws.specs.Facts.{handed_values, Handed, and_told, IsProper, none_of, Fact, Stands, facts_of, run_at, IsAt}
+use Rattle.gate_laws.specs.Facts.{handed_values, Handed, and_opened, IsProper, none_of, Fact, Stands, facts_of, run_at, IsAt}
 use Rattle.gate_laws.specs.Dealt.{InRange, drawn_by, Dealt}
 use Rattle.gate_laws.specs.Facts.{Grows, Comes, ComesAt, Suits}
 use Rattle.gate_laws.proofs.Effects.{Tell, suits_bind, suits_owed, draw_suits}
@@ -163,7 +163,7 @@ module _ (w : World) (d : Dealt) (v : Value) (p : IsProper v) (u : ℕ) where
             made = made_one;
             drawn = drawn_all;
             answers = at.answers;
-            handed = λ values fit. and_told (event.Open (elements_of (plain v.shape (read_answer element v.words)))) (handed_yet values fit);
+            handed = λ values fit. and_opened (elements_of (plain v.shape (read_answer element v.words))) (handed_yet values fit);
             opened = λ c values fit.
                 let before = (FitFrom-append d.inputs values 0 s.gates (Open ring u ∷ []) fit).0 in
                 ap (λ z. z ++ read_answer element v.words) (at.opened c values before)
@@ -192,7 +192,7 @@ module _ (w : World) (d : Dealt) (v : Value) (p : IsProper v) (u : ℕ) where
             made = made_one;
             drawn = drawn_all;
             answers = drop_below (2 ^ 64) (size v) s.answers at.answers;
-            handed = λ values fit. and_told (event.Open (elements_of (plain v.shape (read_answer element words)))) (handed_yet values fit);
+            handed = λ values fit. and_opened (elements_of (plain v.shape (read_answer element words))) (handed_yet values fit);
             opened = λ c values fit. absurd (no_answers (sym source ∙ c));
           };
           facts = tt;

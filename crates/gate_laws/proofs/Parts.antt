@@ -1,15 +1,15 @@
 -- The parts of a row: charges, numbers of values, scalars beside arrays, and the value that is given.
 use Rattle.std.proofs.Common.{◌≡◌, ℕ, ◌-◌, ◌<◌, ◌^◌, List, [], ◌∷◌, length, Some, None, Bool, true, false, refl, sym, subst, arith}
 use Rattle.std.specs.Prelude.{replicate}
-use Rattle.secrec_ast.specs.declared.expression.DataType.{DataType}
-use Rattle.secrec_ast.specs.declared.expression.DataType.TheVariants.{Uint64}
-use Rattle.secrec_ast.specs.declared.expression.DataType.TheVariants as datatype
+use Rattle.program_trees.specs.declared.expression.DataType.{DataType}
+use Rattle.program_trees.specs.declared.expression.DataType.TheVariants.{Uint64}
+use Rattle.program_trees.specs.declared.expression.DataType.TheVariants as datatype
 use Rattle.proto_core.specs.Lists.{at, AreWords}
 use Rattle.gates.specs.declared.ring_kind.RingKind.{RingKind}
 use Rattle.gates.specs.declared.gate.Gate.TheVariants.{Const, Rep}
 use Rattle.gates.specs.Clear.{first_word}
 use Rattle.gates.specs.Counts.{Miner}
-use Rattle.typed_tree.specs.declared.kinds.Shape.{Shape}
+use Rattle.program_trees.specs.declared.kinds.Shape.{Shape}
 use Rattle.language_model.specs.Effects.{World, Effect, done, gate}
 use Rattle.language_model.specs.Values.{Secrecy, Plain, Private, Value, plain, size, ring_for}
 use Rattle.language_model.specs.Operations.{charged, no_traps, number_from, number_of, stretched, made_private, classified_from, classified}

@@ -4,7 +4,7 @@ use Rattle.std.specs.Prelude.{slice_get, set, sum, replicate, ◌^◌, ◌%◌}
 use Rattle.std.specs.List.{flat_map}
 use Rattle.std.proofs.lemmas.List.{length-map}
 use Rattle.proto_core.specs.Lists.{AreWords}
-use Rattle.share_ring.specs.Rings.{add_ring, xor_ring}
+use Rattle.proto_core.specs.Rings.{add_ring, xor_ring}
 use Rattle.gates.specs.declared.ring_kind.RingKind.{RingKind}
 use Rattle.gates.specs.declared.ring_kind.RingKind.TheVariants.{Arithmetic, Boolean}
 use Rattle.gates.specs.declared.gate.Gate.{Gate}

@@ -5,18 +5,18 @@ use Rattle.std.specs.Prelude.{slice_get, map, sum, nat_lt}
 use Rattle.sc_text.specs.declared.end.Ending.{Ending}
 use Rattle.sc_text.specs.declared.end.Ending.TheVariants as ending
 use Rattle.sc_text.specs.declared.end.TrapKind.TheVariants as trap
-use Rattle.secrec_ast.specs.declared.expression.DataType.{DataType}
-use Rattle.secrec_ast.specs.declared.expression.DataType.TheVariants.{Uint64}
-use Rattle.secrec_ast.specs.declared.expression.DataType.TheVariants as datatype
+use Rattle.program_trees.specs.declared.expression.DataType.{DataType}
+use Rattle.program_trees.specs.declared.expression.DataType.TheVariants.{Uint64}
+use Rattle.program_trees.specs.declared.expression.DataType.TheVariants as datatype
 use Rattle.shared_plans.specs.Shares as shares
 use Rattle.shared_plans.specs.GateRuns.{GateRun}
 use Rattle.language_model.specs.Effects.{World, Stage, Run, Effect, ◌>>=◌, carry, done, end}
 use Rattle.language_model.specs.Values.{Value, is_secret, plain, size, never_stored}
 use Rattle.language_model.specs.Operations as row
 use Rattle.language_model.specs.Evaluation.{Frame, put, nothing, array_elements, either, asked_for, input_named}
-use Rattle.typed_tree.specs.declared.operators.BinaryOperator.{BinaryOperator}
-use Rattle.typed_tree.specs.declared.operators.Operands.{Operands}
-use Rattle.typed_tree.specs.Shapes.{shape_of}
+use Rattle.program_trees.specs.declared.operators.BinaryOperator.{BinaryOperator}
+use Rattle.program_trees.specs.declared.operators.Operands.{Operands}
+use Rattle.program_trees.specs.Shapes.{shape_of}
 use Rattle.bytecode.specs.declared.kind.Kind.{Kind}
 use Rattle.verified_code.specs.Steps.{kind_shape, Step, Literal, Move, Store, Binary, Not, Cast, Classify, Fill, At, Put, Size, Cat, Sum, Bits, Declassify}
 use Rattle.verified_code.specs.Steps.{Argument, Publish, Assert, Branch, Jump, Call, Return, ReturnNone, Function}

@@ -6,13 +6,13 @@ use Rattle.std.proofs.lemmas.Option.{none-some}
 use Rattle.sc_text.specs.declared.end.Ending.TheVariants as ending
 use Rattle.sc_text.specs.declared.end.TrapKind.TheVariants as trap
 use Rattle.sc_text.specs.declared.event.Event.TheVariants as event
-use Rattle.secrec_ast.specs.declared.expression.DataType.{DataType}
+use Rattle.program_trees.specs.declared.expression.DataType.{DataType}
 use Rattle.gates.specs.declared.gate.Gate.TheVariants as gates
-use Rattle.typed_tree.specs.declared.kinds.Shape.{Shape}
-use Rattle.typed_tree.specs.Shapes.{shape_of}
+use Rattle.program_trees.specs.declared.kinds.Shape.{Shape}
+use Rattle.program_trees.specs.Shapes.{shape_of}
 use Rattle.language_model.specs.Effects.{World, GivenInput, Effect, ◌>>=◌, done, draw, test, gate, emit, words_each}
 use Rattle.language_model.specs.Values.{Secrecy, Plain, Private, Value, plain, size, ring_for, elements_of, is_true}
-use Rattle.language_model.specs.Operations.{number_of, handed_over, published, tested, asserted}
+use Rattle.language_model.specs.Operations.{number_of, handed_over, publication, published, tested, asserted}
 use Rattle.language_model.specs.Evaluation.{same_truth, same_shape, is_as_declared, behind, input_from, input_named, given_value, asked_for}
 use Rattle.gates.specs.declared.ring_kind.RingKind.{RingKind}
 use Rattle.gates.specs.declared.gate.Gate.{Gate}
@@ -26,7 +26,7 @@ use Rattle.shared_plans.proofs.PlanRuns.{longer-formed, words-then, made-then}
 use Rattle.gate_laws.specs.Facts.{IsProper, handed_values, Handed, and_handed, none_of, Fact, facts_of, run_at, Suits}
 use Rattle.gate_laws.specs.Dealt.{bound, drawn_by, Dealt}
 use Rattle.gate_laws.specs.Offers.{IsOffered, AreOffered}
-use Rattle.gate_laws.proofs.Effects.{Tell, Any, NoFacts, suits_bind, suits_again, suits_with, suits_done, suits_end, charge_suits, test_suits, emit_suits}
+use Rattle.gate_laws.proofs.Effects.{Tell, Any, NoFacts, suits_bind, suits_again, suits_with, suits_done, suits_end, charge_suits, test_suits, publish_suits}
 use Rattle.gate_laws.proofs.Effects.{draw_suits}
 use Rattle.gate_laws.proofs.Gains.{fact, gate_from, opened_split, handed_split}
 use Rattle.gate_laws.proofs.Singles.{result_follows, input_gain}
@@ -46,14 +46,14 @@ module _ (w : World) (d : Dealt) where
     abbrev ring : RingKind
     ring = ring_for v.shape.element
 
-    abbrev telling : List ℕ → Unit {0} → Effect (Unit {0})
-    telling text = λ _. emit (event.Publish text (elements_of v))
+    abbrev telling : Secrecy → List ℕ → Unit {0} → Effect (Unit {0})
+    telling a text = λ _. emit (publication a text (elements_of v))
 
     -- the gate, and then the event
-    handing_suits : (fs : List Fact) (text : List ℕ) (u : ℕ) → Tell fs (fact u ring v.words ∷ [])
-        → Suits w d fs (drawn_by (words_each (size v))) ((gate (gates.Result ring u) >>= λ _. done tt) >>= telling text) none_of (NoFacts {A = Unit {0}})
+    handing_suits : (fs : List Fact) (k : Option ℕ) (text : List ℕ) (u : ℕ) → Tell fs (fact u ring v.words ∷ [])
+        → Suits w d fs (drawn_by (words_each (size v))) ((gate (gates.Result ring u) >>= λ _. done tt) >>= telling (Private k) text) none_of (NoFacts {A = Unit {0}})
         (Any {A = Unit {0}})
-    handing_suits fs text u t =
+    handing_suits fs k text u t =
         record {
           from = λ kinds s at facts.
               let run = run_at w d kinds s in
@@ -75,9 +75,9 @@ module _ (w : World) (d : Dealt) where
                       omega (arith, at.drawn i, owed);
                   answers = at.answers;
                   handed = λ values fit.
-                      subst (Handed (s.events ++ event.Publish text (elements_of v) ∷ []))
+                      subst (Handed (s.events ++ event.Hand text (elements_of v) ∷ []))
                       (ap (λ z. handed_values values s.gates ++ z ∷ []) (sym (h.words values (before values fit))) ∙ sym (handed_split values s.gates gs))
-                      (and_handed text v.shape.element v.words (at.handed values (before values fit)));
+                      (and_handed text v.shape.element v.words p.range (at.handed values (before values fit)));
                   opened = λ clear values fit.
                       at.opened clear values (before values fit) ∙ sym (append-nil (opened_values values s.gates)) ∙ sym (opened_split values s.gates gs);
                 };
@@ -87,17 +87,17 @@ module _ (w : World) (d : Dealt) where
         }
 
     handed_suits : (text : List ℕ) (a : Secrecy)
-        → Suits w d (facts_of v) none_of (handed_over w a v >>= telling text) none_of (NoFacts {A = Unit {0}}) (Any {A = Unit {0}})
+        → Suits w d (facts_of v) none_of (handed_over w a v >>= telling a text) none_of (NoFacts {A = Unit {0}}) (Any {A = Unit {0}})
     handed_suits text Plain =
         suits_bind w d (suits_done w d {F = NoFacts {A = Unit {0}}} {R = Any {A = Unit {0}}} (tell_none (facts_of v)) tt)
-        (λ _ _. emit_suits w d (facts_of v) none_of (event.Publish text (elements_of v)))
+        (λ _ _. publish_suits w d (facts_of v) none_of text (elements_of v))
     handed_suits text (Private k) =
         let owed = drawn_by (words_each (size v)) in
-        suits_again w d (draw w (words_each (size v))) (λ _. number_of v >>= λ u. gate (gates.Result ring u) >>= λ _. done tt) (telling text)
+        suits_again w d (draw w (words_each (size v))) (λ _. number_of v >>= λ u. gate (gates.Result ring u) >>= λ _. done tt) (telling (Private k) text)
         (suits_bind w d (draw_suits w d (facts_of v) (words_each (size v))) (λ _ _.
-        suits_again w d (number_of v) (λ u. gate (gates.Result ring u) >>= λ _. done tt) (telling text)
+        suits_again w d (number_of v) (λ u. gate (gates.Result ring u) >>= λ _. done tt) (telling (Private k) text)
         (suits_bind w d (number_suits w d (facts_of v) owed v (tell_same (facts_of v)) p.range) (λ u _.
-        handing_suits (fact u ring v.words ∷ facts_of v) text u (tell_first _ _)))))
+        handing_suits (fact u ring v.words ∷ facts_of v) k text u (tell_first _ _)))))
 
     pub published_suits : (text : List ℕ) → Suits w d (facts_of v) none_of (published w text v) none_of (NoFacts {A = Unit {0}}) (Any {A = Unit {0}})
     published_suits text = suits_bind w d (plain_charge w d (facts_of v) (size v)) (λ _ _. handed_suits text v.secrecy)

@@ -9,9 +9,9 @@ use Rattle.std.proofs.lemmas.Bool.{leb-true}
 use Rattle.std.proofs.lemmas.List.{length-map}
 use Rattle.std.proofs.lemmas.Nat.{mod_below}
 use Rattle.sc_text.specs.declared.end.TrapKind.TheVariants as trap
-use Rattle.secrec_ast.specs.declared.expression.DataType.{DataType}
-use Rattle.secrec_ast.specs.declared.expression.DataType.TheVariants.{Uint64}
-use Rattle.secrec_ast.specs.declared.expression.DataType.TheVariants as datatype
+use Rattle.program_trees.specs.declared.expression.DataType.{DataType}
+use Rattle.program_trees.specs.declared.expression.DataType.TheVariants.{Uint64}
+use Rattle.program_trees.specs.declared.expression.DataType.TheVariants as datatype
 use Rattle.gates.specs.declared.ring_kind.RingKind.TheVariants.{Arithmetic, Boolean}
 use Rattle.gates.specs.declared.gate.Gate.TheVariants as gates
 use Rattle.gates.specs.Clear.{bits_of}
@@ -22,9 +22,9 @@ use Rattle.plans.specs.EqualityLaw as equality
 use Rattle.plans.specs.BitExtract.{bits_plan}
 use Rattle.plans.specs.BitExtractLaw as bits
 use Rattle.shared_plans.specs.Plans.{zero_test_kinds, bits_kinds}
-use Rattle.typed_tree.specs.declared.operators.Cast.{Cast}
-use Rattle.typed_tree.specs.declared.operators.Cast.TheVariants.{WordToWord, WordToBool, BoolToWord, BoolToBool}
-use Rattle.typed_tree.specs.Shapes.{shape_of}
+use Rattle.program_trees.specs.declared.operators.Cast.{Cast}
+use Rattle.program_trees.specs.declared.operators.Cast.TheVariants.{WordToWord, WordToBool, BoolToWord, BoolToBool}
+use Rattle.program_trees.specs.Shapes.{shape_of}
 use Rattle.language_model.specs.Effects.{World}
 use Rattle.language_model.specs.Values.{Secrecy, Plain, Private, Value, size}
 use Rattle.language_model.specs.Words.{flipped, cast_word}

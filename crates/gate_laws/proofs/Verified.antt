@@ -5,14 +5,14 @@ use Rattle.std.specs.Prelude.{slice_get, nat_lt, nat_le, ◌==◌, if◌then◌e
 use Rattle.std.specs.List.{list_all}
 use Rattle.std.proofs.lemmas.Bool.{and_parts, ltb-true}
 use Rattle.std.proofs.lemmas.List.{length-map}
-use Rattle.secrec_ast.specs.declared.expression.DataType.{DataType}
-use Rattle.secrec_ast.specs.declared.expression.DataType.TheVariants.{Uint64}
-use Rattle.secrec_ast.specs.declared.expression.DataType.TheVariants as datatype
-use Rattle.typed_tree.specs.declared.operators.WordOperator.TheVariants as word
-use Rattle.typed_tree.specs.declared.operators.BoolOperator.TheVariants as truth
-use Rattle.typed_tree.specs.declared.operators.BinaryOperator.{BinaryOperator}
-use Rattle.typed_tree.specs.declared.operators.BinaryOperator.TheVariants.{Words, Bools}
-use Rattle.typed_tree.specs.Operators.{element_made, operands_of, cast_between}
+use Rattle.program_trees.specs.declared.expression.DataType.{DataType}
+use Rattle.program_trees.specs.declared.expression.DataType.TheVariants.{Uint64}
+use Rattle.program_trees.specs.declared.expression.DataType.TheVariants as datatype
+use Rattle.program_trees.specs.declared.operators.WordOperator.TheVariants as word
+use Rattle.program_trees.specs.declared.operators.BoolOperator.TheVariants as truth
+use Rattle.program_trees.specs.declared.operators.BinaryOperator.{BinaryOperator}
+use Rattle.program_trees.specs.declared.operators.BinaryOperator.TheVariants.{Words, Bools}
+use Rattle.program_trees.specs.Operators.{element_made, operands_of, cast_between}
 use Rattle.language_model.specs.Operations as row
 use Rattle.bytecode.specs.declared.kind.Kind.{Kind}
 use Rattle.bytecode.specs.Raw.{Raw, RawFunction, RawCode}

@@ -1,13 +1,14 @@
 -- What is known at a stage of a run: its gates as a run of gates on shares, and the values of numbers that they make.
 use Rattle.std.specs.Prelude.{◌≡◌, ℕ, ◌+◌, ◌<◌, ◌^◌, List, [], ◌∷◌, ◌++◌, length, map, Some, None, Ok, Err}
-use Rattle.secrec_ast.specs.declared.expression.DataType.{DataType}
+use Rattle.program_trees.specs.declared.expression.DataType.{DataType}
 use Rattle.proto_core.specs.declared.party.Number.{Number}
 use Rattle.proto_core.specs.Lists.{AreWords}
 use Rattle.gates.specs.declared.ring_kind.RingKind.{RingKind}
 use Rattle.gates.specs.declared.gate.Gate.{Gate}
 use Rattle.gates.specs.declared.gate.Gate.TheVariants.{Result}
 use Rattle.sc_text.specs.declared.event.Event.{Event}
-use Rattle.sc_text.specs.declared.event.Event.TheVariants.{Publish}
+use Rattle.sc_text.specs.declared.elements.Element.{Element}
+use Rattle.sc_text.specs.declared.event.Event.TheVariants.{Open, Publish, Hand}
 use Rattle.gates.specs.Clear.{Values, value, FitFrom}
 use Rattle.gates.specs.Counts.{Miner}
 use Rattle.shared_plans.specs.Shares.{Kind, Shared, kind_at}
@@ -69,13 +70,15 @@ abbrev pub handed_values : Values → List Gate → List (List ℕ)
 handed_values values [] = []
 handed_values values (g ∷ gs) = handed_by_gate values g ++ handed_values values gs
 
--- these are the words of events that publish, in their order; there may be other events between them
+-- these are the words of events that hand over, in their order, all of them; other events stand between them
 pub data Handed : List Event → List (List ℕ) → Type 0 where
   nothing_handed : Handed [] []
-  and_told : {es : List Event} {vs : List (List ℕ)} (e : Event) → Handed es vs → Handed (es ++ e ∷ []) vs
+  and_opened : {es : List Event} {vs : List (List ℕ)} (elements : List Element) → Handed es vs → Handed (es ++ Open elements ∷ []) vs
+  and_published :
+      {es : List Event} {vs : List (List ℕ)} (text : List ℕ) (elements : List Element) → Handed es vs → Handed (es ++ Publish text elements ∷ []) vs
   and_handed :
-      {es : List Event} {vs : List (List ℕ)} (text : List ℕ) (e : DataType) (words : List ℕ) → Handed es vs
-      → Handed (es ++ Publish text (map (element_of e) words) ∷ []) (vs ++ words ∷ [])
+      {es : List Event} {vs : List (List ℕ)} (text : List ℕ) (e : DataType) (words : List ℕ) → InRange e words → Handed es vs
+      → Handed (es ++ Hand text (map (element_of e) words) ∷ []) (vs ++ words ∷ [])
 
 -- ---- STAGES
 
@@ -85,7 +88,7 @@ module _ (w : World) (d : Dealt) where
   run_at kinds s = record { inputs = d.inputs; dealt_kinds = d.kinds; dealt = d.shares; gates = s.gates; kinds = kinds }
 
   -- each gate suits the values before it, in sizes and kinds; the words that the gates draw have been drawn, and so many more for
-  -- gates to come. Where values fit the gates, those that are handed over are published, and the words that were opened in the clear
+  -- gates to come. Where values fit the gates, exactly those that are handed over are told as such, and the words that were opened in the clear
   -- are those of the values that are opened
   pub record IsAt (kinds : List Kind) (owed : Miner → ℕ) (s : Stage) : Type 0 where
     pub formed : IsWellFormed (run_at kinds s)

@@ -1,9 +1,9 @@
 -- Machines whose values stand, and code whose steps take values that have gates.
 use Rattle.std.specs.Prelude.{◌≡◌, ℕ, ◌<◌, false, List, [], ◌∷◌, Some, Ok, Err}
 use Rattle.std.specs.List.{slice_get}
-use Rattle.secrec_ast.specs.declared.expression.DataType.{DataType}
-use Rattle.secrec_ast.specs.declared.expression.DataType.TheVariants.{Uint64}
-use Rattle.secrec_ast.specs.declared.expression.DataType.TheVariants as datatype
+use Rattle.program_trees.specs.declared.expression.DataType.{DataType}
+use Rattle.program_trees.specs.declared.expression.DataType.TheVariants.{Uint64}
+use Rattle.program_trees.specs.declared.expression.DataType.TheVariants as datatype
 use Rattle.shared_plans.specs.Shares as shares
 use Rattle.shared_plans.specs.GateRuns.{GateRun}
 use Rattle.language_model.specs.Effects.{World, Stage, Run}

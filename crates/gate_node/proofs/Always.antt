@@ -1,6 +1,6 @@
 -- What a strand ends with, whatever messages come, also ones that it would not take.
 use Rattle.std.proofs.Common.{◌≡◌, ℕ, ◌+◌, Bool, List, [], ◌∷◌, length, map, take, drop, refl, sym, ◌∙◌, ap, subst}
-use Rattle.share_ring.specs.Rings.{add_ring, xor_ring}
+use Rattle.proto_core.specs.Rings.{add_ring, xor_ring}
 use Rattle.proto_core.specs.declared.party.Number.{Number}
 use Rattle.proto_core.specs.declared.party.Number.TheVariants.{One, Two, Three}
 use Rattle.proto_core.specs.Protocol.{Protocol}
@@ -14,10 +14,10 @@ use Rattle.gates.specs.Clear.{ring_of}
 use Rattle.blocked_protocol.specs.Blocked.{total, joined, sums, blocks_strand, Blockable}
 use Rattle.blocked_protocol.proofs.Fitting.{sizes-joined, sizes-none}
 use Rattle.blocked_protocol.proofs.Sizes.{block_sizes-cut}
-use Rattle.joint_run.specs.declared.exchange.Exchange.{Exchange}
-use Rattle.joint_run.specs.declared.exchange.Exchange.TheVariants.{Product, Splitting, Conversion, Opening, Resharing}
-use Rattle.joint_run.specs.Exchanges.{protocol_of}
-use Rattle.joint_run.proofs.Blockwise.{blockable-of}
+use Rattle.gate_exchanges.specs.declared.exchange.Exchange.{Exchange}
+use Rattle.gate_exchanges.specs.declared.exchange.Exchange.TheVariants.{Product, Splitting, Conversion, Opening, Resharing}
+use Rattle.gate_exchanges.specs.Exchanges.{protocol_of}
+use Rattle.gate_exchanges.proofs.Blockables.{blockable-of}
 
 abbrev pub EndsAlways : {A : Type 0} → (A → Type 0) → Strand A → Type 0
 EndsAlways P (Ends a) = P a

@@ -17,16 +17,16 @@ use Rattle.gates.specs.declared.gate.Gate.TheVariants.{Mul, And, Split, Conv, Op
 use Rattle.gates.specs.Counts.{size_of}
 use Rattle.gates.specs.Clear.{Values, value}
 use Rattle.blocked_protocol.specs.Blocked.{joined, no_elements, blocks_strand, Blockable}
-use Rattle.joint_run.specs.LocalGates.{local_share, IsLocal}
-use Rattle.joint_run.specs.Model.{SizesSuit}
-use Rattle.joint_run.proofs.Models.{nth_value-value, size-value}
-use Rattle.joint_run.specs.declared.exchange.Exchange.{Exchange}
-use Rattle.joint_run.specs.declared.exchange.Exchange.TheVariants.{Product, Splitting, Conversion, Opening, Resharing}
-use Rattle.joint_run.specs.declared.exchanged.Exchanged.{Exchanged}
-use Rattle.joint_run.specs.Exchanges.{protocol_of}
-use Rattle.joint_run.specs.Steps.{IsExchanged, second_value}
-use Rattle.joint_run.proofs.Blockwise.{blockable-of, first-block, joined-assoc}
-use Rattle.joint_run.proofs.GateSteps.{local-gate, exchanged-gate, local-draws}
+use Rattle.gate_exchanges.specs.LocalGates.{local_share, IsLocal}
+use Rattle.gate_exchanges.specs.Model.{SizesSuit}
+use Rattle.gate_exchanges.proofs.Models.{nth_value-value, size-value}
+use Rattle.gate_exchanges.specs.declared.exchange.Exchange.{Exchange}
+use Rattle.gate_exchanges.specs.declared.exchange.Exchange.TheVariants.{Product, Splitting, Conversion, Opening, Resharing}
+use Rattle.gate_exchanges.specs.declared.exchanged.Exchanged.{Exchanged}
+use Rattle.gate_exchanges.specs.Exchanges.{protocol_of}
+use Rattle.gate_exchanges.specs.Exchanged.{IsExchanged, second_value}
+use Rattle.gate_exchanges.proofs.Blockables.{blockable-of, first-block, joined-assoc}
+use Rattle.gate_exchanges.proofs.OneGate.{local-gate, exchanged-gate, local-draws}
 use Rattle.gate_node.specs.OwnGates.{Halted, Stuck, own_gate, own_draws, can_run, own_gates}
 use Rattle.gate_node.specs.Nodes.{blocks_then}
 use Rattle.gate_node.proofs.Suiting.{test-is}

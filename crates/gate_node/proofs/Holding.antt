@@ -7,7 +7,7 @@ use Rattle.protocol_model.specs.Gates.{nth_value, sizes_of}
 use Rattle.gates.specs.Clear.{Values}
 use Rattle.gates.specs.Counts.{size_of}
 use Rattle.gates.specs.Taken.{Numbers, or_from, AllOf, AreAmong, HaveSame}
-use Rattle.joint_run.proofs.Models.{nth_value-value, size-value}
+use Rattle.gate_exchanges.proofs.Models.{nth_value-value, size-value}
 
 pub all_among : (M N : Numbers) → AreAmong M N → (ks : List ℕ) → AllOf M ks → AllOf N ks
 all_among M N among [] h = tt

@@ -1,7 +1,7 @@
 -- A gate depends on the values that it takes alone: whether it can run, the words that it draws, and what it makes.
 use Rattle.std.proofs.Common.{◌≡◌, ℕ, ◌+◌, Bool, ◌==◌, ◌&&◌, nat_lt, nat_le, if◌then◌else◌, List, [], ◌∷◌, ◌++◌, length, take, drop, refl, ◌∙◌, ap}
 use Rattle.std.specs.Prelude.{Option, Some, None}
-use Rattle.share_ring.specs.Rings.{add_ring, xor_ring}
+use Rattle.proto_core.specs.Rings.{add_ring, xor_ring}
 use Rattle.proto_core.specs.declared.party.Number.{Number}
 use Rattle.proto_core.specs.Protocol.{Protocol}
 use Rattle.proto_core.specs.Strand.{Strand, Ends, then_do}
@@ -12,14 +12,14 @@ use Rattle.open_result.specs.Opening.{open_protocol}
 use Rattle.reshare.specs.Resharing.{reshare_protocol}
 use Rattle.share_convert.specs.Converting.{conv_protocol}
 use Rattle.split_share.specs.Splitting.{split_protocol}
-use Rattle.joint_run.specs.Blocked.{blocked}
+use Rattle.gate_exchanges.specs.Blocked.{blocked}
 use Rattle.gates.specs.declared.gate.Gate.{Gate}
 use Rattle.gates.specs.declared.gate.Gate.TheVariants.{Input, Const, Add, Sub, MulPub, Mul, Xor, And, Not, Shl, Shr, Low, Cat, Part, Put, Rep, Spread}
 use Rattle.gates.specs.declared.gate.Gate.TheVariants.{Sum, Split, Conv, Open, Result}
 use Rattle.gates.specs.Clear.{Values, value, ring_of}
 use Rattle.gates.specs.Counts.{size_of}
 use Rattle.gates.specs.Taken.{Numbers, Takes, HaveSame}
-use Rattle.joint_run.specs.LocalGates.{local_share}
+use Rattle.gate_exchanges.specs.LocalGates.{local_share}
 use Rattle.gate_node.specs.Suiting.{is_there, are_pair, suits}
 use Rattle.gate_node.specs.OwnGates.{Halted, Stuck, own_gate, own_draws, can_run, own_gates}
 use Rattle.gate_node.proofs.Always.{then-assoc}

@@ -16,12 +16,12 @@ use Rattle.gates.specs.declared.gate.Gate.TheVariants.{Mul, And, Split, Conv, Op
 use Rattle.gates.specs.Counts.{size_of}
 use Rattle.gates.specs.Clear.{Values}
 use Rattle.blocked_protocol.specs.Blocked.{blocked, blocks_strand}
-use Rattle.joint_run.specs.LocalGates.{local_share}
-use Rattle.joint_run.specs.Model.{sizes_made, SizesSuit, AllSizesSuit, run_gate, run_gates}
-use Rattle.joint_run.proofs.Models.{local-size}
-use Rattle.joint_run.specs.declared.exchange.Exchange.{Exchange}
-use Rattle.joint_run.specs.declared.exchange.Exchange.TheVariants.{Product, Splitting, Conversion, Opening, Resharing}
-use Rattle.joint_run.specs.Exchanges.{protocol_of}
+use Rattle.gate_exchanges.specs.LocalGates.{local_share}
+use Rattle.gate_exchanges.specs.Model.{sizes_made, SizesSuit, AllSizesSuit, run_gate, run_gates}
+use Rattle.gate_exchanges.proofs.Models.{local-size}
+use Rattle.gate_exchanges.specs.declared.exchange.Exchange.{Exchange}
+use Rattle.gate_exchanges.specs.declared.exchange.Exchange.TheVariants.{Product, Splitting, Conversion, Opening, Resharing}
+use Rattle.gate_exchanges.specs.Exchanges.{protocol_of}
 use Rattle.gate_node.specs.OwnGates.{Halted, Whole, Stuck, own_gate, own_draws, can_run, own_gates, then_gates}
 use Rattle.gate_node.proofs.Always.{EndsAlways, HaveSizes, always-then, then-same, then-all, then-assoc, gate-sized}
 use Rattle.gate_node.proofs.Suiting.{test-is}

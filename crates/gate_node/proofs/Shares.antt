@@ -2,9 +2,9 @@
 use Rattle.std.proofs.Common.{◌≡◌, ℕ, Bool, true, false, ◌&&◌, List, [], ◌∷◌, ◌++◌, refl, ◌∙◌, ap, Some, None, Vec, Global}
 use Rattle.proto_core.proofs.Beginnings.{append-none}
 use Rattle.blocked_protocol.specs.Blocked.{joined, no_elements}
-use Rattle.joint_run.specs.declared.exchange.Exchange.{Exchange}
-use Rattle.joint_run.specs.declared.exchange.Exchange.TheVariants.{Product, Splitting, Conversion, Opening, Resharing}
-use Rattle.joint_run.specs.Exchanges.{protocol_of, makes_two}
+use Rattle.gate_exchanges.specs.declared.exchange.Exchange.{Exchange}
+use Rattle.gate_exchanges.specs.declared.exchange.Exchange.TheVariants.{Product, Splitting, Conversion, Opening, Resharing}
+use Rattle.gate_exchanges.specs.Exchanges.{protocol_of, makes_two}
 use Rattle.gate_node.specs.Shares.{shares_of, shares_if}
 
 pub none-is : (e : Exchange) → no_elements (protocol_of e) ≡ shares_if (makes_two e) [] []

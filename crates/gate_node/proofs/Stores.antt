@@ -8,10 +8,10 @@ use Rattle.protocol_model.specs.Gates.{sizes_of}
 use Rattle.gates.specs.declared.gate.Gate.{Gate}
 use Rattle.gates.specs.declared.gate.Gate.TheVariants.{Mul, And, Put, Split, Conv, Open, Result}
 use Rattle.gates.specs.Clear.{Values}
-use Rattle.joint_run.specs.LocalGates.{IsLocal}
-use Rattle.joint_run.specs.Model.{SizesSuit}
-use Rattle.joint_run.specs.declared.exchanged.Exchanged.{Exchanged}
-use Rattle.joint_run.specs.Steps.{IsExchanged}
+use Rattle.gate_exchanges.specs.LocalGates.{IsLocal}
+use Rattle.gate_exchanges.specs.Model.{SizesSuit}
+use Rattle.gate_exchanges.specs.declared.exchanged.Exchanged.{Exchanged}
+use Rattle.gate_exchanges.specs.Exchanged.{IsExchanged}
 use Rattle.gate_node.specs.declared.beginning.Beginning.{Beginning}
 use Rattle.gate_node.specs.declared.beginning.Beginning.TheVariants as beginning
 use Rattle.gate_node.specs.declared.engine.Work.TheVariants as work

@@ -9,8 +9,8 @@ use Rattle.protocol_model.specs.Gates.{sizes_of}
 use Rattle.gates.specs.declared.gate.Gate.{Gate}
 use Rattle.gates.specs.declared.gate.Gate.TheVariants.{Put}
 use Rattle.gates.specs.Clear.{Values, value, first_word}
-use Rattle.joint_run.specs.Model.{SizesSuit}
-use Rattle.joint_run.proofs.Models.{size-value}
+use Rattle.gate_exchanges.specs.Model.{SizesSuit}
+use Rattle.gate_exchanges.proofs.Models.{size-value}
 use Rattle.gate_node.specs.declared.engine.Work.TheVariants as work
 use Rattle.gate_node.specs.declared.wanted.Wanted.TheVariants as wanted
 use Rattle.gate_node.specs.declared.engine.Engine.{Engine}

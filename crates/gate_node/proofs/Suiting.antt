@@ -5,7 +5,7 @@ use Rattle.gates.specs.declared.gate.Gate.{Gate}
 use Rattle.gates.specs.declared.gate.Gate.TheVariants.{Input, Const, Add, Sub, MulPub, Mul, Xor, And, Not, Shl, Shr, Low, Cat, Part, Put, Rep, Spread}
 use Rattle.gates.specs.declared.gate.Gate.TheVariants.{Sum, Split, Conv, Open, Result}
 use Rattle.gates.specs.Counts.{size_of}
-use Rattle.joint_run.specs.Model.{PairOf, SizesSuit}
+use Rattle.gate_exchanges.specs.Model.{PairOf, SizesSuit}
 use Rattle.gate_node.specs.Suiting.{is_there, are_pair, suits}
 
 both : (a b : Bool) {P Q : Type 0} → IsTrue a ↔ P → IsTrue b ↔ Q → IsTrue (a && b) ↔ (P × Q)

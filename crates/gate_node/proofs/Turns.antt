@@ -9,11 +9,11 @@ use Rattle.gates.specs.Blocks.{block_sizes}
 use Rattle.gates.specs.declared.gate.Gate.{Gate}
 use Rattle.gates.specs.Clear.{Values, value}
 use Rattle.blocked_protocol.specs.Blocked.{joined, blocks_strand}
-use Rattle.joint_run.specs.LocalGates.{local_share, IsLocal}
-use Rattle.joint_run.specs.declared.exchange.Exchange.{Exchange}
-use Rattle.joint_run.specs.Exchanges.{protocol_of}
-use Rattle.joint_run.specs.Steps.{second_value}
-use Rattle.joint_run.proofs.Blockwise.{blockable-of}
+use Rattle.gate_exchanges.specs.LocalGates.{local_share, IsLocal}
+use Rattle.gate_exchanges.specs.declared.exchange.Exchange.{Exchange}
+use Rattle.gate_exchanges.specs.Exchanges.{protocol_of}
+use Rattle.gate_exchanges.specs.Exchanged.{second_value}
+use Rattle.gate_exchanges.proofs.Blockables.{blockable-of}
 use Rattle.block_steps.specs.declared.links.Links.{Links}
 use Rattle.block_steps.specs.declared.progress.Progress.{Progress}
 use Rattle.block_steps.specs.declared.progress.Progress.TheVariants.{Stands, Goes, Made}

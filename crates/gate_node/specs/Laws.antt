@@ -6,7 +6,7 @@ use Rattle.protocol_model.specs.Gates.{sizes_of, needed, gates_strand}
 use Rattle.protocol_model.specs.Gates as model
 use Rattle.gates.specs.declared.gate.Gate.{Gate}
 use Rattle.gates.specs.Clear.{Values}
-use Rattle.joint_run.specs.Model.{SizesSuit, AllSizesSuit, run_gates}
+use Rattle.gate_exchanges.specs.Model.{SizesSuit, AllSizesSuit, run_gates}
 use Rattle.gate_node.specs.Suiting.{suits}
 use Rattle.gate_node.specs.OwnGates.{Whole, own_gates, then_gates}
 

@@ -13,9 +13,9 @@ use Rattle.gates.specs.declared.gate.Gate.{Gate}
 use Rattle.gates.specs.Clear.{Values, value}
 use Rattle.gates.specs.Counts.{made_by_all}
 use Rattle.blocked_protocol.specs.Blocked.{joined, blocks_strand}
-use Rattle.joint_run.specs.LocalGates.{IsLocal}
-use Rattle.joint_run.specs.Exchanges.{protocol_of}
-use Rattle.joint_run.specs.Steps.{IsExchanged, second_value}
+use Rattle.gate_exchanges.specs.LocalGates.{IsLocal}
+use Rattle.gate_exchanges.specs.Exchanges.{protocol_of}
+use Rattle.gate_exchanges.specs.Exchanged.{IsExchanged, second_value}
 use Rattle.block_steps.specs.Outcomes.{Outcome, outcome_of, waiting, Holds, StandsAt, AwaitsOn}
 use Rattle.block_steps.specs.Pendings.{pending_left}
 use Rattle.block_steps.specs.declared.links.Links.{Links}

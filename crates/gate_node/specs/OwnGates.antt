@@ -6,7 +6,7 @@ use Rattle.protocol_model.specs.Gates.{sizes_of, needed, gates_strand}
 use Rattle.protocol_model.specs.Gates as model
 use Rattle.gates.specs.declared.gate.Gate.{Gate}
 use Rattle.gates.specs.Clear.{Values}
-use Rattle.joint_run.specs.Model.{run_gate}
+use Rattle.gate_exchanges.specs.Model.{run_gate}
 use Rattle.gate_node.specs.Suiting.{suits}
 
 -- all gates are through, with these values and this tape left; or a gate doesn't suit, or the tape is too short for it

@@ -5,7 +5,7 @@ use Rattle.protocol_model.specs.Gates.{sizes_of}
 use Rattle.gates.specs.declared.gate.Gate.{Gate}
 use Rattle.gates.specs.declared.gate.Gate.TheVariants.{Put}
 use Rattle.gates.specs.Clear.{Values}
-use Rattle.joint_run.specs.LocalGates.{local_share, IsLocal}
+use Rattle.gate_exchanges.specs.LocalGates.{local_share, IsLocal}
 use Rattle.gate_node.specs.Suiting.{suits}
 
 module _ (dealt : Values) where

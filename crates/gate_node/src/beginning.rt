@@ -2,8 +2,8 @@
 ghost use Rattle.std.specs.Prelude.{◌≡◌, length};
 ghost use Rattle.gate_node.specs.Nodes.{BeginsAs};
 
+use gate_exchanges::{Exchanged, as_exchanged, suits};
 use gates::{Gate, Values};
-use joint_run::{Exchanged, as_exchanged, suits};
 use proto_core::Number;
 
 /// How a gate begins.

@@ -1,11 +1,11 @@
 // The shares that a gate makes, block after block.
 ghost use Rattle.std.specs.Prelude.{◌≡◌, ◌++◌, OnOk};
 ghost use Rattle.blocked_protocol.specs.Blocked.{joined, no_elements};
-ghost use Rattle.joint_run.specs.Exchanges.{protocol_of};
+ghost use Rattle.gate_exchanges.specs.Exchanges.{protocol_of};
 ghost use Rattle.gate_node.specs.Shares.{shares_of};
 
+use gate_exchanges::Exchange;
 use gates::{Values, Words};
-use joint_run::Exchange;
 use std::alloc::{AllocError, Global};
 use std::marker::Model;
 

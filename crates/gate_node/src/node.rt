@@ -1,4 +1,4 @@
-ghost use Rattle.std.specs.Prelude.{◌≡◌, ◌≤◌, ◌↔◌, ℕ, IsTrue, true, false, List, [], length, IfOk, OnOk, OnErr};
+ghost use Rattle.std.specs.Prelude.{◌≡◌, ◌≤◌, ◌↔◌, ℕ, IsTrue, true, false, List, [], length, drop, IfOk, OnOk, OnErr};
 ghost use Rattle.std.specs.Ordering.{nat_cmp};
 ghost use Rattle.std.specs.BTreeSet.{contains};
 ghost use Rattle.gates.specs.Clear.{value};
@@ -200,6 +200,22 @@ impl<P: Party> GateNode<P> {
         ensures { self.new ≡ with_links self.old (record self.old.links { to_previous = [] }) }
     {
         self.engine.links.let_go_sent_to_previous();
+    }
+
+    /// Lets go the first messages that went to the next miner, so many of them; with no memory left all is as before.
+    pub fn let_go_first_to_next(&mut self, count: usize) -> Result<(), AllocError>
+        ensures ok { OnOk result (self.new ≡ with_links self.old (record self.old.links { to_next = drop count self.old.links.to_next })) }
+        ensures err { OnErr result (self.new ≡ self.old) }
+    {
+        self.engine.links.let_go_first_to_next(count)
+    }
+
+    /// Lets go the first messages that went to the previous miner, so many of them; with no memory left all is as before.
+    pub fn let_go_first_to_previous(&mut self, count: usize) -> Result<(), AllocError>
+        ensures ok { OnOk result (self.new ≡ with_links self.old (record self.old.links { to_previous = drop count self.old.links.to_previous })) }
+        ensures err { OnErr result (self.new ≡ self.old) }
+    {
+        self.engine.links.let_go_first_to_previous(count)
     }
 
     /// Lets go the words of its tape that were supplied, once all were drawn.

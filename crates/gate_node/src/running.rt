@@ -4,7 +4,7 @@ ghost use Rattle.blocked_protocol.specs.Blocked.{joined};
 ghost use Rattle.gate_node.specs.Shares.{shares_of};
 
 use crate::made::Made;
-use joint_run::Exchanged;
+use gate_exchanges::Exchanged;
 use std::alloc::AllocError;
 
 /// A gate at work: how many of its elements have begun, and the shares that its blocks have made.

@@ -5,7 +5,7 @@ use Rattle.std.specs.Int.{bit_at}
 use Rattle.std.proofs.lemmas.Nat.{pow_pos, pow-add, mod_below, mod-pow-add, div-add-mod', div_below, shr-shr, shr_high}
 use Rattle.std.proofs.lemmas.Nat.Bits.{same_from_bits_below, bit_at_and, bit_at_xor, bit_at-lt, bit_at_cat_low, bit_at_cat_high}
 use Rattle.std.proofs.lemmas.Bool.{cases_lt}
-use Rattle.share_ring.specs.Rings.{add_ring, xor_ring}
+use Rattle.proto_core.specs.Rings.{add_ring, xor_ring}
 
 -- ---- one bit
 

@@ -5,12 +5,12 @@ use Rattle.std.specs.Prelude.{slice_get}
 use Rattle.std.proofs.lemmas.List.{get_or_append_left, get_or_past, length-replicate, get_or-replicate, append-nil}
 use Rattle.std.proofs.lemmas.Bool.{cases_lt}
 use Rattle.std.proofs.lemmas.Nat.{mod_below, pow_pos}
-use Rattle.share_ring.specs.Rings.{add_ring}
+use Rattle.proto_core.specs.Rings.{add_ring}
 use Rattle.gates.specs.declared.gate.Gate.{Gate}
 use Rattle.gates.specs.declared.gate.Gate.TheVariants.{Input, Const, Add, Sub, MulPub, Mul, Xor, And, Not, Shl, Shr, Low, Cat, Part, Put, Rep, Spread}
 use Rattle.gates.specs.declared.gate.Gate.TheVariants.{Sum, Split, Conv, Open, Result}
 use Rattle.gates.specs.Counts.{made_by, made_by_all}
-use Rattle.share_ring.specs.Words.{AreWords}
+use Rattle.proto_core.specs.Words.{AreWords}
 use Rattle.gates.specs.Clear.{Values, value, clear_value, each_two, IsSplit, AreOperands, Suits, Makes, FitFrom, Fit}
 use Rattle.gates.specs.Evaluated.{unmasked, masks_for, made, evaluated, SplitsWords, AllSuit}
 use Rattle.gates.proofs.Columns.{word, Column, stands, Column-of, Column-ext, Column-each_two, same_columns}

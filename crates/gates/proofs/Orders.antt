@@ -6,7 +6,7 @@ use Rattle.std.proofs.lemmas.Nat.{pow_pos, mod_below}
 use Rattle.std.proofs.lemmas.Nat.Bits.{same_from_bits_below, bit_at_not, bit_at_lowest, bit_at-lt}
 use Rattle.std.proofs.lemmas.Bool.{cases_lt}
 use Rattle.std.proofs.lemmas.Bool.Decides.{nat_tests}
-use Rattle.share_ring.specs.Rings.{add_ring, xor_ring}
+use Rattle.proto_core.specs.Rings.{add_ring, xor_ring}
 use Rattle.gates.specs.WordTests.{zero_test, less_test}
 use Rattle.gates.proofs.Carries.{carried, carry, carry-zero, carry_out, carry_more, bit_at-xored, bit_at-anded, bit_at-shifted_down, SpansDown, down_end}
 

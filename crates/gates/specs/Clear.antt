@@ -5,9 +5,9 @@ use Rattle.std.specs.Prelude.{◌≡◌, ℕ, ◌+◌, ◌*◌, ◌/◌, ◌^◌
 use Rattle.std.specs.Prelude.{sum, replicate, slice_get, get_or}
 use Rattle.std.specs.List.{zip, flat_map, range_with_len}
 use Rattle.std.specs.Int.{w64, bit_at, bit_not}
-use Rattle.share_ring.specs.Ring.{Ring}
-use Rattle.share_ring.specs.Rings.{add_ring, xor_ring}
-use Rattle.share_ring.specs.Words.{AreWords}
+use Rattle.proto_core.specs.Ring.{Ring}
+use Rattle.proto_core.specs.Rings.{add_ring, xor_ring}
+use Rattle.proto_core.specs.Words.{AreWords}
 use Rattle.gates.specs.declared.ring_kind.RingKind.{RingKind}
 use Rattle.gates.specs.declared.ring_kind.RingKind.TheVariants.{Arithmetic, Boolean}
 use Rattle.gates.specs.declared.gate.Gate.{Gate}

@@ -1,7 +1,7 @@
 -- Evaluation: the values of a list of gates, made one after another.
 use Rattle.std.specs.Prelude.{ℕ, List, [], ◌∷◌, ◌++◌, Bool, true, false, length, replicate}
-use Rattle.share_ring.specs.Rings.{add_ring}
-use Rattle.share_ring.specs.Words.{AreWords}
+use Rattle.proto_core.specs.Rings.{add_ring}
+use Rattle.proto_core.specs.Words.{AreWords}
 use Rattle.gates.specs.declared.gate.Gate.{Gate}
 use Rattle.gates.specs.declared.gate.Gate.TheVariants.{Split}
 use Rattle.gates.specs.Clear.{Values, value, clear_value, each_two, Suits}

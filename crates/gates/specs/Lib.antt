@@ -7,4 +7,4 @@ pub mod Held
 pub mod Taken
 pub mod inner
 pub mod Vectors
-pub use Rattle.share_ring.specs.Rings
+pub use Rattle.proto_core.specs.Rings

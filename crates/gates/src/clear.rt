@@ -11,7 +11,7 @@ use crate::gate::Gate;
 use crate::ring_kind::RingKind;
 use crate::values::Values;
 use crate::words::Words;
-use share_ring::{AddRing, XorRing};
+use proto_core::{AddRing, XorRing};
 use std::alloc::{AllocError, Global};
 
 impl Gate {

@@ -7,9 +7,9 @@ use Rattle.command_frame.specs.declared.status.Status.TheVariants.{Input}
 use Rattle.command_words.specs.Ask.{GatherAsk}
 use Rattle.input_share.specs.ShareFile.{MinerFile}
 use Rattle.proto_core.specs.declared.party.Number.{Number}
-use Rattle.gathered_shares.specs.Gathering.{gathered, Gathers}
-use Rattle.gathered_shares.specs.declared.gathering.GatherErr.{GatherErr}
-use Rattle.gathered_shares.specs.declared.gathering.GatherErr.TheVariants as refusal
+use Rattle.gather_command.specs.Gathering.{gathered, Gathers}
+use Rattle.gather_command.specs.declared.gathering.GatherErr.{GatherErr}
+use Rattle.gather_command.specs.declared.gathering.GatherErr.TheVariants as refusal
 use Rattle.program_commands.specs.Reading.{share_at}
 use Rattle.program_commands.proofs.Exits.{unnamed_memory, unnamed_refusal}
 use Rattle.program_commands.proofs.Judged.{refused_so}

@@ -12,10 +12,10 @@ use Rattle.input_share.specs.ShareFile.{MinerFile}
 use Rattle.proto_core.specs.Parties.{count_of as number_of}
 use Rattle.proto_core.specs.declared.party.Number.{Number}
 use Rattle.value_file.specs.declared.read_err.ReadErr.{ReadErr}
-use Rattle.gathered_shares.specs.Gathering.{gathered}
-use Rattle.gathered_shares.specs.Owners.{Lengths, Owner, dealt_by, dealt_by_all, dealt_by_one}
-use Rattle.gathered_shares.specs.declared.gathering.GatherErr.{GatherErr}
-use Rattle.gathered_shares.proofs.OneDealing.{gathered_is_dealt}
+use Rattle.gather_command.specs.Gathering.{gathered}
+use Rattle.gather_command.specs.Owners.{Lengths, Owner, dealt_by, dealt_by_all, dealt_by_one}
+use Rattle.gather_command.specs.declared.gathering.GatherErr.{GatherErr}
+use Rattle.gather_command.proofs.OneDealing.{gathered_is_dealt}
 use Rattle.program_commands.specs.Reading.{bad_input, read_or, share_at}
 use Rattle.program_commands.proofs.Held.{read_there}
 use Rattle.program_commands.proofs.Refusals.{ReadRefused, input_status, not_done, not_missing, refusing, share_refused, status_in_answer, status_of_cause}

@@ -11,9 +11,9 @@ use Rattle.command_words.specs.Ask.{GatherAsk}
 use Rattle.input_share.specs.ShareFile.{MinerFile}
 use Rattle.input_share.specs.Written.{file_bytes}
 use Rattle.proto_core.specs.declared.party.Number.{Number}
-use Rattle.gathered_shares.specs.Gathering.{gathered}
-use Rattle.gathered_shares.specs.declared.gathering.GatherErr.{GatherErr}
-use Rattle.gathered_shares.specs.declared.gathering.GatherErr.TheVariants as refusal
+use Rattle.gather_command.specs.Gathering.{gathered}
+use Rattle.gather_command.specs.declared.gathering.GatherErr.{GatherErr}
+use Rattle.gather_command.specs.declared.gathering.GatherErr.TheVariants as refusal
 use Rattle.program_commands.specs.Reading.{read_or, share_at}
 
 -- ---- files that don't go together

@@ -10,9 +10,9 @@ use Rattle.input_share.specs.ShareFile.{MinerFile}
 use Rattle.proto_core.specs.Parties.{count_of as number_of}
 use Rattle.value_file.specs.declared.read_err.ReadErr.{ReadErr}
 use Rattle.value_file.specs.Input.{AreInputs}
-use Rattle.gathered_shares.specs.Gathering.{gathered}
-use Rattle.gathered_shares.specs.Owners.{all_inputs, dealt_by, dealt_by_all, dealt_by_one, one_tape, CanDeal, Lengths, Owner}
-use Rattle.gathered_shares.specs.declared.gathering.GatherErr.{GatherErr}
+use Rattle.gather_command.specs.Gathering.{gathered}
+use Rattle.gather_command.specs.Owners.{all_inputs, dealt_by, dealt_by_all, dealt_by_one, one_tape, CanDeal, Lengths, Owner}
+use Rattle.gather_command.specs.declared.gathering.GatherErr.{GatherErr}
 use Rattle.program_commands.specs.Reading.{share_at}
 use Rattle.gather_command.specs.Gather.{gather_effect, shares_at}
 

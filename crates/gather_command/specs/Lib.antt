@@ -1,2 +1,5 @@
 pub mod Gather
 pub mod Held
+pub mod Gathering
+pub mod Owners
+pub mod GatheringVectors

@@ -6,9 +6,9 @@ ghost use Rattle.command_words.specs.Views.{gather_ask};
 ghost use Rattle.gather_command.specs.Gather.{gather_effect, gather_of, gather_paths, gathered_paths, lens_line, name_line, IsGatherStop};
 
 use crate::shares::read_shares;
+use crate::{GatherErr, gather};
 use command_frame::{Content, Plan, PlannedWrite, Status, Stop, refused};
 use command_words::GatherWords;
-use gathered_shares::{GatherErr, gather};
 use input_share::{ShareFile, write_share};
 use outside::Files;
 use program_commands::read_share_file;

@@ -10,18 +10,18 @@ use Rattle.proto_core.specs.declared.link.Link.{Link}
 use Rattle.proto_core.specs.Parties.{count_of, is_forward, receiver_of, sender_of}
 use Rattle.proto_core.specs.Strand.{Begins, Notice}
 use Rattle.bytecode.specs.Raw.{RawCode}
-use Rattle.typed_tree.specs.Programs.{TypedProgramTree}
+use Rattle.program_trees.specs.TypedPrograms.{TypedProgramTree}
 use Rattle.value_file.specs.declared.inputs.Entry.{Entry}
 use Rattle.tape_file.specs.Tapes.{FourTapes}
 use Rattle.language_model.specs.Reports.{Report}
 use Rattle.program_run.specs.Reports.{eval_with}
 use Rattle.miner_text.specs.Lines.{text_of}
-use Rattle.served_miners.specs.Told.{lines_told}
+use Rattle.honest_miners.specs.Told.{lines_told}
 use Rattle.miner_node.specs.Serving.{Outcome, Serving}
-use Rattle.served_miners.specs.Nodes.{Outgoing, Own, end_in, own_bytes, own_serving}
-use Rattle.served_miners.specs.Served.{AgreeWithTheRun, AreServed, HasEndedSo, WaitsOrHasEnded, has_ended, part_of, run_bytes, served, waits}
-use Rattle.served_miners.specs.Served as nodes
-use Rattle.served_miners.proofs.Served.{served_agree, three_served_miners}
+use Rattle.honest_miners.specs.Nodes.{Outgoing, Own, end_in, own_bytes, own_serving}
+use Rattle.honest_miners.specs.Served.{AgreeWithTheRun, AreServed, HasEndedSo, WaitsOrHasEnded, has_ended, part_of, run_bytes, served, waits}
+use Rattle.honest_miners.specs.Served as nodes
+use Rattle.honest_miners.proofs.ServedRuns.{served_agree, three_served_miners}
 use Rattle.miner_command.specs.Files.{Given, given_at}
 use Rattle.miner_command.specs.Miner.{answer_at, ended_answer, miner_of, node_answer, own_of, sent_of, text_effect}
 use Rattle.honest_miners.specs.Three.{AnswerTheRun, AreCalled, ThreeMinersAnswer, sent_on}

@@ -7,18 +7,18 @@ use Rattle.command_words.specs.Ask.{MinerAsk}
 use Rattle.sc_text.specs.declared.end.End.{End}
 use Rattle.proto_core.specs.Strand.{Notice}
 use Rattle.bytecode.specs.Raw.{RawCode}
-use Rattle.typed_tree.specs.Programs.{TypedProgramTree}
+use Rattle.program_trees.specs.TypedPrograms.{TypedProgramTree}
 use Rattle.value_file.specs.declared.inputs.Entry.{Entry}
 use Rattle.tape_file.specs.Tapes.{FourTapes}
 use Rattle.program_run.specs.Reports.{eval_with}
 use Rattle.program_commands.proofs.Refusals.{steps}
 use Rattle.miner_text.specs.Lines.{text_of}
-use Rattle.served_miners.specs.Told.{lines_told}
+use Rattle.honest_miners.specs.Told.{lines_told}
 use Rattle.miner_node.specs.Laws.{AreHonest}
 use Rattle.miner_node.specs.Serving.{Outcome, Serving}
-use Rattle.served_miners.specs.Nodes.{own_hello, own_serving}
-use Rattle.served_miners.specs.Honest.{EndsAsEvaluated, run_messages}
-use Rattle.served_miners.proofs.Served.{digest_size, three_served_miners}
+use Rattle.honest_miners.specs.Nodes.{own_hello, own_serving}
+use Rattle.honest_miners.specs.Honest.{EndsAsEvaluated, run_messages}
+use Rattle.honest_miners.proofs.ServedRuns.{digest_size, three_served_miners}
 use Rattle.miner_command.specs.Files.{Given, GivenCode, code_at, code_of, given_at}
 use Rattle.miner_command.specs.Held.{HoldsMiner}
 use Rattle.miner_command.specs.Miner.{answer_at, ended_answer, miner_of, node_answer, own_of, text_effect}

@@ -1,5 +1,10 @@
 pub mod Miners
 pub mod Three
-pub use Rattle.served_miners.specs.Laws
-pub use Rattle.served_miners.specs.Nodes
 pub use Rattle.miner_node.specs.Serving
+pub mod Honest
+pub mod JoinedFrames
+pub mod Texts
+pub mod Served
+pub mod Laws
+pub use Rattle.node_run.specs.Nodes
+pub use Rattle.node_run.specs.Told

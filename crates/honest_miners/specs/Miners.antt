@@ -5,7 +5,7 @@ use Rattle.command_words.specs.Ask.{MinerAsk}
 use Rattle.sc_text.specs.declared.end.End.{End}
 use Rattle.proto_core.specs.declared.party.Number.{Number}
 use Rattle.proto_core.specs.Strand.{Notice}
-use Rattle.typed_tree.specs.Programs.{TypedProgramTree}
+use Rattle.program_trees.specs.TypedPrograms.{TypedProgramTree}
 use Rattle.value_file.specs.declared.inputs.Entry.{Entry}
 use Rattle.tape_file.specs.Tapes.{FourTapes, lengths_of}
 use Rattle.input_share.specs.Dealing.{dealt}
@@ -18,10 +18,10 @@ use Rattle.program_run.specs.Dealt.{CanBeDealt}
 use Rattle.program_run.specs.Reports.{eval_with}
 use Rattle.code_runs.specs.Telling.{Tells}
 use Rattle.miner_text.specs.Lines.{text_of}
-use Rattle.served_miners.specs.Told.{lines_told}
+use Rattle.honest_miners.specs.Told.{lines_told}
 use Rattle.miner_node.specs.Laws.{AreHonest}
-use Rattle.served_miners.specs.Nodes.{own_hello}
-use Rattle.served_miners.specs.Honest.{run_messages}
+use Rattle.honest_miners.specs.Nodes.{own_hello}
+use Rattle.honest_miners.specs.Honest.{run_messages}
 use Rattle.miner_command.specs.Files.{Given}
 use Rattle.miner_command.specs.Held.{HoldsMiner}
 use Rattle.miner_command.specs.Miner.{miner_of, own_of, text_effect}

@@ -12,7 +12,7 @@ use Rattle.proto_core.specs.declared.link.Link.{Link}
 use Rattle.proto_core.specs.Parties.{count_of, is_forward, receiver_of, sender_of}
 use Rattle.proto_core.specs.Strand.{Begins, Notice}
 use Rattle.bytecode.specs.Raw.{RawCode}
-use Rattle.typed_tree.specs.Programs.{TypedProgramTree}
+use Rattle.program_trees.specs.TypedPrograms.{TypedProgramTree}
 use Rattle.value_file.specs.declared.inputs.Entry.{Entry}
 use Rattle.tape_file.specs.Tapes.{FourTapes}
 use Rattle.language_model.specs.Effects as effects
@@ -24,10 +24,10 @@ use Rattle.program_run.specs.Reports.{eval_with}
 use Rattle.code_runs.specs.Telling.{Tells}
 use Rattle.miner_text.specs.Lines.{text_of}
 use Rattle.miner_text.specs.Texts.{IsText}
-use Rattle.served_miners.specs.Told.{lines_told}
+use Rattle.honest_miners.specs.Told.{lines_told}
 use Rattle.trio.specs.Answers.{join_of}
-use Rattle.served_miners.specs.Nodes.{Outgoing}
-use Rattle.served_miners.specs.Served.{part_of, run_bytes}
+use Rattle.honest_miners.specs.Nodes.{Outgoing}
+use Rattle.honest_miners.specs.Served.{part_of, run_bytes}
 use Rattle.miner_command.specs.Files.{Given}
 use Rattle.miner_command.specs.Held.{HoldsMiner}
 use Rattle.miner_command.specs.Miner.{miner_of, own_of, sent_of, text_effect}

@@ -2,7 +2,7 @@
 ghost use Rattle.std.specs.Prelude.{ℕ, List};
 ghost use Rattle.outside.specs.Files.{Contents};
 ghost use Rattle.command_words.specs.Ask.{MinerAsk};
-ghost use Rattle.typed_tree.specs.Programs.{TypedProgramTree};
+ghost use Rattle.program_trees.specs.TypedPrograms.{TypedProgramTree};
 ghost use Rattle.value_file.specs.declared.inputs.Entry.{Entry};
 ghost use Rattle.tape_file.specs.Tapes.{FourTapes};
 ghost use Rattle.miner_command.specs.Files.{Given};

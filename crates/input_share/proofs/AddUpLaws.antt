@@ -2,9 +2,9 @@
 use Rattle.std.proofs.Common.{◌≡◌, ℕ, suc, ◌+◌, ◌-◌, ◌*◌, ◌<◌, ◌≤◌, ◌^◌, List, [], ◌∷◌, All, length, map, drop, ap, ◌∙◌, refl, arith}
 use Rattle.std.proofs.lemmas.List.{length-take-le, length-drop}
 use Rattle.std.proofs.lemmas.List.Sums.{sum_by-cons}
-use Rattle.share_ring.specs.Ring.{Ring, RingLaws}
-use Rattle.share_ring.specs.RingsKeepLaws.{add_ring_laws, xor_ring_laws}
-use Rattle.share_ring.proofs.Sums.{add-left_comm, zero-zero}
+use Rattle.proto_core.specs.Ring.{Ring, RingLaws}
+use Rattle.proto_core.specs.RingsKeepLaws.{add_ring_laws, xor_ring_laws}
+use Rattle.proto_core.proofs.Sums.{add-left_comm, zero-zero}
 use Rattle.proto_core.specs.declared.party.Number.TheVariants.{One, Two, Three}
 use Rattle.value_file.specs.declared.value.DataType.{DataType}
 use Rattle.value_file.specs.declared.value.DataType.TheVariants as data_type

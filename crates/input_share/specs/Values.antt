@@ -1,7 +1,7 @@
 -- The values of inputs, as words in a ring.
 use Rattle.std.specs.Prelude.{ℕ, List, [], ◌∷◌, map, Bool, true, false}
-use Rattle.share_ring.specs.Ring.{Ring}
-use Rattle.share_ring.specs.Rings.{add_ring, xor_ring}
+use Rattle.proto_core.specs.Ring.{Ring}
+use Rattle.proto_core.specs.Rings.{add_ring, xor_ring}
 use Rattle.value_file.specs.declared.value.DataType.{DataType}
 use Rattle.value_file.specs.declared.value.DataType.TheVariants as data_type
 use Rattle.value_file.specs.declared.value.Value.{Value}

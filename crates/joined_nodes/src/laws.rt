@@ -7,7 +7,7 @@ ghost use Rattle.bytecode.specs.Raw.{RawCode};
 ghost use Rattle.tape_file.specs.Tapes.{FourTapes};
 ghost use Rattle.value_file.specs.declared.inputs.Entry.{Entry};
 ghost use Rattle.language_model.specs.Reports.{Offered};
-ghost use Rattle.typed_tree.specs.Programs.{TypedProgramTree};
+ghost use Rattle.program_trees.specs.TypedPrograms.{TypedProgramTree};
 ghost use Rattle.verified_code.specs.Steps.{Function};
 ghost use Rattle.code_places.specs.Dealt.{Dealt};
 ghost use Rattle.miner_core.specs.Story.{Story};

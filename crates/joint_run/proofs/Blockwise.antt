@@ -13,12 +13,13 @@ use Rattle.shared_gates.specs.Blocked.{joined, no_elements, front, behind, block
 use Rattle.shared_gates.proofs.Blockables.{mul-blockable, open-blockable, reshare-blockable, conv-blockable, split-blockable}
 use Rattle.shared_gates.proofs.Fitting.{front-length, behind-length, itself}
 use Rattle.shared_gates.proofs.Sizes.{block_sizes-full, block_sizes-last}
-use Rattle.joint_run.specs.declared.exchange.Exchange.{Exchange}
-use Rattle.joint_run.specs.declared.exchange.Exchange.TheVariants.{Product, Splitting, Conversion, Opening, Resharing}
+use Rattle.gate_exchanges.specs.declared.exchange.Exchange.{Exchange}
+use Rattle.gate_exchanges.specs.declared.exchange.Exchange.TheVariants.{Product, Splitting, Conversion, Opening, Resharing}
+use Rattle.gate_exchanges.proofs.Blockables.{first-block, joined-assoc}
 use Rattle.joint_run.specs.declared.transcript.Transcript.{Transcript}
 use Rattle.joint_run.specs.declared.outputs.Outputs.{Outputs}
 use Rattle.joint_run.specs.Three.{carried, share_of}
-use Rattle.joint_run.specs.Exchanges.{protocol_of, makes_two, IsSizedAt, IsSized, HasEnoughAt, HasEnough, IsFront, IsBehind}
+use Rattle.gate_exchanges.specs.Exchanges.{protocol_of, makes_two, IsSizedAt, IsSized, HasEnoughAt, HasEnough, IsFront, IsBehind}
 use Rattle.joint_run.specs.Adding.{words_of, AddsBlock, AddsGate}
 
 pub same_joint : (j k : Joint) → ((i : Number) → j.u i ≡ k.u i) → ((i : Number) → j.v i ≡ k.v i) → ((i : Number) → j.words i ≡ k.words i) → j ≡ k
@@ -38,13 +39,6 @@ for_links P a b c d e f Link31 = e
 for_links P a b c d e f Link32 = f
 
 -- ---- sizes
-
-pub blockable-of : (e : Exchange) → Blockable (protocol_of e)
-blockable-of (Product ring) = mul-blockable (ring_of ring)
-blockable-of (Splitting negated) = split-blockable negated
-blockable-of Conversion = conv-blockable
-blockable-of (Opening ring) = open-blockable (ring_of ring)
-blockable-of (Resharing ring) = reshare-blockable (ring_of ring)
 
 module _ (p : Protocol) (blockable : Blockable p) (m n : ℕ) (j : Joint) where
   front-at : (i : Number) → IsSizedAt p (m + n) i j → IsSizedAt p m i (front p m j)
@@ -93,20 +87,6 @@ pub block-sized : (p : Protocol) → Blockable p → (m n : ℕ) (rest some : Jo
 block-sized p blockable m n rest some sized h =
     subst (λ k. IsSized p m k) (sym (front-is p m rest some h)) (sized-front p blockable m n rest sized)
 
--- the first block, and those after it
-pub first-block : (n : ℕ) → 0 < n → block_sizes n ≡ min n 512 ∷ block_sizes (n - min n 512)
-first-block n some =
-    elim (cases_lt n 512) as (λ c. block_sizes n ≡ min n 512 ∷ block_sizes (n - min n 512)) [
-      | inl few ↦
-          let m : min n 512 ≡ n = omega arith in
-          let rest : n - min n 512 ≡ 0 = omega arith in
-          block_sizes-last n some few ∙ ap (λ k. k ∷ []) (sym m) ∙ ap (λ k. min n 512 ∷ block_sizes k) (sym rest)
-      | inr many ↦
-          let m : min n 512 ≡ 512 = omega arith in
-          let whole : n ≡ 512 + (n - min n 512) = omega arith in
-          ap block_sizes whole ∙ block_sizes-full (n - min n 512) ∙ ap (λ k. k ∷ block_sizes (n - min n 512)) (sym m)
-    ]
-
 -- ---- how many values
 
 abbrev pub IsCount : Bool → List (List ℕ) → Type 0
@@ -143,13 +123,6 @@ words-joined false made i = ap (λ x. x ∷ []) (append-none (share_of made.firs
 words-joined true made i =
     ap (λ x. x ∷ (share_of made.second i ++ []) ∷ []) (append-none (share_of made.first i))
     ∙ ap (λ y. share_of made.first i ∷ y ∷ []) (append-none (share_of made.second i))
-
-pub joined-assoc : (xs ys zs : List (List ℕ)) → joined (joined xs ys) zs ≡ joined xs (joined ys zs)
-joined-assoc [] ys zs = refl
-joined-assoc (x ∷ xs) [] zs = refl
-joined-assoc (x ∷ xs) (y ∷ ys) [] = refl
-joined-assoc (x ∷ xs) (y ∷ ys) (z ∷ zs) =
-    ap (λ v. v ∷ joined (joined xs ys) zs) (append_assoc x y z) ∙ ap (λ v. (x ++ (y ++ z)) ∷ v) (joined-assoc xs ys zs)
 
 -- what is done of a gate, and what is left
 pub record Left (two : Bool) (p : Protocol) (n : ℕ) (j : Joint) (before now : Transcript) (made : Outputs) (left : ℕ) (rest : Joint) : Type 0 where

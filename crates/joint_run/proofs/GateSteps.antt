@@ -19,12 +19,14 @@ use Rattle.gates.specs.Counts.{size_of}
 use Rattle.shared_gates.specs.LocalGates.{local_share, IsLocal}
 use Rattle.shared_gates.specs.Model.{size_made, sizes_made, SizesSuit, run_gate}
 use Rattle.shared_gates.proofs.Models.{size-value, nth_value-value, local-size}
-use Rattle.joint_run.specs.declared.exchange.Exchange.{Exchange}
-use Rattle.joint_run.specs.declared.exchange.Exchange.TheVariants.{Product, Splitting, Conversion, Opening, Resharing}
-use Rattle.joint_run.specs.declared.exchanged.Exchanged.{Exchanged}
-use Rattle.joint_run.specs.Exchanges.{protocol_of, IsSizedAt, IsSized}
+use Rattle.gate_exchanges.specs.declared.exchange.Exchange.{Exchange}
+use Rattle.gate_exchanges.specs.declared.exchange.Exchange.TheVariants.{Product, Splitting, Conversion, Opening, Resharing}
+use Rattle.gate_exchanges.specs.declared.exchanged.Exchanged.{Exchanged}
+use Rattle.gate_exchanges.specs.Exchanges.{protocol_of, IsSizedAt, IsSized}
+use Rattle.gate_exchanges.proofs.OneGate.{local-gate, exchanged-gate, local-draws}
 use Rattle.joint_run.specs.RunState.{RunState, behind}
-use Rattle.joint_run.specs.Steps.{IsExchanged, second_value, protocol_in, size_in, joint_in, CanExchangeAt, CanExchange, AddsLocal, AddsExchange}
+use Rattle.joint_run.specs.Steps.{size_in, joint_in, CanExchangeAt, CanExchange, AddsLocal, AddsExchange}
+use Rattle.gate_exchanges.specs.Exchanged.{IsExchanged, second_value, protocol_in}
 use Rattle.joint_run.specs.JointRuns.{dealt_sizes, IsEven}
 use Rattle.joint_run.specs.declared.joint_err.JointErr.{JointErr}
 use Rattle.joint_run.specs.GateByGate.{HaveSizes, own_sizes, draws_for, left_of, AllReach, RunsGate, Lacks, Ends}
@@ -98,32 +100,11 @@ module _ (s : RunState) (same : HaveSizes (own_sizes s) s) where
 -- ---- what a gate is in a run
 
 module _ (dealt : Number → Values) (ds sizes : List ℕ) where
-  pub local-gate : (gate : Gate) → IsLocal gate → run_gate dealt ds sizes gate ≡ Local (size_made ds sizes gate) (λ i own. local_share i (dealt i) own gate)
-  local-gate (Mul u v) local = absurd local
-  local-gate (And u v) local = absurd local
-  local-gate (Split u negated) local = absurd local
-  local-gate (Conv u) local = absurd local
-  local-gate (Open ring u) local = absurd local
-  local-gate (Result ring u) local = absurd local
-  local-gate _ local = refl
-
-  abbrev joined_gate : Exchanged → model.Gate
-  joined_gate x = Joined (protocol_in x) (size_of sizes x.u) x.u x.v
-
-  pub exchanged-gate : (gate : Gate) (x : Exchanged) → IsExchanged gate x → run_gate dealt ds sizes gate ≡ joined_gate x
-  exchanged-gate (Mul u v) x is = ap joined_gate (sym is)
-  exchanged-gate (And u v) x is = ap joined_gate (sym is)
-  exchanged-gate (Split u negated) x is = ap joined_gate (sym is)
-  exchanged-gate (Conv u) x is = ap joined_gate (sym is)
-  exchanged-gate (Open ring u) x is = ap joined_gate (sym is)
-  exchanged-gate (Result ring u) x is = ap joined_gate (sym is)
-  exchanged-gate _ x is = absurd is
-
   -- ---- the state after it
 
   pub local-behind : (gate : Gate) (s t : RunState) → IsLocal gate → AddsLocal dealt gate s t → t ≡ behind (run_gate dealt ds sizes gate ∷ []) s
   local-behind gate s t local adds =
-      subst (λ g. t ≡ behind (g ∷ []) s) (sym (local-gate gate local))
+      subst (λ g. t ≡ behind (g ∷ []) s) (sym (local-gate dealt ds sizes gate local))
       (same_state _ _ adds.shares adds.tapes
       (λ l. adds.messages l ∙ sym (append-none (s.messages l)))
       (adds.opened ∙ sym (append-none s.opened)))
@@ -132,7 +113,7 @@ module _ (dealt : Number → Values) (ds sizes : List ℕ) where
       (gate : Gate) (x : Exchanged) (s t : RunState) → sizes ≡ own_sizes s → IsExchanged gate x → AddsExchange x s t →
       t ≡ behind (run_gate dealt ds sizes gate ∷ []) s
   exchange-behind gate x s t here is adds =
-      subst (λ g. t ≡ behind (g ∷ []) s) (sym (exchanged-gate gate x is))
+      subst (λ g. t ≡ behind (g ∷ []) s) (sym (exchanged-gate dealt ds sizes gate x is))
       (subst (λ n. t ≡ behind (Joined p n x.u x.v ∷ []) s) size
       (same_state _ _
       (λ i. adds.shares i ∙ ap (λ k. s.shares i ++ p.output n k i) same)
@@ -166,16 +147,13 @@ module _ (dealt : Number → Values) (ds sizes : List ℕ) where
 
   -- ---- what it draws
 
-  pub local-draws : (gate : Gate) (i : Number) → IsLocal gate → needed (run_gate dealt ds sizes gate ∷ []) i ≡ 0
-  local-draws gate i local = ap (λ g. needed (g ∷ []) i) (local-gate gate local)
-
   pub exchange-draws :
       (gate : Gate) (x : Exchanged) (s : RunState) (i : Number) → sizes ≡ own_sizes s → IsExchanged gate x →
       (protocol_of x.exchange).draws (size_in x s) i ≡ needed (run_gate dealt ds sizes gate ∷ []) i
   exchange-draws gate x s i here is =
       ap (λ n. (protocol_of x.exchange).draws n i) (size-value (s.shares One) x.u ∙ ap (λ k. size_of k x.u) (sym here))
       ∙ sym (add-zero ((protocol_of x.exchange).draws (size_of sizes x.u) i))
-      ∙ ap (λ g. needed (g ∷ []) i) (sym (exchanged-gate gate x is))
+      ∙ ap (λ g. needed (g ∷ []) i) (sym (exchanged-gate dealt ds sizes gate x is))
 
   -- ---- what it makes
 

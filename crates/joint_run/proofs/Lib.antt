@@ -1,6 +1,5 @@
 pub mod InSteps
 pub mod Blockwise
-pub mod Sizes
 pub mod GateSteps
 pub mod OutputSizes
 pub mod GateLists

@@ -1,6 +1,6 @@
 -- How many words each miner has of what a gate makes.
 use Rattle.std.proofs.Common.{◌≡◌, ℕ, Bool, List, [], ◌∷◌, length, map, sym, ◌∙◌, ap}
-use Rattle.share_ring.specs.Rings.{add_ring, xor_ring}
+use Rattle.proto_core.specs.Rings.{add_ring, xor_ring}
 use Rattle.proto_core.specs.declared.party.Number.{Number}
 use Rattle.proto_core.specs.declared.party.Number.TheVariants.{One, Two, Three}
 use Rattle.proto_core.specs.Protocol.{Joint, Protocol}
@@ -15,10 +15,10 @@ use Rattle.gates.specs.Clear.{ring_of}
 use Rattle.shared_gates.specs.Blocked.{total, front, behind, blocks_output, blocked, sums, Blockable}
 use Rattle.shared_gates.proofs.Fitting.{sizes-joined, sizes-none}
 use Rattle.shared_gates.proofs.Sizes.{block_sizes-cut}
-use Rattle.joint_run.specs.declared.exchange.Exchange.{Exchange}
-use Rattle.joint_run.specs.declared.exchange.Exchange.TheVariants.{Product, Splitting, Conversion, Opening, Resharing}
-use Rattle.joint_run.specs.Exchanges.{protocol_of}
-use Rattle.joint_run.proofs.Blockwise.{blockable-of}
+use Rattle.gate_exchanges.specs.declared.exchange.Exchange.{Exchange}
+use Rattle.gate_exchanges.specs.declared.exchange.Exchange.TheVariants.{Product, Splitting, Conversion, Opening, Resharing}
+use Rattle.gate_exchanges.specs.Exchanges.{protocol_of}
+use Rattle.gate_exchanges.proofs.Blockables.{blockable-of}
 
 length-signed : (negated : Bool) (n : ℕ) (u got : List ℕ) → length (signed_sum negated n u got) ≡ n
 unfolding signed_sum

@@ -1,6 +1,5 @@
 pub mod Parts
 pub mod Three
-pub mod Exchanges
 pub mod Adding
 pub mod RunState
 pub mod Steps
@@ -10,3 +9,4 @@ pub mod GateByGate
 pub use Rattle.shared_gates.specs.Blocked
 pub use Rattle.shared_gates.specs.LocalGates
 pub use Rattle.shared_gates.specs.Model
+pub use Rattle.gate_exchanges.specs.Exchanges

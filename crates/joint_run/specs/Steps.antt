@@ -11,32 +11,15 @@ use Rattle.gates.specs.declared.gate.Gate.TheVariants.{Mul, And, Split, Conv, Op
 use Rattle.gates.specs.Clear.{Values, value}
 use Rattle.shared_gates.specs.Blocked.{blocked}
 use Rattle.shared_gates.specs.LocalGates.{local_share}
-use Rattle.joint_run.specs.declared.exchange.Exchange.TheVariants.{Product, Splitting, Conversion, Opening, Resharing}
-use Rattle.joint_run.specs.declared.exchanged.Exchanged.{Exchanged}
-use Rattle.joint_run.specs.Exchanges.{protocol_of}
+use Rattle.gate_exchanges.specs.declared.exchange.Exchange.TheVariants.{Product, Splitting, Conversion, Opening, Resharing}
+use Rattle.gate_exchanges.specs.declared.exchanged.Exchanged.{Exchanged}
+use Rattle.gate_exchanges.specs.Exchanges.{protocol_of}
+use Rattle.gate_exchanges.specs.Exchanged.{second_value, protocol_in}
 use Rattle.joint_run.specs.RunState.{RunState}
-
--- the gates that send messages, as the exchanges that they are
-abbrev pub IsExchanged : Gate → Exchanged → Type 0
-IsExchanged (Mul u v) x = x ≡ record { exchange = Product Arithmetic; u = u; v = Some v }
-IsExchanged (And u v) x = x ≡ record { exchange = Product Boolean; u = u; v = Some v }
-IsExchanged (Split u negated) x = x ≡ record { exchange = Splitting negated; u = u; v = None }
-IsExchanged (Conv u) x = x ≡ record { exchange = Conversion; u = u; v = None }
-IsExchanged (Open ring u) x = x ≡ record { exchange = Opening ring; u = u; v = None }
-IsExchanged (Result ring u) x = x ≡ record { exchange = Resharing ring; u = u; v = None }
-IsExchanged _ x = ⊥
-
--- the words of the second operand, none where there is no such operand
-abbrev pub second_value : Values → Option ℕ → List ℕ
-second_value values None = []
-second_value values (Some v) = value values v
 
 -- the operands in the miners' shares, and drawn words
 abbrev pub operands_of : Exchanged → (Number → Values) → (words : Number → List ℕ) → Joint
 operands_of x shares words = record { u = λ i. value (shares i) x.u; v = λ i. second_value (shares i) x.v; words = words }
-
-abbrev pub protocol_in : Exchanged → Protocol
-protocol_in x = blocked (protocol_of x.exchange)
 
 abbrev pub size_in : Exchanged → RunState → ℕ
 size_in x s = length (value (s.shares One) x.u)

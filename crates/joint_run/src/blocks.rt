@@ -6,21 +6,20 @@ ghost use Rattle.reshare.specs.Resharing.{reshare_protocol};
 ghost use Rattle.share_convert.specs.Converting.{conv_protocol};
 ghost use Rattle.split_share.specs.Splitting.{split_protocol};
 ghost use Rattle.joint_run.specs.Three.{joint};
-ghost use Rattle.joint_run.specs.Exchanges.{protocol_of, makes_two, IsSized};
+ghost use Rattle.gate_exchanges.specs.Exchanges.{protocol_of, makes_two, IsSized};
 ghost use Rattle.joint_run.specs.Adding.{AddsBlock};
 
-use crate::exchange::Exchange;
 use crate::outputs::Outputs;
 use crate::own_operands::Operands;
 use crate::transcript::Transcript;
+use gate_exchanges::Exchange;
 use gates::RingKind;
 use lane_kernel::LaneRing;
 use multiply::{Operands as Factors, multiply_together};
 use open_result::open_together;
-use proto_core::{Block, Link};
+use proto_core::{AddRing, Block, Link, ShareRing, XorRing};
 use reshare::reshare_together;
 use share_convert::{Operand, convert_together};
-use share_ring::{AddRing, ShareRing, XorRing};
 use split_share::split_together;
 use std::alloc::AllocError;
 

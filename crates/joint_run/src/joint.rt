@@ -8,8 +8,8 @@ use crate::joint_err::JointErr;
 use crate::run::JointRun;
 use crate::shares::SharedValues;
 use crate::step::run_gate;
-use crate::suiting::same_sizes;
 use crate::tapes::Tapes;
+use gate_exchanges::same_sizes;
 use gates::Gate;
 use std::alloc::Global;
 

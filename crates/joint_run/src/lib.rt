@@ -6,34 +6,27 @@
 #![tactic(auto)]
 
 mod blocks;
-mod exchange;
-mod exchanged;
 mod joint;
 mod joint_err;
-mod local;
 mod outputs;
 mod own_operands;
 mod run;
 mod shares;
 mod step;
-mod suiting;
 mod tapes;
 mod traffic;
 mod transcript;
 mod whole;
 
 pub use blocks::add_block;
-pub use exchange::Exchange;
-pub use exchanged::{Exchanged, as_exchanged};
+pub use gate_exchanges::{Exchange, Exchanged, as_exchanged, suits};
 pub use joint::{are_even, joint_run};
 pub use joint_err::JointErr;
-pub use local::local_share;
 pub use outputs::{Outputs, Shared};
 pub use own_operands::{Operands, Own};
-pub use run::{JointRun, operands, second_value};
+pub use run::{JointRun, operands};
 pub use shares::SharedValues;
 pub use step::run_gate;
-pub use suiting::suits;
 pub use tapes::Tapes;
 pub use traffic::Traffic;
 pub use transcript::Transcript;

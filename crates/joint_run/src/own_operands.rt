@@ -1,9 +1,9 @@
 // What the three miners begin a gate with.
 ghost use Rattle.std.specs.Prelude.{◌≡◌, ◌≤◌, length, take, drop};
 ghost use Rattle.joint_run.specs.Three.{joint};
-ghost use Rattle.joint_run.specs.Exchanges.{protocol_of, HasEnough, IsFront, IsBehind};
+ghost use Rattle.gate_exchanges.specs.Exchanges.{protocol_of, HasEnough, IsFront, IsBehind};
 
-use crate::exchange::Exchange;
+use gate_exchanges::Exchange;
 use proto_core::Number;
 use std::marker::Model;
 

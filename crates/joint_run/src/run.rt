@@ -8,16 +8,16 @@ ghost use Rattle.joint_run.specs.Three.{each_of, joint, values_of};
 ghost use Rattle.joint_run.specs.Adding.{words_of};
 ghost use Rattle.joint_run.specs.RunState.{begun};
 ghost use Rattle.joint_run.specs.States.{state_of};
-ghost use Rattle.joint_run.specs.Steps.{second_value, CanExchange, AddsLocal, AddsExchange};
+ghost use Rattle.joint_run.specs.Steps.{CanExchange, AddsLocal, AddsExchange};
+ghost use Rattle.gate_exchanges.specs.Exchanged.{second_value};
 
-use crate::exchanged::Exchanged;
-use crate::local::local_share;
 use crate::outputs::Outputs;
 use crate::own_operands::{Operands, Own};
 use crate::shares::SharedValues;
 use crate::tapes::Tapes;
 use crate::transcript::Transcript;
 use crate::whole::add_gate;
+use gate_exchanges::{Exchanged, local_share, second_value};
 use gates::{Gate, Values};
 use proto_core::Number;
 use std::alloc::{AllocError, Global};
@@ -61,16 +61,6 @@ pub(crate) fn run_local(
     let third = local_share(alloc, Number::Three, &dealt.third, &run.shares.third, gate)?;
     run.shares.push(first, second, third)?;
     Ok(())
-}
-
-/// The words of the second operand, none where there is no such operand.
-pub fn second_value(values: &Values, number: Option<u64>) -> &[u64]
-    ensures { result.now ≡ second_value values.now number }
-{
-    match number {
-        Some(number) => values.value(number),
-        None => &[],
-    }
 }
 
 /// The operands of a gate in the miners' shares, with these words.

@@ -1,18 +1,17 @@
 // One gate of a joint run, if it can be run.
 ghost use Rattle.std.specs.Prelude.{◌≡◌, ◌≤◌, length, OnOk, IfErr};
 ghost use Rattle.joint_run.specs.Three.{each_of, values_of};
-ghost use Rattle.joint_run.specs.Exchanges.{protocol_of};
+ghost use Rattle.gate_exchanges.specs.Exchanges.{protocol_of};
 ghost use Rattle.joint_run.specs.States.{state_of};
 ghost use Rattle.joint_run.specs.Steps.{size_in};
 ghost use Rattle.joint_run.specs.JointRuns.{IsEven};
 ghost use Rattle.joint_run.specs.GateByGate.{HaveSizes, own_sizes, left_of, AllReach, IsShort, Lacks, RunsGate, RefusesGate};
 
-use crate::exchanged::{Exchanged, as_exchanged};
 use crate::joint_err::JointErr;
 use crate::run::{JointRun, run_exchange, run_local};
 use crate::shares::SharedValues;
-use crate::suiting::suits;
 use crate::tapes::Tapes;
+use gate_exchanges::{Exchanged, as_exchanged, suits};
 use gates::Gate;
 use proto_core::Number;
 use std::alloc::Global;

@@ -3,9 +3,9 @@ ghost use Rattle.std.specs.Prelude.{◌≡◌, ◌≤◌, length, take, drop};
 ghost use Rattle.proto_core.specs.declared.party.Number.{Number as NumberValue};
 ghost use Rattle.proto_core.specs.declared.party.Number.TheVariants.{One, Two, Three};
 ghost use Rattle.joint_run.specs.Three.{each_of};
-ghost use Rattle.joint_run.specs.Exchanges.{protocol_of};
+ghost use Rattle.gate_exchanges.specs.Exchanges.{protocol_of};
 
-use crate::exchange::Exchange;
+use gate_exchanges::Exchange;
 use proto_core::Number;
 use std::marker::Model;
 

@@ -1,14 +1,14 @@
 // A whole gate that sends messages, block after block.
 ghost use Rattle.std.specs.Prelude.{◌≡◌, length, IfOk};
 ghost use Rattle.joint_run.specs.Three.{joint};
-ghost use Rattle.joint_run.specs.Exchanges.{protocol_of, makes_two, IsSized};
+ghost use Rattle.gate_exchanges.specs.Exchanges.{protocol_of, makes_two, IsSized};
 ghost use Rattle.joint_run.specs.Adding.{AddsGate};
 
 use crate::blocks::add_block;
-use crate::exchange::Exchange;
 use crate::outputs::Outputs;
 use crate::own_operands::Operands;
 use crate::transcript::Transcript;
+use gate_exchanges::Exchange;
 use gates::BLOCK_LEN;
 use std::alloc::{AllocError, Global};
 

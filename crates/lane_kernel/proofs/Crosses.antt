@@ -2,7 +2,7 @@
 use Rattle.std.proofs.Common.{◌≡◌, ℕ, ◌+◌, ◌<◌, ◌≤◌, List, length, sym, ◌∙◌, ap, ap₂, arith}
 use lib.Lanes.{put_chunk, chunk, zip2}
 use Rattle.std.proofs.lemmas.Simd.{get_or-zip2, length-chunk, length-zip2}
-use Rattle.share_ring.specs.Ring.{Ring}
+use Rattle.proto_core.specs.Ring.{Ring}
 use Rattle.proto_core.specs.Lists.{at}
 use Rattle.lane_kernel.specs.Lanewise.{crossed}
 use Rattle.proto_core.proofs.Edits.{edited}

@@ -1,6 +1,6 @@
 -- What the kernels make, place by place.
 use Rattle.std.specs.Prelude.{ℕ, List, length}
-use Rattle.share_ring.specs.Ring.{Ring}
+use Rattle.proto_core.specs.Ring.{Ring}
 use Rattle.proto_core.specs.Lists.{at, each}
 
 abbrev pub placewise : (ℕ → ℕ → ℕ) → (x y : List ℕ) → List ℕ

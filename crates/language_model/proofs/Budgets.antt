@@ -3,7 +3,7 @@ use Rattle.std.proofs.Common.{◌≡◌, ◌≢◌, ℕ, ◌+◌, ◌-◌, ◌<�
 use Rattle.std.specs.Prelude.{nat_le}
 use Rattle.std.proofs.lemmas.Bool.{cases_lt}
 use Rattle.sc_text.specs.declared.end.Ending.TheVariants.{Done, Trap, Budget, Tape}
-use Rattle.reached_instances.specs.Programs.{TypedProgramTree}
+use Rattle.reached_instances.specs.TypedPrograms.{TypedProgramTree}
 use Rattle.language_model.specs.Effects.{World, Stage, RunStop, Ended, Short, Run}
 use Rattle.language_model.specs.Values.{Value}
 use Rattle.language_model.specs.Reports.{Report, dealing, beginning, reported, report_of, not_dealt, evaluated}

@@ -4,11 +4,11 @@ use Rattle.std.specs.Prelude.{nat_le}
 use Rattle.std.proofs.lemmas.Bool.{le-leb}
 use Rattle.sc_text.specs.declared.end.Ending.TheVariants.{Tape}
 use Rattle.sc_text.specs.declared.end.TapeOwner.{TapeOwner}
-use Rattle.sc_text.specs.declared.event.Event.TheVariants as event
 use Rattle.sc_text.specs.declared.end.TapeOwner.TheVariants.{Miner1, Miner2, Miner3}
-use Rattle.reached_instances.specs.Programs.{TypedProgramTree}
+use Rattle.reached_instances.specs.TypedPrograms.{TypedProgramTree}
 use Rattle.language_model.specs.Effects.{Words, World, Stage, Ended, Run, Effect, ◌>>=◌, carry, with_more, fits, take_words, draw}
 use Rattle.language_model.specs.Values.{Value}
+use Rattle.language_model.specs.Operations.{publication}
 use Rattle.language_model.specs.Evaluation.{Frame, Flow, turns, repeats}
 use Rattle.language_model.specs.Tapes.{AtMost, lacks_words}
 use Rattle.language_model.proofs.Loops.{IsFlow, turns_flow, repeats_flow}
@@ -155,7 +155,7 @@ enough_law w w' source inputs = record {
   on_gate = λ g. enough_same (onward_gate g);
   on_number = enough_same onward_number;
   on_gates = λ gs. enough_same (onward_gates gs);
-  on_publish = λ text elements. enough_same (onward_emit (event.Publish text elements));
+  on_publish = λ x text elements. enough_same (onward_emit (publication x text elements));
   on_answers = λ n. enough_same (onward_answers n);
   on_told = λ shape words. enough_same (onward_told shape words);
   on_turns = enough_turns w w';

@@ -10,14 +10,14 @@ use Rattle.sc_text.specs.declared.end.TapeOwner.TheVariants.{Miner1, Miner2, Min
 use Rattle.sc_text.specs.declared.event.Event.{Event}
 use Rattle.sc_text.specs.declared.event.Event.TheVariants as event
 use Rattle.plans.specs.Gate.{Gate}
-use Rattle.reached_instances.specs.Programs.{TypedProgramTree}
+use Rattle.reached_instances.specs.TypedPrograms.{TypedProgramTree}
 use Rattle.reached_instances.specs.Shape.{Shape}
 use Rattle.language_model.specs.Effects.{Words, World, Stage, Ended, Short, Run, Effect, ◌>>=◌, carry, done, end, charge, test, with_more, fits, draw}
 use Rattle.language_model.specs.Effects.{gate, next_number, put_gates, emit, next_answers, show}
 use Rattle.language_model.specs.Beginnings.{Begins}
 use Rattle.language_model.specs.Tapes.{AtMost}
 use Rattle.language_model.specs.Values.{Value, elements_of, plain}
-use Rattle.language_model.specs.Operations.{read_answer}
+use Rattle.language_model.specs.Operations.{read_answer, publication}
 use Rattle.language_model.specs.Evaluation.{Frame, Flow, turns, repeats}
 use Rattle.language_model.proofs.Loops.{IsFlow, turns_flow, repeats_flow}
 use Rattle.language_model.proofs.Walk.{IsLaw, main_of, program_holds, told_open}
@@ -250,7 +250,7 @@ onward_law w = record {
   on_gate = onward_gate;
   on_number = onward_number;
   on_gates = onward_gates;
-  on_publish = λ text elements. onward_emit (event.Publish text elements);
+  on_publish = λ x text elements. onward_emit (publication x text elements);
   on_answers = onward_answers;
   on_told = onward_told;
   on_turns = onward_turns w;

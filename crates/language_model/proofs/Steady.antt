@@ -10,11 +10,11 @@ use Rattle.sc_text.specs.declared.end.TapeOwner.TheVariants.{Miner1, Miner2, Min
 use Rattle.sc_text.specs.declared.event.Event.{Event}
 use Rattle.sc_text.specs.declared.event.Event.TheVariants as event
 use Rattle.plans.specs.Gate.{Gate}
-use Rattle.reached_instances.specs.Programs.{TypedProgramTree}
+use Rattle.reached_instances.specs.TypedPrograms.{TypedProgramTree}
 use Rattle.language_model.specs.Effects.{Words, World, Stage, RunStop, Ended, Short, Run, Effect, ◌>>=◌, carry, done, end, charge, test, fits, draw}
 use Rattle.language_model.specs.Effects.{gate, next_number, put_gates, emit, next_answers, show}
 use Rattle.language_model.specs.Values.{Value, elements_of, is_true, plain}
-use Rattle.language_model.specs.Operations.{read_answer, tested}
+use Rattle.language_model.specs.Operations.{read_answer, publication, tested}
 use Rattle.language_model.specs.Evaluation.{Frame, either, Flow, goes, returns, stops, skips, turned, turns, repeats}
 use Rattle.language_model.specs.Beginnings.{Begins}
 use Rattle.language_model.proofs.Walk.{IsLaw, main_of, program_holds}
@@ -348,7 +348,7 @@ steady_law w n n' = record {
   on_gate = steady_gate;
   on_number = steady_number;
   on_gates = steady_gates;
-  on_publish = λ text elements. steady_emit (event.Publish text elements);
+  on_publish = λ x text elements. steady_emit (publication x text elements);
   on_answers = steady_answers;
   on_told = λ shape words. let shown = read_answer shape.element words in
       steady_bind (steady_show shown)

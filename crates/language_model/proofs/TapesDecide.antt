@@ -2,7 +2,7 @@
 use Rattle.std.proofs.Common.{◌≡◌, ℕ, ◌<◌, List, Bool, true, false, cond, Ok, Err, refl, sym, ◌∙◌, ap, subst, arith}
 use Rattle.std.specs.Prelude.{nat_le, sum, map}
 use Rattle.std.proofs.lemmas.Bool.{leb-false}
-use Rattle.reached_instances.specs.Programs.{TypedProgramTree}
+use Rattle.reached_instances.specs.TypedPrograms.{TypedProgramTree}
 use Rattle.language_model.specs.Effects.{World, Run}
 use Rattle.language_model.specs.Values.{Value}
 use Rattle.language_model.specs.Reports.{Report, words_dealt, dealing, beginning, report_of, not_dealt, evaluated}

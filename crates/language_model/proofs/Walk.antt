@@ -13,7 +13,7 @@ use Rattle.plans.specs.Clear.{bits_of}
 use Rattle.plans.specs.Equality.{eq_plan}
 use Rattle.plans.specs.BitExtract.{bits_plan}
 use Rattle.plans.specs.Compare.{less_plan}
-use Rattle.secrec_ast.specs.declared.expression.DataType.TheVariants as datatype
+use Rattle.program_trees.specs.declared.expression.DataType.TheVariants as datatype
 use Rattle.reached_instances.specs.Shape.{Shape}
 use Rattle.reached_instances.specs.Slot.{Slot}
 use Rattle.reached_instances.specs.WordOperator.{WordOperator}
@@ -27,15 +27,15 @@ use Rattle.reached_instances.specs.Operands.TheVariants.{Scalars}
 use Rattle.reached_instances.specs.Cast.{Cast}
 use Rattle.reached_instances.specs.Cast.TheVariants.{WordToWord, WordToBool, BoolToWord, BoolToBool}
 use Rattle.reached_instances.specs.Connective.{Connective}
-use Rattle.reached_instances.specs.Tree.{TypedTree, TypedTrees, word_node, truth_node, slot_node, call_node, size_node, cat_node, sum_node, bits_node}
-use Rattle.reached_instances.specs.Tree.{element_node, not_node, cast_node, binary_node, cut_node, declassify_node}
-use Rattle.reached_instances.specs.Tree as Tree'
-use Rattle.reached_instances.specs.Statements.{TypedStatementTree, TypedStatementTrees, empty_statement, block_statement, if_statement, loop_statement}
-use Rattle.reached_instances.specs.Statements.{do_statement}
-use Rattle.reached_instances.specs.Statements.{break_statement, continue_statement, return_statement, assert_statement, store_statement, default_statement}
-use Rattle.reached_instances.specs.Statements.{fill_statement, input_statement, element_statement, publish_statement, evaluate_statement}
-use Rattle.reached_instances.specs.Statements as Statements'
-use Rattle.reached_instances.specs.Programs.{TypedFunctionTree, TypedProgramTree}
+use Rattle.reached_instances.specs.TypedTree.{TypedTree, TypedTrees, word_node, truth_node, slot_node, call_node, size_node, cat_node, sum_node, bits_node}
+use Rattle.reached_instances.specs.TypedTree.{element_node, not_node, cast_node, binary_node, cut_node, declassify_node}
+use Rattle.reached_instances.specs.TypedTree as Tree'
+use Rattle.reached_instances.specs.TypedStatements.{TypedStatementTree, TypedStatementTrees, empty_statement, block_statement, if_statement, loop_statement}
+use Rattle.reached_instances.specs.TypedStatements.{do_statement}
+use Rattle.reached_instances.specs.TypedStatements.{break_statement, continue_statement, return_statement, assert_statement, store_statement, default_statement}
+use Rattle.reached_instances.specs.TypedStatements.{fill_statement, input_statement, element_statement, publish_statement, evaluate_statement}
+use Rattle.reached_instances.specs.TypedStatements as Statements'
+use Rattle.reached_instances.specs.TypedPrograms.{TypedFunctionTree, TypedProgramTree}
 use Rattle.reached_instances.specs.declared.instance.BoundDomain.{BoundDomain}
 use Rattle.reached_instances.specs.Domains.{Setting, domains}
 use Rattle.reached_instances.specs.Shapes.{shape_of}
@@ -48,7 +48,7 @@ use Rattle.language_model.specs.Operations.{words_for_bits, number_from, number_
 use Rattle.language_model.specs.Operations.{flip, equal_gates, less_gates, operator_gates, private_result, product_with, combined_from}
 use Rattle.language_model.specs.Operations.{operator_traps, operated, operation, negated_from, negated, cast_gates, changed, cast_from, cast_to, size_told}
 use Rattle.language_model.specs.Operations.{summed_from, summed, bits_from, bits_extracted, concatenated_from, concatenated, element_from, element_of_array}
-use Rattle.language_model.specs.Operations.{with_element_from, with_element, filled_from, filled, handed_over, published, tested, asserted}
+use Rattle.language_model.specs.Operations.{with_element_from, with_element, filled_from, filled, handed_over, publication, published, tested, asserted}
 use Rattle.language_model.specs.Evaluation.{Frame, put, Calls, gives_private, slot_is_private, slots_of, bound_at, next_is_private, behind_next}
 use Rattle.language_model.specs.Evaluation.{connective, decides, truth_value, slot_shape, entered, result_of, place_in, array_elements, given_value}
 use Rattle.language_model.specs.Evaluation.{asked_for, input_from, input_named, either, cut_short, not_cut_short, value, arguments, Flow, goes}
@@ -75,7 +75,7 @@ pub record IsLaw (w w' : World) (P : (A : Type 0) → Effect A → Effect A → 
   pub on_gate : (g : Gate) → P _ (gate g) (gate g)
   pub on_number : P _ next_number next_number
   pub on_gates : (gs : List Gate) → P _ (put_gates gs) (put_gates gs)
-  pub on_publish : (text : List ℕ) (elements : List Element) → P _ (emit (event.Publish text elements)) (emit (event.Publish text elements))
+  pub on_publish : (x : Secrecy) (text : List ℕ) (elements : List Element) → P _ (emit (publication x text elements)) (emit (publication x text elements))
   pub on_answers : (n : ℕ) → P _ (next_answers n) (next_answers n)
   pub on_told : (shape : Shape) (words : List ℕ) → P _ (told_open shape words) (told_open shape words)
   pub on_turns : {condition condition' : Frame → Effect Value} {step step' body body' : Frame → Effect Flow}
@@ -287,7 +287,7 @@ module _ (w w' : World) (P : (A : Type 0) → Effect A → Effect A → Type 0) 
   handed_holds (Private k) v = law.bind (law.on_draw _) (λ _. law.bind (number_holds v) (λ u. law.bind (law.on_gate _) (λ _. law.on_done tt)))
 
   pub published_holds : (text : List ℕ) (v : Value) → P _ (published w text v) (published w' text v)
-  published_holds text v = law.bind (untrapped_holds (size v)) (λ _. law.bind (handed_holds v.secrecy v) (λ _. law.on_publish _ _))
+  published_holds text v = law.bind (untrapped_holds (size v)) (λ _. law.bind (handed_holds v.secrecy v) (λ _. law.on_publish _ _ _))
 
   pub tested_holds : (v : Value) → P _ (tested v) (tested v)
   tested_holds v = law.bind (law.on_charge 1) (λ _. law.on_done _)

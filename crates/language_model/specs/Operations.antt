@@ -6,10 +6,12 @@ use Rattle.std.specs.Prelude.{ℕ, ◌+◌, ◌*◌, ◌-◌, Bool, true, false,
 use Rattle.std.specs.Prelude.{set, sum, ◌%◌, ◌^◌, get_or}
 use Rattle.std.specs.List.{flat_map}
 use Rattle.sc_text.specs.declared.end.TrapKind.TheVariants as trap
+use Rattle.sc_text.specs.declared.elements.Element.{Element}
+use Rattle.sc_text.specs.declared.event.Event.{Event}
 use Rattle.sc_text.specs.declared.event.Event.TheVariants as event
-use Rattle.secrec_ast.specs.declared.expression.DataType.{DataType}
-use Rattle.secrec_ast.specs.declared.expression.DataType.TheVariants.{Uint64}
-use Rattle.secrec_ast.specs.declared.expression.DataType.TheVariants as datatype
+use Rattle.program_trees.specs.declared.expression.DataType.{DataType}
+use Rattle.program_trees.specs.declared.expression.DataType.TheVariants.{Uint64}
+use Rattle.program_trees.specs.declared.expression.DataType.TheVariants as datatype
 use Rattle.plans.specs.Gate.TheVariants.{Const, Add, Sub, MulPub, Mul, Xor, And, Cat, Part, Put, Rep, Spread, Sum, Conv, Open, Result}
 use Rattle.plans.specs.Clear.{bits_of, first_word}
 use Rattle.plans.specs.Equality.{eq_plan}
@@ -368,11 +370,16 @@ handed_over w (Private k) v = do
   _ ← gate (Result (ring_for v.shape.element) u)
   done tt
 
+-- it is told as such: a public value is published, a private one is handed over
+abbrev pub publication : Secrecy → List ℕ → List Element → Event
+publication Plain text elements = event.Publish text elements
+publication (Private k) text elements = event.Hand text elements
+
 abbrev pub published : World → List ℕ → Value → Effect (Unit {0})
 published w text v = do
   _ ← charged no_traps (size v)
   _ ← handed_over w v.secrecy v
-  emit (event.Publish text (elements_of v))
+  emit (publication v.secrecy text (elements_of v))
 
 -- ---- CONTROL
 

@@ -5,7 +5,7 @@ use Rattle.sc_text.specs.declared.end.Ending.TheVariants as ending
 use Rattle.sc_text.specs.declared.end.TapeOwner.TheVariants.{Dealer}
 use Rattle.sc_text.specs.declared.event.Event.{Event}
 use Rattle.plans.specs.Gate.{Gate}
-use Rattle.reached_instances.specs.Programs.{TypedProgramTree}
+use Rattle.reached_instances.specs.TypedPrograms.{TypedProgramTree}
 use Rattle.language_model.specs.Effects.{Words, words_each, GivenInput, Source, Clear, Answers, World, Stage, RunStop, Ended, Run}
 use Rattle.language_model.specs.Values.{Value}
 use Rattle.language_model.specs.Evaluation.{either, body_of, call_at, deepest}

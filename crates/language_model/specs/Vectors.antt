@@ -4,10 +4,10 @@ use Rattle.sc_text.specs.declared.elements.Element.TheVariants.{Word, Truth}
 use Rattle.sc_text.specs.declared.end.Ending.TheVariants as ending
 use Rattle.sc_text.specs.declared.end.TrapKind.TheVariants as trap
 use Rattle.sc_text.specs.declared.end.TapeOwner.TheVariants as owner
-use Rattle.sc_text.specs.declared.event.Event.TheVariants.{Open, Publish}
-use Rattle.secrec_ast.specs.declared.expression.DataType.{DataType}
-use Rattle.secrec_ast.specs.declared.expression.DataType.TheVariants.{Uint64}
-use Rattle.secrec_ast.specs.declared.expression.DataType.TheVariants as datatype
+use Rattle.sc_text.specs.declared.event.Event.TheVariants.{Open, Publish, Hand}
+use Rattle.program_trees.specs.declared.expression.DataType.{DataType}
+use Rattle.program_trees.specs.declared.expression.DataType.TheVariants.{Uint64}
+use Rattle.program_trees.specs.declared.expression.DataType.TheVariants as datatype
 use Rattle.plans.specs.Gate.TheVariants as gate
 use Rattle.plans.specs.Clear.{bits_of}
 use Rattle.plans.specs.RingKind.TheVariants.{Arithmetic, Boolean}
@@ -22,13 +22,13 @@ use Rattle.reached_instances.specs.BinaryOperator.TheVariants as operator
 use Rattle.reached_instances.specs.Operands.TheVariants.{Scalars, Arrays}
 use Rattle.reached_instances.specs.Connective.TheVariants.{AndAlso}
 use Rattle.reached_instances.specs.Cast.TheVariants.{WordToBool, BoolToWord}
-use Rattle.reached_instances.specs.Tree.{TypedTree, word_node, truth_node, slot_node, call_node, bits_node, element_node, cast_node, binary_node, cut_node}
-use Rattle.reached_instances.specs.Tree.{declassify_node, typed_trees_of}
-use Rattle.reached_instances.specs.Statements.{TypedStatementTree, typed_statements_of, empty_statement, block_statement, if_statement, loop_statement}
-use Rattle.reached_instances.specs.Statements.{do_statement}
-use Rattle.reached_instances.specs.Statements.{return_statement, continue_statement, assert_statement, store_statement, default_statement, fill_statement}
-use Rattle.reached_instances.specs.Statements.{input_statement, publish_statement}
-use Rattle.reached_instances.specs.Programs.{TypedFunctionTree, TypedProgramTree}
+use Rattle.reached_instances.specs.TypedTree.{TypedTree, word_node, truth_node, slot_node, call_node, bits_node, element_node, cast_node, binary_node, cut_node}
+use Rattle.reached_instances.specs.TypedTree.{declassify_node, typed_trees_of}
+use Rattle.reached_instances.specs.TypedStatements.{TypedStatementTree, typed_statements_of, empty_statement, block_statement, if_statement, loop_statement}
+use Rattle.reached_instances.specs.TypedStatements.{do_statement}
+use Rattle.reached_instances.specs.TypedStatements.{return_statement, continue_statement, assert_statement, store_statement, default_statement, fill_statement}
+use Rattle.reached_instances.specs.TypedStatements.{input_statement, publish_statement}
+use Rattle.reached_instances.specs.TypedPrograms.{TypedFunctionTree, TypedProgramTree}
 use Rattle.reached_instances.specs.Shapes.{shape_of}
 use Rattle.language_model.specs.Effects.{Words, words_each, GivenInput, RunStop, Ended, Short}
 use Rattle.language_model.specs.Evaluation.{value, arguments, turns, repeats, execute, execute_all, call_at}
@@ -149,7 +149,7 @@ product_told : eval product_for_the_client (two 6 7) 1000000
       cost = 7;
       dealt = 4;
       drawn = words_each 4;
-      events = Publish (codes "c") (Word 42 ∷ []) ∷ [];
+      events = Hand (codes "c") (Word 42 ∷ []) ∷ [];
       opened =
           [];
       gates = gate.Input 0 ∷ gate.Input 1 ∷ gate.Mul 0 1 ∷ gate.Result Arithmetic 2 ∷ [];

@@ -2,7 +2,7 @@
 // so the laws hold of runs in the clear and of blind ones.
 ghost use Rattle.std.specs.Prelude.{ℕ, ◌≤◌, ◌<◌, ◌≡◌, ◌≢◌, List, true, false};
 ghost use Rattle.sc_text.specs.declared.end.Ending.TheVariants.{Budget};
-ghost use Rattle.reached_instances.specs.Programs.{TypedProgramTree};
+ghost use Rattle.reached_instances.specs.TypedPrograms.{TypedProgramTree};
 ghost use Rattle.language_model.specs.Effects.{World, Ended};
 ghost use Rattle.language_model.specs.Reports.{evaluated};
 ghost use Rattle.language_model.specs.Beginnings.{IsBeginning};

@@ -1,11 +1,10 @@
 // Which instances programs reach, program by program, in the order in which they are first called, and which are checked.
 use crate::sources::{program, typed};
 use domain_types::{Instance as CheckedInstance, Protection, check};
+use program_trees::{Program, TypedProgram};
 use reached_instances::{BoundDomain, Instance, reached_instances, template_count};
 use row_files::Lines;
-use secrec_ast::Program;
 use std::alloc::{AllocError, Global};
-use typed_tree::TypedProgram;
 
 // What stands before each program: `p` is the private domain 0, `r` is 1.
 const DECLARED: &str = "import shared3p; domain p shared3p; domain r shared3p;\n";

@@ -1,12 +1,13 @@
 // Tapes that a miner's view of a run is made of, and the way back.
 ghost use Rattle.std.specs.Prelude.{IfSome};
-ghost use Rattle.typed_tree.specs.Programs.{typed_program_tree};
-ghost use Rattle.typed_tree.specs.Sound.{IsSound};
+ghost use Rattle.program_trees.specs.TypedPrograms.{typed_program_tree};
+ghost use Rattle.program_trees.specs.Sound.{IsSound};
 ghost use Rattle.value_file.specs.Input.{AreInputs};
 ghost use Rattle.tape_twin.specs.Accepted.{IsAcceptedProgram};
 
 use crate::runs::inputs_of;
 use front_end::read_program;
+use program_trees::TypedProgram;
 use program_typing::checked_tree;
 use proto_core::Number;
 use reached_instances::check_limits;
@@ -14,7 +15,6 @@ use row_files::Lines;
 use std::alloc::{AllocError, Global};
 use tape_file::Tapes;
 use tape_twin::{from_sim, to_sim};
-use typed_tree::TypedProgram;
 use value_file::Inputs;
 
 const SUM: &str = "import stdlib; import shared3p; domain p shared3p; void main() {\n\

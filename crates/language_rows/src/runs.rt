@@ -1,15 +1,15 @@
 // Runs of programs, with their gates and the words that they need, in the clear and blind.
 ghost use Rattle.std.specs.Prelude.{IfSome};
-ghost use Rattle.typed_tree.specs.Programs.{typed_program_tree};
-ghost use Rattle.typed_tree.specs.Sound.{IsSound};
+ghost use Rattle.program_trees.specs.TypedPrograms.{typed_program_tree};
+ghost use Rattle.program_trees.specs.Sound.{IsSound};
 ghost use Rattle.value_file.specs.Input.{AreInputs};
 ghost use Rattle.value_file.specs.PublicFile.{IsWritable};
 
 use crate::sources::typed;
 use clear_eval::{BlindErr, Report, blind, eval};
+use program_trees::TypedProgram;
 use row_files::Lines;
 use std::alloc::{AllocError, Global};
-use typed_tree::TypedProgram;
 use value_file::{Inputs, PublicPart, public_part, read};
 
 // The typed tree of a program whose `main` has this body.

@@ -1,14 +1,13 @@
 // Programs that are read from their texts.
 ghost use Rattle.std.specs.Prelude.{IfSome};
-ghost use Rattle.typed_tree.specs.Programs.{typed_program_tree};
-ghost use Rattle.typed_tree.specs.Sound.{IsSound};
+ghost use Rattle.program_trees.specs.TypedPrograms.{typed_program_tree};
+ghost use Rattle.program_trees.specs.Sound.{IsSound};
 
 use name_resolution::resolve;
-use secrec_ast::Program;
+use program_trees::{Program, TypedProgram};
 use secrec_lexer::lex;
 use secrec_parser::parse;
 use std::alloc::Global;
-use typed_tree::TypedProgram;
 
 /// The program of a text, if it has one.
 pub fn program(alloc: Global, text: &str) -> Option<Program> {

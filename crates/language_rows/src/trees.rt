@@ -1,7 +1,7 @@
 // Expressions, and the trees that they are read as.
 use expression_parser::{Parsed, expression};
+use program_trees::{DataType, Expression, Operator};
 use row_files::Lines;
-use secrec_ast::{DataType, Expression, Operator};
 use secrec_lexer::{Token, lex};
 use std::alloc::Global;
 

@@ -1,13 +1,13 @@
 // The typed tree of a program with a template, and a program that has none.
 use crate::sources::program;
 use name_resolution::{ResolveErr, resolve};
+use program_trees::{
+    DataType, Program, Returned, Slot, SlotDomain, TypedExpression, TypedFunction, TypedProgram,
+    TypedStatement,
+};
 use program_typing::type_program;
 use row_files::Lines;
-use secrec_ast::{DataType, Program};
 use std::alloc::Global;
-use typed_tree::{
-    Returned, Slot, SlotDomain, TypedExpression, TypedFunction, TypedProgram, TypedStatement,
-};
 
 // Line 2 fills an array whose size is asked for in line 3.
 const PROGRAM: &str = "\

@@ -2,11 +2,10 @@
 ghost use Rattle.value_file.specs.Input.{AreInputs};
 
 use clear_eval::eval;
+use program_trees::{BinaryOperator, DataType, TypedProgram, WordOperator};
 use row_files::Lines;
 use sc_text::Event;
-use secrec_ast::DataType;
 use std::alloc::{AllocError, Global};
-use typed_tree::{BinaryOperator, TypedProgram, WordOperator};
 use value_file::{Inputs, read};
 use vector_ops::{each, elements, first_word, flipped, low_bits, operation};
 

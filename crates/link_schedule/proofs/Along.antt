@@ -29,7 +29,7 @@ along_start s a Q going left each =
     record {
       taken = none;
       drew = net_drew_none a;
-      state = record { going = going; drawn = λ i. sym (append-none (drawn_in s i)); left = left going };
+      state = record { going = going; drawn = λ i. sym (append-none (drawn_in s i)); left = left going; past = λ i. refl };
       holds = λ tapes of. each tapes;
       still = λ h. h;
     }
@@ -41,7 +41,7 @@ along_here s a Q going left each =
     record {
       taken = none;
       drew = net_drew_none a;
-      state = record { going = going; drawn = λ i. sym (append-none (drawn_in s i)); left = left going };
+      state = record { going = going; drawn = λ i. sym (append-none (drawn_in s i)); left = left going; past = λ i. refl };
       holds = λ tapes of.
           each tapes
           (tapes_by (both (drawn_in s) none) (drawn_in s) (λ i. left_for i a) (ahead_in s) (λ i. append-none (drawn_in s i)) (left going) tapes of);
@@ -92,7 +92,7 @@ module _ (s t : StreamNet) (a b : TapesState) (Q : (before after : NetState) →
       joined i = sym (append_assoc (drawn_in s i) (h.taken i) (k.taken i)) ∙ ap (λ w. w ++ k.taken i) (sym (h.state.drawn i))
 
       state : (o : Option Lost) → GoesOr t u b c o k.taken → GoesOr s u a c o (both h.taken k.taken)
-      state None g = record { going = g.going; drawn = λ i. g.drawn i ∙ sym (joined i); left = g.left }
+      state None g = record { going = g.going; drawn = λ i. g.drawn i ∙ sym (joined i); left = g.left; past = λ i. g.past i ∙ h.state.past i }
       state (Some why) g = record { state = g.state; cause = lost_later a b c h.taken h.drew h.still why g.cause }
 
   -- the same with less said

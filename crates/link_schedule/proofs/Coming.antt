@@ -12,18 +12,15 @@ use Rattle.protocol_model.specs.Runs.{Tapes}
 use Rattle.gate_node.specs.Nodes.{IsTapeOf}
 use Rattle.miner_core.specs.declared.answer.Lost.{Lost}
 use Rattle.miner_core.specs.declared.answer.MinerErr.{MinerErr}
-use Rattle.miner_core.specs.declared.answer.MinerErr.TheVariants as whole
 use Rattle.miner_core.specs.declared.answer.Step.{Step}
-use Rattle.miner_core.specs.declared.answer.StreamErr.{StreamErr}
-use Rattle.miner_core.specs.declared.answer.StreamErr.TheVariants as error
+use Rattle.miner_core.specs.declared.answer.MinerErr.TheVariants as error
 use Rattle.miner_core.specs.Drawing.{left_for}
 use Rattle.miner_core.specs.Story.{stands_at}
 use Rattle.miner_core.specs.Streams.{StreamState, with_tape, ForEachTape, HasMoved, Answers}
 use Rattle.miner_core.proofs.Draws.{tape_earlier}
 use Rattle.miner_core.proofs.Sources.{drew_none}
-use Rattle.link_schedule.specs.declared.miners.Miners.{Miners}
 use Rattle.link_schedule.specs.Parts.{story_in, Takes, TakesIf, Comes}
-use Rattle.link_schedule.specs.Streams.{miner_in, stories_with, AreTapesOf}
+use Rattle.link_schedule.specs.Streams.{ThreeStreams, miner_in, stories_with, AreTapesOf}
 use Rattle.link_schedule.specs.Coming.{taken_by, Taken, Gives, drawn_by, left_to, AreOfUse, Come, ComesTo}
 use Rattle.link_schedule.proofs.Deliveries.{is_number}
 use Rattle.link_schedule.proofs.Drawing.{only, of_one}
@@ -31,12 +28,12 @@ use Rattle.link_schedule.proofs.Drawing.{only, of_one}
 -- ---- to one
 
 -- an answer other than that it has ended
-abbrev IsOther : Result Step StreamErr → Link → Type 0
+abbrev IsOther : Result Step MinerErr → Link → Type 0
 IsOther r l = r ≡ Err (error.NotAwaited l) → ⊥
 
 module _ (i : Number) (l : Link) (m : List ℕ) (before after : StreamState) (old new : TapesState) (going : before.lost ≡ None)
     (left : left_for i old ≡ before.ahead) (still : old.steady ≡ true → new.steady ≡ true) where
-  moved : (r : Result Step StreamErr) (a : Result Step MinerErr) → IsOther r l →
+  moved : (r : Result Step MinerErr) (a : Result Step MinerErr) → IsOther r l →
       ForEachTape before (λ s. stands_at i s ≡ AtItsEnd → r ≡ Err (error.NotAwaited l)) →
       HasMoved i l m before after old new a → Gives i l m before after old new (Ok tt)
   moved r a other ended h =
@@ -48,6 +45,7 @@ module _ (i : Number) (l : Link) (m : List ℕ) (before after : StreamState) (ol
               going = h.going;
               tape = h.tape;
               left = h.ahead;
+              past = h.past;
               takes = λ tape of.
                   let earlier = tape_earlier i old new before.story.tape after.story.tape h.taken before.ahead h.drew h.tape left tape
                   (subst (λ n. IsTapeOf after.story.tape n tape) (sym h.ahead) of) in
@@ -57,10 +55,10 @@ module _ (i : Number) (l : Link) (m : List ℕ) (before after : StreamState) (ol
         still = still;
       }
 
-  pub gives : (r : Result Step StreamErr) → Answers i l m before after old new r →
+  pub gives : (r : Result Step MinerErr) → Answers i l m before after old new r →
       ForEachTape before (λ s. stands_at i s ≡ AtItsEnd → r ≡ Err (error.NotAwaited l)) → Gives i l m before after old new (taken_by r)
   gives (Ok step) h ended = moved (Ok step) (Ok step) (λ e. cc) ended h
-  gives (Err (error.BadMessage at cause)) h ended = moved (Err (error.BadMessage at cause)) (Err (whole.BadMessage at cause)) (λ e. cc) ended h
+  gives (Err (error.BadMessage at cause)) h ended = moved (Err (error.BadMessage at cause)) (Err (error.BadMessage at cause)) (λ e. cc) ended h
   gives (Err (error.NotAwaited at)) h ended =
       record {
         taken = [];
@@ -70,6 +68,7 @@ module _ (i : Number) (l : Link) (m : List ℕ) (before after : StreamState) (ol
               going = ap (λ (x : StreamState). x.lost) h.same ∙ going;
               tape = ap (λ (x : StreamState). x.story.tape) h.same ∙ sym (append-none before.story.tape);
               left = ap (left_for i) h.source ∙ left ∙ sym (ap (λ (x : StreamState). x.ahead) h.same);
+              past = ap (λ (x : StreamState). x.past) h.same;
               takes = λ tape of.
                   inr (
                     h.ended tape
@@ -85,12 +84,12 @@ module _ (i : Number) (l : Link) (m : List ℕ) (before after : StreamState) (ol
 
 -- ---- to three
 
-pub story_at : (m : Miners) (tapes : Tapes) (i : Number) → story_in (stories_with m tapes) i ≡ with_tape (miner_in m i) (tapes i)
+pub story_at : (m : ThreeStreams) (tapes : Tapes) (i : Number) → story_in (stories_with m tapes) i ≡ with_tape (miner_in m i) (tapes i)
 story_at m tapes One = refl
 story_at m tapes Two = refl
 story_at m tapes Three = refl
 
-module _ (l : Link) (m : List ℕ) (before after : Miners) (old new : TapesState) (usable : AreOfUse before)
+module _ (l : Link) (m : List ℕ) (before after : ThreeStreams) (old new : TapesState) (usable : AreOfUse before)
     (left : (i : Number) → left_for i old ≡ left_to before i) (i : Number) (to : receiver_of l ≡ i)
     (rest : (j : Number) → is_same i j ≡ false → miner_in after j ≡ miner_in before j) where
   come : (words : List ℕ) → Drew old new (count_of i) words → Taken i l m (miner_in before i) (miner_in after i) old new words →
@@ -100,12 +99,17 @@ module _ (l : Link) (m : List ℕ) (before after : Miners) (old new : TapesState
         going = λ j. going j (is_same i j) refl;
         drawn = λ j. drawn j (is_same i j) refl;
         left = λ j. left_after j (is_same i j) refl;
+        past = λ j. past j (is_same i j) refl;
         comes = λ tapes of j. comes tapes of j;
       }
     where
       going : (j : Number) (b : Bool) → is_same i j ≡ b → (miner_in after j).lost ≡ None
       going j true e = subst (λ k. (miner_in after k).lost ≡ None) (is_number i j e) t.going
       going j false e = ap (λ (x : StreamState). x.lost) (rest j e) ∙ usable j
+
+      past : (j : Number) (b : Bool) → is_same i j ≡ b → (miner_in after j).past ≡ (miner_in before j).past
+      past j true e = subst (λ k. (miner_in after k).past ≡ (miner_in before k).past) (is_number i j e) t.past
+      past j false e = ap (λ (x : StreamState). x.past) (rest j e)
 
       drawn : (j : Number) (b : Bool) → is_same i j ≡ b → drawn_by after j ≡ drawn_by before j ++ (if b then words else [])
       drawn j true e = subst (λ k. drawn_by after k ≡ drawn_by before k ++ words) (is_number i j e) t.tape
@@ -145,19 +149,19 @@ module _ (l : Link) (m : List ℕ) (before after : Miners) (old new : TapesState
   comes_to (Err why) g = record { taken = only i g.taken; drew = of_one old new i g.taken g.drew; ok = tt; err = g.err; still = g.still }
 
 -- the others are as before
-pub other_one : (m : Miners) (x : StreamState) (j : Number) → is_same One j ≡ false →
+pub other_one : (m : ThreeStreams) (x : StreamState) (j : Number) → is_same One j ≡ false →
     miner_in (record { one = x; two = m.two; three = m.three }) j ≡ miner_in m j
 other_one m x One e = cc
 other_one m x Two e = refl
 other_one m x Three e = refl
 
-pub other_two : (m : Miners) (x : StreamState) (j : Number) → is_same Two j ≡ false →
+pub other_two : (m : ThreeStreams) (x : StreamState) (j : Number) → is_same Two j ≡ false →
     miner_in (record { one = m.one; two = x; three = m.three }) j ≡ miner_in m j
 other_two m x One e = refl
 other_two m x Two e = cc
 other_two m x Three e = refl
 
-pub other_three : (m : Miners) (x : StreamState) (j : Number) → is_same Three j ≡ false →
+pub other_three : (m : ThreeStreams) (x : StreamState) (j : Number) → is_same Three j ≡ false →
     miner_in (record { one = m.one; two = m.two; three = x }) j ≡ miner_in m j
 other_three m x One e = refl
 other_three m x Two e = refl

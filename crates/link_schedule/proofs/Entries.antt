@@ -7,7 +7,7 @@ use Rattle.std.specs.Prelude.{Result, Ok, Err}
 use Rattle.proto_core.specs.declared.link.Link.{Link}
 use Rattle.proto_core.specs.Net.{delivered}
 use Rattle.proto_core.proofs.Beginnings.{append-none}
-use Rattle.protocol_model.specs.Network.{EmptyLink, Stalled, walked}
+use Rattle.protocol_model.specs.Network.{EmptyLink, walked}
 use Rattle.link_schedule.specs.declared.errors.RunErr.{RunErr}
 use Rattle.link_schedule.specs.declared.errors.RunErr.TheVariants as running
 use Rattle.link_schedule.specs.Net.{NetState, nodes_in, net_mail, net_posted, is_under_way, after}

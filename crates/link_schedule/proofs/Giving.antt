@@ -8,16 +8,13 @@ use Rattle.proto_core.specs.declared.link.Link.{Link}
 use Rattle.proto_core.specs.Net.{under_way}
 use Rattle.protocol_model.specs.Network.{Counts, one_more}
 use Rattle.protocol_model.specs.Runs.{Tapes}
-use Rattle.counted_net.specs.Cursors.{tally_on}
 use Rattle.miner_core.specs.declared.answer.Lost.{Lost}
 use Rattle.miner_core.specs.declared.answer.Lost.TheVariants as lost
 use Rattle.miner_core.specs.Drawing.{left_for}
 use Rattle.miner_core.specs.Streams.{StreamState, has_lost, with_tape}
-use Rattle.link_schedule.specs.declared.miners.Miners.{Miners}
-use Rattle.link_schedule.specs.declared.net.Net3.TheInside.{Inside}
 use Rattle.link_schedule.specs.Net.{NetState, nodes_in, net_mail, is_under_way, after}
 use Rattle.link_schedule.specs.Parts.{AreAlike, IsFresh, IsAt, IsNet, story_in, state_of}
-use Rattle.link_schedule.specs.Streams.{StreamNet, miner_in, stories_with, drawn_in, ahead_in, with_tapes, net_of, AreTapesOf}
+use Rattle.link_schedule.specs.Streams.{StreamNet, ThreeStreams, miner_in, stories_with, drawn_in, ahead_in, past_in, with_tapes, net_of, AreTapesOf}
 use Rattle.link_schedule.specs.Streams.{MayHave, ForEachTapes, HasLeft, IsFreshStream, IsMinerOf}
 use Rattle.link_schedule.specs.Streams.{Along}
 use Rattle.link_schedule.specs.Coming.{drawn_by, left_to, AreOfUse, Come, ComesTo, AreNet}
@@ -30,31 +27,32 @@ use Rattle.link_schedule.proofs.Joining.{GivenTo, few_came, first_net, given_to,
 
 -- three miners, the links of the deliveries, how many came on each, and why it is of no further use
 pub record Held : Type 0 where
-  pub miners : Miners
+  pub miners : ThreeStreams
   pub links : List Link
   pub given : Counts
   pub lost : Option Lost
 
--- a net with its tally
-abbrev pub held : Inside → Held
-held n = record { miners = n.miners; links = n.recorded.items; given = tally_on n.given; lost = n.lost }
-
-drawn_at : (m : Miners) (links : List Link) (lost : Option Lost) (i : Number) → drawn_in (net_of m links lost) i ≡ drawn_by m i
+drawn_at : (m : ThreeStreams) (links : List Link) (lost : Option Lost) (i : Number) → drawn_in (net_of m links lost) i ≡ drawn_by m i
 drawn_at m links lost One = refl
 drawn_at m links lost Two = refl
 drawn_at m links lost Three = refl
 
-ahead_at : (m : Miners) (links : List Link) (lost : Option Lost) (i : Number) → ahead_in (net_of m links lost) i ≡ left_to m i
+ahead_at : (m : ThreeStreams) (links : List Link) (lost : Option Lost) (i : Number) → ahead_in (net_of m links lost) i ≡ left_to m i
 ahead_at m links lost One = refl
 ahead_at m links lost Two = refl
 ahead_at m links lost Three = refl
 
-may_of : (m : Miners) (links : List Link) (lost : Option Lost) (tapes : Tapes) → MayHave (net_of m links lost) tapes → AreTapesOf (drawn_by m) (left_to m) tapes
+past_at : (m : ThreeStreams) (links : List Link) (lost : Option Lost) (i : Number) → past_in (net_of m links lost) i ≡ (miner_in m i).past
+past_at m links lost One = refl
+past_at m links lost Two = refl
+past_at m links lost Three = refl
+
+may_of : (m : ThreeStreams) (links : List Link) (lost : Option Lost) (tapes : Tapes) → MayHave (net_of m links lost) tapes → AreTapesOf (drawn_by m) (left_to m) tapes
 may_of m links lost tapes may =
     tapes_by (drawn_in (net_of m links lost)) (drawn_by m) (ahead_in (net_of m links lost)) (left_to m)
     (drawn_at m links lost) (ahead_at m links lost) tapes may
 
-pub may_with : (m : Miners) (links : List Link) (lost : Option Lost) (tapes : Tapes) → AreTapesOf (drawn_by m) (left_to m) tapes →
+pub may_with : (m : ThreeStreams) (links : List Link) (lost : Option Lost) (tapes : Tapes) → AreTapesOf (drawn_by m) (left_to m) tapes →
     MayHave (net_of m links lost) tapes
 may_with m links lost tapes of =
     tapes_by (drawn_by m) (drawn_in (net_of m links lost)) (left_to m) (ahead_in (net_of m links lost)) (λ i. sym (drawn_at m links lost i))
@@ -115,7 +113,7 @@ module _ (s : StreamNet) (n : Held) (view : net_of n.miners n.links n.lost ≡ s
 fresh_story : (m : StreamState) (tape : List ℕ) → IsFreshStream m → IsFresh (with_tape m tape)
 fresh_story m tape f = record { from_previous = f.from_previous; from_next = f.from_next; going = ap has_lost f.going }
 
-pub fresh_net : (m : Miners) → AreAlike m.one.story m.two.story → AreAlike m.one.story m.three.story → IsFreshStream m.one → IsFreshStream m.two →
+pub fresh_net : (m : ThreeStreams) → AreAlike m.one.story m.two.story → AreAlike m.one.story m.three.story → IsFreshStream m.one → IsFreshStream m.two →
     IsFreshStream m.three → (g : Counts) → ((l : Link) → g l ≡ 0) → AreNet m [] g
 fresh_net m two three f1 f2 f3 g none_given = record { going = going; net = net }
   where
@@ -133,7 +131,7 @@ fresh_net m two three f1 f2 f3 g none_given = record { going = going; net = net 
 -- ---- a message comes
 
 module _ (s : StreamNet) (n : Held) (view : net_of n.miners n.links n.lost ≡ s) (is : n.lost ≡ None → AreNet n.miners n.links n.given)
-    (going : s.lost ≡ None) (m2 : Miners) (a b : TapesState) (l : Link) (msg : List ℕ) where
+    (going : s.lost ≡ None) (m2 : ThreeStreams) (a b : TapesState) (l : Link) (msg : List ℕ) where
   abbrev Delivered : Result (Unit {0}) Lost → NetState → NetState → Type 0
   Delivered r x y = OnOk r (y ≡ after x (l ∷ []))
 
@@ -195,6 +193,8 @@ module _ (s : StreamNet) (n : Held) (view : net_of n.miners n.links n.lost ≡ s
             going = refl;
             drawn = λ i. drawn_at m2 more None i ∙ drawn_so i;
             left = λ i. came.left i ∙ sym (ahead_at m2 more None i);
+            past = λ i.
+                past_at m2 more None i ∙ came.past i ∙ sym (past_at n.miners n.links n.lost i) ∙ ap (λ (x : StreamNet). past_in x i) view;
           };
           holds = λ tapes of.
               (given_with tapes (tapes_by (both (drawn_in s) c.taken) (drawn_by m2) (λ i. left_for i b) (left_to m2)

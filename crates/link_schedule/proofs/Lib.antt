@@ -11,4 +11,4 @@ pub mod Coming
 pub mod Giving
 pub mod Ordering
 pub mod Passing
-pub mod LeanNets
+pub mod Nets

@@ -15,7 +15,7 @@ use Rattle.protocol_model.proofs.NetCounts.{posted-counted, counts-delivered, po
 use Rattle.link_schedule.specs.Orders.{full_links, IsMade}
 use Rattle.protocol_model.proofs.Choosing.{in_those}
 
-begins_length : (xs ys : List (List ℕ)) → Begins xs ys → length xs ≤ length ys
+pub begins_length : (xs ys : List (List ℕ)) → Begins xs ys → length xs ≤ length ys
 begins_length [] ys h = omega arith
 begins_length (x ∷ xs) [] h = absurd h
 begins_length (x ∷ xs) (y ∷ ys) h = let n = begins_length xs ys h.1 in omega arith

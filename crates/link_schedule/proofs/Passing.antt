@@ -11,17 +11,15 @@ use Rattle.protocol_model.specs.Network.{one_more}
 use Rattle.protocol_model.specs.Runs.{Tapes}
 use Rattle.gate_node.specs.Nodes.{IsTapeOf}
 use Rattle.miner_core.specs.declared.answer.Lost.{Lost}
-use Rattle.miner_core.specs.declared.lean.LeanMiner.{LeanMiner}
 use Rattle.miner_core.specs.Drawing.{left_for}
-use Rattle.miner_core.specs.Lean.{LeanState, IsLeanOf}
+use Rattle.miner_core.specs.Miners.{MinerSeen, MinerState, IsOf}
 use Rattle.miner_core.specs.Story.{Story}
 use Rattle.miner_core.specs.Streams.{StreamState, ForEachTape, with_tape}
-use Rattle.link_schedule.specs.declared.lean_miners.LeanMiners.{LeanMiners}
 use Rattle.link_schedule.specs.declared.miners.Miners.{Miners}
 use Rattle.link_schedule.specs.Coming.{Gives, ForEachOf, AreOfUse, drawn_by, left_to}
-use Rattle.link_schedule.specs.Lean.{Can, LeanStates, Way, streams, sent_on, fetched, fetched_on, way_of, passed, unfetched, AreLean, CanPass, HasPassed}
+use Rattle.link_schedule.specs.Miners.{Can, MinerStates, Way, streams, sent_on, fetched, fetched_on, way_of, passed, unfetched, AreOf, CanPass, HasPassed}
 use Rattle.link_schedule.specs.Parts.{Stories, sent_in, story_in}
-use Rattle.link_schedule.specs.Streams.{miner_in, AreTapesOf}
+use Rattle.link_schedule.specs.Streams.{ThreeStreams, miner_in, AreTapesOf}
 use Rattle.link_schedule.proofs.Coming.{comes_to, other_one, other_two, other_three, story_at}
 use Rattle.link_schedule.proofs.Deliveries.{is_number, none_is_some, same_number}
 use Rattle.link_schedule.proofs.Drawing.{filled, filled_tapes, some_tapes}
@@ -49,10 +47,10 @@ none_is_left m sent k going has none =
 -- ---- one tape of three
 
 -- this one for a miner, and others that the others may have
-abbrev tapes_with : Miners → Number → List ℕ → Tapes
+abbrev tapes_with : ThreeStreams → Number → List ℕ → Tapes
 tapes_with m i tape j = if is_same i j then tape else filled_tapes (drawn_by m) (left_to m) j
 
-may_be : (m : Miners) (i : Number) (tape : List ℕ) → IsTapeOf (drawn_by m i) (left_to m i) tape → AreTapesOf (drawn_by m) (left_to m) (tapes_with m i tape)
+may_be : (m : ThreeStreams) (i : Number) (tape : List ℕ) → IsTapeOf (drawn_by m i) (left_to m i) tape → AreTapesOf (drawn_by m) (left_to m) (tapes_with m i tape)
 may_be m i tape of j = by_number (is_same i j) refl
   where
     by_number : (b : Bool) → is_same i j ≡ b → IsTapeOf (drawn_by m j) (left_to m j) (if b then tape else filled_tapes (drawn_by m) (left_to m) j)
@@ -60,14 +58,14 @@ may_be m i tape of j = by_number (is_same i j) refl
     by_number false e = some_tapes (drawn_by m) (left_to m) j
 
 -- what holds of a miner with all three tapes holds with each of its own
-pub each_tape : (m : Miners) (i : Number) (Q : Story → Type 0) → AreOfUse m → ForEachOf m (λ st. Q (story_in st i)) → ForEachTape (miner_in m i) Q
+pub each_tape : (m : ThreeStreams) (i : Number) (Q : Story → Type 0) → AreOfUse m → ForEachOf m (λ st. Q (story_in st i)) → ForEachTape (miner_in m i) Q
 each_tape m i Q usable each = λ going tape of.
     let tapes = tapes_with m i tape in
     let own : tapes i ≡ tape = ap (λ b. if b then tape else filled_tapes (drawn_by m) (left_to m) i) (same_number i) in
     subst Q (story_at m tapes i ∙ ap (with_tape (miner_in m i)) own) (each usable tapes (may_be m i tape of))
 
 -- and the other way about
-pub all_tapes : (m : Miners) (i : Number) (Q : Story → Type 0) → ForEachTape (miner_in m i) Q → ForEachOf m (λ st. Q (story_in st i))
+pub all_tapes : (m : ThreeStreams) (i : Number) (Q : Story → Type 0) → ForEachTape (miner_in m i) Q → ForEachOf m (λ st. Q (story_in st i))
 all_tapes m i Q each = λ usable tapes of. subst Q (sym (story_at m tapes i)) (each (usable i) (tapes i) (of i))
 
 -- ---- links
@@ -88,7 +86,7 @@ none_fetched one two three Link23 = refl
 none_fetched one two three Link31 = refl
 none_fetched one two three Link32 = refl
 
-pub one_fetched : (l k : Link) (s : StreamState) (w : LeanStates) → fetched (passed l s w) k ≡ one_more l (fetched w) k
+pub one_fetched : (l k : Link) (s : StreamState) (w : MinerStates) → fetched (passed l s w) k ≡ one_more l (fetched w) k
 one_fetched Link12 Link12 s w = refl
 one_fetched Link13 Link13 s w = refl
 one_fetched Link21 Link21 s w = refl
@@ -98,7 +96,7 @@ one_fetched Link32 Link32 s w = refl
 one_fetched _ _ s w = refl
 
 -- the receiver has come to this, and the others stay as they were
-receiver_so : (l : Link) (s : StreamState) (w : LeanStates) → miner_in (streams (passed l s w)) (receiver_of l) ≡ s
+receiver_so : (l : Link) (s : StreamState) (w : MinerStates) → miner_in (streams (passed l s w)) (receiver_of l) ≡ s
 receiver_so Link12 s w = refl
 receiver_so Link13 s w = refl
 receiver_so Link21 s w = refl
@@ -106,7 +104,7 @@ receiver_so Link23 s w = refl
 receiver_so Link31 s w = refl
 receiver_so Link32 s w = refl
 
-others_so : (l : Link) (s : StreamState) (w : LeanStates) (j : Number) → is_same (receiver_of l) j ≡ false →
+others_so : (l : Link) (s : StreamState) (w : MinerStates) (j : Number) → is_same (receiver_of l) j ≡ false →
     miner_in (streams (passed l s w)) j ≡ miner_in (streams w) j
 others_so Link12 s w j e = other_two (streams w) s j e
 others_so Link13 s w j e = other_three (streams w) s j e
@@ -118,17 +116,17 @@ others_so Link32 s w j e = other_two (streams w) s j e
 -- ---- a message passes
 
 pub between :
-    {S R : Type 0} {way : Way} {i j : Number} {l : Link} {from : LeanMiner S} {to : LeanMiner R}
-    {w v : LeanState} {a : TapesState} → IsLeanOf i from w → IsLeanOf j to v →
+    {S R : Type 0} {way : Way} {i j : Number} {l : Link} {from : MinerSeen S} {to : MinerSeen R}
+    {w v : MinerState} {a : TapesState} → IsOf i from w → IsOf j to v →
     w.stream.lost ≡ None → v.stream.lost ≡ None → receiver_of l ≡ j → left_for j a ≡ v.stream.ahead →
     ForEachTape w.stream (λ s. fetched_on way w < length (sent_on way i s)) → Can way i j l from to w v a
 between sender receiver sending going link left has =
     record { sender = sender; receiver = receiver; sending = sending; going = going; link = link; left = left; has = has }
 
 pub has_passed :
-    (l : Link) (m after : LeanMiners) (w : LeanStates) (a b : TapesState) (r : Result (Unit {0}) Lost) → CanPass l m w a → (s : StreamState) (msg : List ℕ) →
+    (l : Link) (m after : Miners) (w : MinerStates) (a b : TapesState) (r : Result (Unit {0}) Lost) → CanPass l m w a → (s : StreamState) (msg : List ℕ) →
     ForEachTape (miner_in (streams w) (sender_of l)) (λ st. slice_get (sent_on (way_of l) (sender_of l) st) (fetched w l) ≡ Some msg) →
-    Gives (receiver_of l) l msg (miner_in (streams w) (receiver_of l)) s a b r → OnOk r (AreLean after (passed l s w)) → HasPassed l w after a b r
+    Gives (receiver_of l) l msg (miner_in (streams w) (receiver_of l)) s a b r → OnOk r (AreOf after (passed l s w)) → HasPassed l w after a b r
 has_passed l m after w a b r can s msg oldest g are =
     record {
       stream = s;

@@ -92,11 +92,11 @@ awaited_of (Ok (step.Waits l)) = Some l
 awaited_of (Ok (step.Ended end)) = None
 awaited_of (Err (error.BadMessage l cause)) = Some l
 awaited_of (Err (error.NotAwaited l)) = None
-awaited_of (Err error.Memory) = None
+awaited_of (Err (error.Lost why)) = None
 
 pub awaited_is : (i : Number) (s : Story) (r : Result Step MinerErr) → IsAnswer i s r → awaited_of r ≡ waits_for (node i s).left
 awaited_is i s (Ok (step.Waits l)) h = sym (awaits_is (strand_in i s) (mail_in i s) l h)
 awaited_is i s (Ok (step.Ended end)) h = sym (ended_is (node i s).left end h)
 awaited_is i s (Err (error.BadMessage l cause)) h = sym (refuses_is (strand_in i s) (mail_in i s) l cause h)
 awaited_is i s (Err (error.NotAwaited l)) h = absurd h
-awaited_is i s (Err error.Memory) h = absurd h
+awaited_is i s (Err (error.Lost why)) h = absurd h

@@ -1,6 +1,6 @@
 pub mod Answers
 pub mod Coming
-pub mod Lean
+pub mod Miners
 pub mod Net
 pub mod Orders
 pub mod Parts

@@ -12,23 +12,24 @@ use Rattle.gates.specs.Clear.{Values}
 use Rattle.language_model.specs.Effects.{World}
 use Rattle.verified_code.specs.Steps.{Function}
 use Rattle.miner_core.specs.declared.answer.Lost.{Lost}
+use Rattle.miner_core.specs.declared.kept.Kept.{Kept}
 use Rattle.miner_core.specs.Drawing.{left_for, IsLostBy}
 use Rattle.miner_core.specs.Streams.{StreamState, has_lost, with_tape}
 use Rattle.link_schedule.specs.declared.errors.DeliverErr.{DeliverErr}
 use Rattle.link_schedule.specs.declared.errors.DeliverErr.TheVariants as delivering
 use Rattle.link_schedule.specs.declared.errors.RunErr.{RunErr}
 use Rattle.link_schedule.specs.declared.errors.RunErr.TheVariants as running
-use Rattle.link_schedule.specs.declared.miners.Miners.{Miners}
 use Rattle.link_schedule.specs.Net.{NetState, by_number}
 use Rattle.link_schedule.specs.Parts.{Stories, IsAt}
 
 -- ---- the net
 
--- what a miner was dealt, the words of its tape that it has drawn, and how many are left after these
+-- what a miner was dealt, the words of its tape that it has drawn, how many are left after these, and whether it lets go what is done with
 pub record StreamOwn : Type 0 where
   pub dealt : Values
   pub drawn : List ℕ
   pub ahead : ℕ
+  pub past : Kept
 
 pub record StreamNet : Type 0 where
   -- what all three were made with
@@ -49,6 +50,9 @@ drawn_in s i = (by_number s.one s.two s.three i).drawn
 
 abbrev pub ahead_in : StreamNet → Number → ℕ
 ahead_in s i = (by_number s.one s.two s.three i).ahead
+
+abbrev pub past_in : StreamNet → Number → Kept
+past_in s i = (by_number s.one s.two s.three i).past
 
 -- the net of three miners that have these tapes
 abbrev pub with_tapes : StreamNet → Tapes → NetState
@@ -82,19 +86,24 @@ HasLeft s tapes = s.lost ≡ None → (i : Number) → left_for i tapes ≡ ahea
 
 -- ---- its miners
 
-abbrev pub miner_in : Miners → Number → StreamState
+pub record ThreeStreams : Type 0 where
+  pub one : StreamState
+  pub two : StreamState
+  pub three : StreamState
+
+abbrev pub miner_in : ThreeStreams → Number → StreamState
 miner_in m i = by_number m.one m.two m.three i
 
 -- their stories with these tapes
-abbrev pub stories_with : Miners → Tapes → Stories
+abbrev pub stories_with : ThreeStreams → Tapes → Stories
 stories_with m tapes =
     record { one = with_tape m.one (tapes One); two = with_tape m.two (tapes Two); three = with_tape m.three (tapes Three) }
 
 abbrev pub own_stream : StreamState → StreamOwn
-own_stream m = record { dealt = m.story.dealt; drawn = m.story.tape; ahead = m.ahead }
+own_stream m = record { dealt = m.story.dealt; drawn = m.story.tape; ahead = m.ahead; past = m.past }
 
 -- what they are together, after these deliveries
-abbrev pub net_of : Miners → List Link → Option Lost → StreamNet
+abbrev pub net_of : ThreeStreams → List Link → Option Lost → StreamNet
 net_of m links lost =
     record {
       world = m.one.story.world;
@@ -156,6 +165,7 @@ module _ (before after : StreamNet) (old new : TapesState) where
     pub going : after.lost ≡ None
     pub drawn : (i : Number) → drawn_in after i ≡ drawn_in before i ++ taken i
     pub left : (i : Number) → left_for i new ≡ ahead_in after i
+    pub past : (i : Number) → past_in after i ≡ past_in before i
 
   -- it is of no further use from now on, for this cause
   pub record IsLostNow (why : Lost) : Type 0 where

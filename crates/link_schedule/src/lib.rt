@@ -1,11 +1,9 @@
 //! Three miners joined by links, whose tapes are drawn from a source. Messages are delivered one by one, each the oldest of its link that
-//! wasn't: in the order of a schedule, in the default order, or in one that a seed chooses. A net keeps all that views tell, or lets it go.
+//! wasn't: in the order of a schedule, in the default order, or in one that a seed chooses.
 #![tactic(auto)]
 
 mod errors;
 mod laws;
-mod lean_miners;
-mod lean_net;
 mod miners;
 mod net;
 mod orders;
@@ -13,5 +11,4 @@ mod schedules;
 
 pub use errors::{DeliverErr, RunErr};
 pub use laws::{deliveries_add_up, made_orders_are_those_of_the_scripts, what_came_was_sent};
-pub use lean_net::LeanNet;
 pub use net::Net3;

@@ -1,26 +1,27 @@
-ghost use Rattle.std.specs.Prelude.{◌≡◌, true, false, [], ◌∷◌, length, Err, None, OnOk, IfSome, IfNone};
+ghost use Rattle.std.specs.Prelude.{◌≡◌, ◌+◌, true, false, [], ◌∷◌, length, Err, None, OnOk, IfSome};
 ghost use Rattle.outside.specs.Tapes.{TapesState};
 ghost use Rattle.proto_core.specs.declared.party.Number.TheVariants.{One, Two, Three};
-ghost use Rattle.proto_core.specs.Net.{under_way};
+ghost use Rattle.miner_core.specs.Streams.{StreamState};
 ghost use Rattle.link_schedule.specs.declared.errors.DeliverErr.TheVariants as delivering;
-ghost use Rattle.link_schedule.specs.Net.{after, is_under_way, net_mail, net_posted, nodes_in};
-ghost use Rattle.link_schedule.specs.Parts.{AreAlike};
-ghost use Rattle.link_schedule.specs.Streams.{new_net, lost_by, delivery_lost, Along, ForEachTapes, HasLeft, IsFreshStream, IsMinerOf};
+ghost use Rattle.link_schedule.specs.Miners.{AreNew, ForEachState, GoesAlong, IsMinerAt, IsNetOf, IsOnItsWay, IsSomeNet};
+ghost use Rattle.link_schedule.specs.Net.{after, is_under_way, net_posted};
+ghost use Rattle.link_schedule.specs.Streams.{new_net, lost_by, delivery_lost, ForEachTapes, HasLeft, StreamNet};
 ghost use Rattle.link_schedule.specs.Answers.{DeliverAnswers};
 
 use crate::errors::DeliverErr;
 use crate::miners::Miners;
 use counted_net::Tally;
-use miner_core::{Lost, StreamMiner};
+use miner_core::{Lost, Miner};
 use outside::TapeSource;
-use proto_core::{Link, Msg, P1, P2, P3};
+use proto_core::{Link, P1, P2, P3};
 use std::alloc::Global;
-use std::marker::Model;
 
-/// Three miners and their links, whose tapes are drawn from one source, word by word as their gates begin. Contracts see what the three were
-/// made with, the words that each has drawn and how many it has left, and the link of each delivery in order. With these it is said
-/// which messages were delivered, what each miner has done, and where it stands: what is said holds with all three tapes that begin with the words
-/// drawn, and have as many after them as are left.
+/// Three miners and their links, whose tapes are drawn from one source, word by word as their gates begin. Its miners keep all, or let go what is
+/// done with: then no view of its run can be told.
+///
+/// Contracts speak of it by the states that it may be in (`IsNetOf`): what the three were made with, the words that each has drawn and how many it
+/// has left, and the link of each delivery in order. With these it is said which messages were delivered, what each miner has done, and where it
+/// stands: what is said holds with all three tapes that begin with the words drawn, and have as many after them as are left.
 ///
 /// Once memory ran out or a tape couldn't be read, it is of no further use: each call that delivers answers so.
 pub struct Net3 {
@@ -42,30 +43,13 @@ impl Drop for Net3 {
     }
 }
 
-impl Model for Net3 {
-    ghost use Rattle.std.specs.Prelude.{◌≡◌, None};
-    ghost use Rattle.counted_net.specs.Cursors.{tally_on};
-    ghost use Rattle.link_schedule.specs.Coming.{AreNet};
-    ghost use Rattle.link_schedule.specs.Streams.{StreamNet, net_of};
-
-    ghost Value = { StreamNet };
-
-    ghost view = { λ n. net_of n.miners n.recorded.items n.lost };
-
-    ghost invariant = { λ n. n.lost ≡ None → AreNet n.miners n.recorded.items (tally_on n.given) };
-}
-
 impl Net3 {
     /// Three miners that were made with one code, budget and public part of the inputs, and to which nothing was delivered.
-    pub fn new(
-        miner1: StreamMiner<P1>,
-        miner2: StreamMiner<P2>,
-        miner3: StreamMiner<P3>,
-        alloc: Global,
-    ) -> Net3
-        requires alike { AreAlike miner1.story miner2.story × AreAlike miner1.story miner3.story }
-        requires fresh { IsFreshStream miner1 × IsFreshStream miner2 × IsFreshStream miner3 }
-        ensures { result ≡ new_net miner1 miner2 miner3 }
+    pub fn new(miner1: Miner<P1>, miner2: Miner<P2>, miner3: Miner<P3>, alloc: Global) -> Net3
+        ensures net { (one two three : StreamState) → AreNew miner1 miner2 miner3 one two three → IsNetOf result (new_net one two three) }
+        ensures one { result.miners.one ≡ miner1 }
+        ensures two { result.miners.two ≡ miner2 }
+        ensures three { result.miners.three ≡ miner3 }
     {
         Net3 {
             miners: Miners {
@@ -79,49 +63,18 @@ impl Net3 {
         }
     }
 
-    /// How many messages were sent on a link.
-    fn sent(&self, link: Link) -> usize
-        ensures { ForEachTapes self.now (λ net. result ≡ length (net_posted net link)) }
-    {
-        self.miners.sent_on(link).len()
-    }
-
     /// Whether a message of this link is under way.
     pub(crate) fn is_under_way(&self, link: Link) -> bool
-        ensures { ForEachTapes self.now (λ net. result ≡ is_under_way net link) }
+        ensures { (s : StreamNet) → IsNetOf self.now s → ForEachTapes s (λ net. result ≡ is_under_way net link) }
     {
-        self.given.on(link) < self.sent(link)
+        self.miners.oldest(link).is_some()
     }
 
-    /// The oldest message of a link that wasn't delivered.
-    fn under_way(&self, link: Link) -> Option<Msg>
-        ensures some { ForEachTapes self.now (λ net. IfSome result (λ m.
-            (is_under_way net link ≡ true) × (under_way (nodes_in net) (net_mail net) link ≡ m ∷ []))) }
-        ensures none { ForEachTapes self.now (λ net. IfNone result (is_under_way net link ≡ false)) }
+    /// How many messages were sent on a link of which all are delivered.
+    fn sent(&self, link: Link) -> usize
+        ensures { (s : StreamNet) → IsNetOf self.now s → ForEachTapes s (λ net. is_under_way net link ≡ false → result ≡ length (net_posted net link)) }
     {
-        self.miners.sent_on(link).get(self.given.on(link))
-    }
-
-    /// The message that is under way on a link comes.
-    fn give<T: TapeSource>(&mut self, link: Link, message: &Msg, tapes: &mut T) -> Result<(), Lost>
-        requires going { self.old.lost ≡ None }
-        requires left { HasLeft self.old (T.state tapes.old) }
-        requires under_way { ForEachTapes self.old (λ net. is_under_way net link ≡ true) }
-        requires message { ForEachTapes self.old (λ net. under_way (nodes_in net) (net_mail net) link ≡ message.now ∷ []) }
-        ensures { Along self.old self.new (T.state tapes.old) (T.state tapes.new) (lost_by result) (λ net then. OnOk result (then ≡ after net (link ∷ []))) }
-    {
-        // It stays so where this stops early.
-        self.lost = Some(Lost::Memory);
-        if let Err(lost) = self.miners.give(link, message, tapes) {
-            self.lost = Some(lost);
-            return Err(lost);
-        }
-        if let Err(_) = self.recorded.push(link) {
-            return Err(Lost::Memory);
-        }
-        self.given.add(link);
-        self.lost = None;
-        Ok(())
+        self.given.on(link)
     }
 
     /// Delivers on a link that has a message under way.
@@ -130,15 +83,21 @@ impl Net3 {
         link: Link,
         tapes: &mut T,
     ) -> Result<(), Lost>
-        requires going { self.old.lost ≡ None }
-        requires left { HasLeft self.old (T.state tapes.old) }
-        requires full { ForEachTapes self.old (λ net. is_under_way net link ≡ true) }
-        ensures { Along self.old self.new (T.state tapes.old) (T.state tapes.new) (lost_by result) (λ net then. OnOk result (then ≡ after net (link ∷ []))) }
+        requires { (s : StreamNet) × IsNetOf self.old s × (s.lost ≡ None) × HasLeft s (T.state tapes.old) × IsOnItsWay link s }
+        ensures delivers { ForEachState self.old (T.state tapes.old) (λ s. IsOnItsWay link s →
+            GoesAlong s self.new (T.state tapes.old) (T.state tapes.new) (lost_by result) (λ net then. OnOk result (then ≡ after net (link ∷ [])))) }
+        ensures recorded { OnOk result (length self.new.recorded.items ≡ length self.old.recorded.items + 1) }
     {
-        match self.under_way(link) {
-            Some(message) => self.give(link, &message, tapes),
-            None => unreachable!(),
+        if let Err(lost) = self.miners.pass(link, tapes) {
+            self.lost = Some(lost);
+            return Err(lost);
         }
+        if let Err(_) = self.recorded.push(link) {
+            self.lost = Some(Lost::Memory);
+            return Err(Lost::Memory);
+        }
+        self.given.add(link);
+        Ok(())
     }
 
     /// The oldest message of a link that wasn't delivered comes to its receiver, which does all that it leads to. The source has the words
@@ -148,9 +107,9 @@ impl Net3 {
     /// `TapeFault` comes only where the source counted a fault in this call, or where an earlier call on this net has answered it: then each
     /// call answers the same.
     pub fn deliver<T: TapeSource>(&mut self, link: Link, tapes: &mut T) -> Result<(), DeliverErr>
-        requires { HasLeft self.old (T.state tapes.old) }
-        ensures answers { self.old.lost ≡ None → Along self.old self.new (T.state tapes.old) (T.state tapes.new) (delivery_lost result)
-            (λ net then. DeliverAnswers net then link result) }
+        requires { IsSomeNet self.old (T.state tapes.old) }
+        ensures answers { ForEachState self.old (T.state tapes.old) (λ s.
+            GoesAlong s self.new (T.state tapes.old) (T.state tapes.new) (delivery_lost result) (λ net then. DeliverAnswers net then link result)) }
         ensures lost { IfSome self.old.lost (λ why. (result ≡ Err (delivering.Lost why)) × (self.new ≡ self.old) × (tapes.new ≡ tapes.old)) }
     {
         if let Some(lost) = self.lost {
@@ -169,28 +128,31 @@ impl Net3 {
 
     /// The link of each delivery so far, in order.
     pub fn recorded(&self) -> &[Link]
-        ensures { result.now ≡ self.now.delivered }
+        ensures { (s : StreamNet) → IsNetOf self.now s → result.now ≡ s.delivered }
     {
         &self.recorded
     }
 
     /// The first miner.
-    pub fn miner1(&self) -> &StreamMiner<P1>
-        ensures { self.now.lost ≡ None → IsMinerOf self.now One result.now }
+    pub fn miner1(&self) -> &Miner<P1>
+        ensures miner { (s : StreamNet) → IsNetOf self.now s → s.lost ≡ None → IsMinerAt s One result.now }
+        ensures own { result.now ≡ self.now.miners.one }
     {
         &self.miners.one
     }
 
     /// The second miner.
-    pub fn miner2(&self) -> &StreamMiner<P2>
-        ensures { self.now.lost ≡ None → IsMinerOf self.now Two result.now }
+    pub fn miner2(&self) -> &Miner<P2>
+        ensures miner { (s : StreamNet) → IsNetOf self.now s → s.lost ≡ None → IsMinerAt s Two result.now }
+        ensures own { result.now ≡ self.now.miners.two }
     {
         &self.miners.two
     }
 
     /// The third miner.
-    pub fn miner3(&self) -> &StreamMiner<P3>
-        ensures { self.now.lost ≡ None → IsMinerOf self.now Three result.now }
+    pub fn miner3(&self) -> &Miner<P3>
+        ensures miner { (s : StreamNet) → IsNetOf self.now s → s.lost ≡ None → IsMinerAt s Three result.now }
+        ensures own { result.now ≡ self.now.miners.three }
     {
         &self.miners.three
     }

@@ -1,11 +1,12 @@
 // Orders of deliveries that a net makes itself.
-ghost use Rattle.std.specs.Prelude.{◌≡◌, ◌<◌, ◌^◌, length, Err, None, IfSome, OnOk};
+ghost use Rattle.std.specs.Prelude.{◌≡◌, Err, IfSome, OnOk};
 ghost use Rattle.outside.specs.Tapes.{TapesState};
 ghost use Rattle.protocol_model.specs.Network.{chosen};
 ghost use Rattle.tape_file.specs.Seeds.{stream_word};
 ghost use Rattle.link_schedule.specs.Net.{net_mail, nodes_in};
 ghost use Rattle.link_schedule.specs.Orders.{full_links, Makes};
-ghost use Rattle.link_schedule.specs.Streams.{lost_by, Along, ForEachTapes, HasLeft};
+ghost use Rattle.link_schedule.specs.Miners.{ForEachState, GoesAlong, IsNetOf, IsSomeNet};
+ghost use Rattle.link_schedule.specs.Streams.{lost_by, ForEachTapes, StreamNet};
 
 use crate::net::Net3;
 use counted_net::{ORDER_STREAM, chosen_link};
@@ -19,11 +20,9 @@ use rand_core::utils::NextWord;
 impl Net3 {
     /// Of the links with a message under way, in order, the one that a word chooses.
     fn chosen(&self, word: u32) -> Option<Link>
-        ensures chosen { ForEachTapes self.now (λ net. result ≡ chosen word (full_links (nodes_in net) (net_mail net))) }
-        ensures bound { length self.now.delivered < 2 ^ 63 }
+        ensures { (s : StreamNet) → IsNetOf self.now s →
+            ForEachTapes s (λ net. result ≡ chosen word (full_links (nodes_in net) (net_mail net))) }
     {
-        // For the proof: a vector's length is below 2^63.
-        let _recorded = &self.recorded;
         let full = [
             self.is_under_way(Link::Link12),
             self.is_under_way(Link::Link13),
@@ -38,9 +37,9 @@ impl Net3 {
     /// Delivers always the first link, in the order 12, 13, 21, 23, 31, 32, that has a message under way, until none has. `TapeFault` comes as
     /// from `deliver`.
     pub fn drain<T: TapeSource>(&mut self, tapes: &mut T) -> Result<(), Lost>
-        requires { HasLeft self.old (T.state tapes.old) }
-        ensures made { self.old.lost ≡ None → Along self.old self.new (T.state tapes.old) (T.state tapes.new) (lost_by result)
-            (λ net then. OnOk result (Makes (λ k. 0) net then)) }
+        requires { IsSomeNet self.old (T.state tapes.old) }
+        ensures made { ForEachState self.old (T.state tapes.old) (λ s.
+            GoesAlong s self.new (T.state tapes.old) (T.state tapes.new) (lost_by result) (λ net then. OnOk result (Makes (λ k. 0) net then))) }
         ensures lost { IfSome self.old.lost (λ why. (result ≡ Err why) × (self.new ≡ self.old) × (tapes.new ≡ tapes.old)) }
     {
         if let Some(lost) = self.lost {
@@ -56,9 +55,10 @@ impl Net3 {
     /// `w` is the next 32-bit word of stream 4 of ChaCha20 under the seed: one for each delivery, also where `k` is 1. `TapeFault` comes as
     /// from `deliver`.
     pub fn shuffled<T: TapeSource>(&mut self, seed: [u8; 32], tapes: &mut T) -> Result<(), Lost>
-        requires { HasLeft self.old (T.state tapes.old) }
-        ensures made { self.old.lost ≡ None → Along self.old self.new (T.state tapes.old) (T.state tapes.new) (lost_by result)
-            (λ net then. OnOk result (Makes (stream_word seed 4) net then)) }
+        requires { IsSomeNet self.old (T.state tapes.old) }
+        ensures made { ForEachState self.old (T.state tapes.old) (λ s.
+            GoesAlong s self.new (T.state tapes.old) (T.state tapes.new) (lost_by result)
+            (λ net then. OnOk result (Makes (stream_word seed 4) net then))) }
         ensures lost { IfSome self.old.lost (λ why. (result ≡ Err why) × (self.new ≡ self.old) × (tapes.new ≡ tapes.old)) }
     {
         if let Some(lost) = self.lost {

@@ -1,9 +1,10 @@
 // A net under a schedule.
-ghost use Rattle.std.specs.Prelude.{◌≡◌, Err, None, IfSome};
+ghost use Rattle.std.specs.Prelude.{◌≡◌, Err, IfSome};
 ghost use Rattle.outside.specs.Tapes.{TapesState};
 ghost use Rattle.link_schedule.specs.declared.errors.RunErr.TheVariants as running;
 ghost use Rattle.link_schedule.specs.Answers.{EndAnswers, RunAnswers};
-ghost use Rattle.link_schedule.specs.Streams.{run_lost, Along, ForEachTapes, HasLeft};
+ghost use Rattle.link_schedule.specs.Miners.{ForEachState, GoesAlong, IsNetOf, IsSomeNet};
+ghost use Rattle.link_schedule.specs.Streams.{run_lost, ForEachTapes, StreamNet};
 
 use crate::errors::{DeliverErr, RunErr};
 use crate::miners::awaited;
@@ -14,7 +15,7 @@ use proto_core::{Link, Number};
 impl Net3 {
     /// The lowest miner that waits is named, if one does.
     fn stalled(&self) -> Result<(), RunErr>
-        ensures { ForEachTapes self.now (λ net. EndAnswers net result) }
+        ensures { (s : StreamNet) → IsNetOf self.now s → ForEachTapes s (λ net. EndAnswers net result) }
     {
         if let Some(link) = awaited(&self.miners.one) {
             let miner = Number::One;
@@ -36,9 +37,9 @@ impl Net3 {
     /// `EmptyLink` names the first entry whose link has no message under way; those before it are delivered. `Stalled` comes where all are
     /// delivered and a miner still waits. `TapeFault` comes as from `deliver`.
     pub fn run<T: TapeSource>(&mut self, schedule: &[Link], tapes: &mut T) -> Result<(), RunErr>
-        requires { HasLeft self.old (T.state tapes.old) }
-        ensures answers { self.old.lost ≡ None → Along self.old self.new (T.state tapes.old) (T.state tapes.new) (run_lost result)
-            (λ net then. RunAnswers net then schedule.now result) }
+        requires { IsSomeNet self.old (T.state tapes.old) }
+        ensures answers { ForEachState self.old (T.state tapes.old) (λ s.
+            GoesAlong s self.new (T.state tapes.old) (T.state tapes.new) (run_lost result) (λ net then. RunAnswers net then schedule.now result)) }
         ensures lost { IfSome self.old.lost (λ why. (result ≡ Err (running.Lost why)) × (self.new ≡ self.old) × (tapes.new ≡ tapes.old)) }
     {
         if let Some(lost) = self.lost {

@@ -3,19 +3,19 @@ use Rattle.std.proofs.Common.{◌≡◌, ℕ, ◌≤◌, List, ◌++◌, length,
 use Rattle.std.proofs.Common.{arith}
 use Rattle.std.proofs.lemmas.List.{length-map, take-append-le, take-map}
 use Rattle.std.proofs.lemmas.Option.{none-some}
-use Rattle.typed_tree.specs.declared.kinds.Shape.{Shape}
-use Rattle.typed_tree.specs.declared.function.Returned.{Returned}
-use Rattle.typed_tree.specs.declared.function.Returned.TheVariants.{Nothing, Value}
-use Rattle.typed_tree.specs.Programs.{TypedFunctionTree}
+use Rattle.program_trees.specs.declared.kinds.Shape.{Shape}
+use Rattle.program_trees.specs.declared.typed_function.Returned.{Returned}
+use Rattle.program_trees.specs.declared.typed_function.Returned.TheVariants.{Nothing, Value}
+use Rattle.program_trees.specs.TypedPrograms.{TypedFunctionTree}
 use Rattle.reached_instances.specs.declared.instance.BoundDomain.{BoundDomain}
 use Rattle.reached_instances.specs.Domains.{given_domain, call_domain}
 use Rattle.language_model.specs.Evaluation.{is_private, bound_at, slots_of}
 use Rattle.bytecode.specs.declared.kind.Kind.{Kind}
-use Rattle.raw_steps.specs.Kinds.{kind_of, slot_kind, rows_kinds, returned_shape, called_shape}
-use Rattle.raw_steps.specs.Kinded.{HasKind, ResultFits}
-use Rattle.raw_steps.specs.Statements.{defaults_behind, statements_depth}
-use Rattle.raw_steps.specs.Expressions.{Numbers, given_at, result_at}
-use Rattle.raw_steps.specs.Programs.{given_kind, last_kinds, code_of_found}
+use Rattle.code_model.specs.Kinds.{kind_of, slot_kind, rows_kinds, returned_shape, called_shape}
+use Rattle.code_model.specs.Kinded.{HasKind, ResultFits}
+use Rattle.code_model.specs.Statements.{defaults_behind, statements_depth}
+use Rattle.code_model.specs.Expressions.{Numbers, given_at, result_at}
+use Rattle.code_model.specs.Programs.{given_kind, last_kinds, code_of_found}
 use Rattle.well_typed.specs.Expressions.{shape_given}
 
 abbrev pub parameters_of : Option TypedFunctionTree → ℕ

@@ -1,15 +1,15 @@
 -- The code of branches and loops is right where that of their parts is.
 use Rattle.std.proofs.Common.{ℕ, ◌+◌, ◌<◌, List, [], ◌∷◌, ◌++◌, length, Option, Bool, true, false}
 use Rattle.std.proofs.Common.{arith, length-append}
-use Rattle.secrec_ast.specs.declared.expression.DataType.TheVariants as datatype
-use Rattle.typed_tree.specs.declared.kinds.Shape.{Shape}
+use Rattle.program_trees.specs.declared.expression.DataType.TheVariants as datatype
+use Rattle.program_trees.specs.declared.kinds.Shape.{Shape}
 use Rattle.bytecode.specs.declared.kind.Kind.{Kind}
 use Rattle.verified_code.specs.Steps.{Step, Function, Branch, Jump}
-use Rattle.raw_steps.specs.Kinds.{kind_of}
-use Rattle.raw_steps.specs.Kinded.{HasKind, public_scalar}
-use Rattle.raw_steps.specs.Expressions.{classifying, picked, lacks}
-use Rattle.raw_steps.specs.Statements.{if_code, loop_code, do_code, behind_classifying}
-use Rattle.raw_steps.specs.Right.{IsRight}
+use Rattle.code_model.specs.Kinds.{kind_of}
+use Rattle.code_model.specs.Kinded.{HasKind, public_scalar}
+use Rattle.code_model.specs.Expressions.{classifying, picked, lacks}
+use Rattle.code_model.specs.Statements.{if_code, loop_code, do_code, behind_classifying}
+use Rattle.code_model.specs.Right.{IsRight}
 use Rattle.lowered_code.proofs.Standing.{both_right, lacking_right}
 use Rattle.lowered_code.proofs.Rows.{Right, RightAt, RightAnywhere}
 

@@ -3,20 +3,20 @@ use Rattle.std.proofs.Common.{◌≡◌, ℕ, zero, suc, ◌+◌, ◌<◌, ◌�
 use Rattle.std.proofs.Common.{Option, Some, Bool, true, false, refl, sym, ap, ◌∙◌, subst}
 use Rattle.std.proofs.Common.{arith}
 use Rattle.std.specs.Prelude.{slice_get, max}
-use Rattle.secrec_ast.specs.declared.expression.DataType.TheVariants.{Uint64}
-use Rattle.secrec_ast.specs.declared.expression.DataType.TheVariants as datatype
-use Rattle.typed_tree.specs.declared.kinds.Shape.{Shape}
-use Rattle.typed_tree.specs.declared.kinds.Slot.{Slot}
-use Rattle.typed_tree.specs.declared.operators.BinaryOperator.{BinaryOperator}
-use Rattle.typed_tree.specs.declared.operators.BinaryOperator.TheVariants as binary
-use Rattle.typed_tree.specs.declared.operators.Operands.{Operands}
-use Rattle.typed_tree.specs.declared.operators.Operands.TheVariants.{Scalars}
-use Rattle.typed_tree.specs.declared.operators.Connective.{Connective}
-use Rattle.typed_tree.specs.Shapes.{shape_of}
-use Rattle.typed_tree.specs.Tree.{TypedTree, TypedTrees, word_node, truth_node, slot_node, call_node, size_node, cat_node, sum_node, bits_node, element_node}
-use Rattle.typed_tree.specs.Tree.{not_node, cast_node, binary_node, cut_node, declassify_node}
-use Rattle.typed_tree.specs.Tree as Tree'
-use Rattle.typed_tree.specs.Programs.{TypedFunctionTree}
+use Rattle.program_trees.specs.declared.expression.DataType.TheVariants.{Uint64}
+use Rattle.program_trees.specs.declared.expression.DataType.TheVariants as datatype
+use Rattle.program_trees.specs.declared.kinds.Shape.{Shape}
+use Rattle.program_trees.specs.declared.kinds.Slot.{Slot}
+use Rattle.program_trees.specs.declared.operators.BinaryOperator.{BinaryOperator}
+use Rattle.program_trees.specs.declared.operators.BinaryOperator.TheVariants as binary
+use Rattle.program_trees.specs.declared.operators.Operands.{Operands}
+use Rattle.program_trees.specs.declared.operators.Operands.TheVariants.{Scalars}
+use Rattle.program_trees.specs.declared.operators.Connective.{Connective}
+use Rattle.program_trees.specs.Shapes.{shape_of}
+use Rattle.program_trees.specs.TypedTree.{TypedTree, TypedTrees, word_node, truth_node, slot_node, call_node, size_node, cat_node, sum_node, bits_node, element_node}
+use Rattle.program_trees.specs.TypedTree.{not_node, cast_node, binary_node, cut_node, declassify_node}
+use Rattle.program_trees.specs.TypedTree as Tree'
+use Rattle.program_trees.specs.TypedPrograms.{TypedFunctionTree}
 use Rattle.reached_instances.specs.declared.instance.BoundDomain.{BoundDomain}
 use Rattle.reached_instances.specs.declared.instance.BoundDomain.TheVariants.{Public, Private}
 use Rattle.reached_instances.specs.Domains.{Setting, domain, domains, domain_under, slot_domain, joined_domain}
@@ -25,16 +25,16 @@ use Rattle.language_model.specs.Words.{truth_word}
 use Rattle.language_model.specs.Evaluation.{is_private, gives_private, slots_of, bound_at, connective, shape_at, either}
 use Rattle.bytecode.specs.declared.kind.Kind.{Kind}
 use Rattle.verified_code.specs.Steps.{Step, Function, Not, Cast, Size, Sum, Bits, Declassify, Call}
-use Rattle.raw_steps.specs.Fit.{IsFit, AreFit}
-use Rattle.raw_steps.specs.Kinds.{depth, depths, kind_of, slot_kind, shape_in, kind_in, private_kind_in, truth_kind, in_row}
-use Rattle.raw_steps.specs.Kinded.{HasKind, ResultFits, left_array, right_array}
-use Rattle.raw_steps.specs.Expressions.{Numbers, result_at, classifying, lacks, own_at, classified_at, stands_at, next_row, binary_code, cut_code}
-use Rattle.raw_steps.specs.Expressions.{expression_code}
-use Rattle.raw_steps.specs.Expressions.{expression_code}
-use Rattle.raw_steps.specs.Expressions.{arguments_code, arguments_places, unread_code}
-use Rattle.raw_steps.specs.Programs.{code_of_found}
-use Rattle.raw_steps.proofs.Widths.{depth_some}
-use Rattle.raw_steps.specs.Right.{kind, operand_element, AreOf, IsRight}
+use Rattle.code_model.specs.Fit.{IsFit, AreFit}
+use Rattle.code_model.specs.Kinds.{depth, depths, kind_of, slot_kind, shape_in, kind_in, private_kind_in, truth_kind, in_row}
+use Rattle.code_model.specs.Kinded.{HasKind, ResultFits, left_array, right_array}
+use Rattle.code_model.specs.Expressions.{Numbers, result_at, classifying, lacks, own_at, classified_at, stands_at, next_row, binary_code, cut_code}
+use Rattle.code_model.specs.Expressions.{expression_code}
+use Rattle.code_model.specs.Expressions.{expression_code}
+use Rattle.code_model.specs.Expressions.{arguments_code, arguments_places, unread_code}
+use Rattle.code_model.specs.Programs.{code_of_found}
+use Rattle.code_model.proofs.Widths.{depth_some}
+use Rattle.code_model.specs.Right.{kind, operand_element, AreOf, IsRight}
 use Rattle.well_typed.specs.Kinds.{scalar, operand_of, left_is_array, right_is_array}
 use Rattle.well_typed.specs.Expressions.{Gives, AreTaken}
 use Rattle.lowered_code.proofs.Standing.{clash, HasRows, row_first, rows_left, rows_second}

@@ -2,19 +2,19 @@
 use Rattle.std.proofs.Common.{◌≡◌, ℕ, zero, suc, List, [], ◌∷◌, take, Option, Some, None, Bool, true, false, ◌&&◌, ◌||◌, refl, sym, ap, ap₂, ◌∙◌, subst}
 use Rattle.std.specs.List.{slice_get}
 use Rattle.std.proofs.lemmas.Option.{slice_get_within}
-use Rattle.typed_tree.specs.declared.kinds.Shape.{Shape}
-use Rattle.typed_tree.specs.declared.kinds.Slot.{Slot}
-use Rattle.typed_tree.specs.declared.function.Returned.{Returned}
-use Rattle.typed_tree.specs.declared.function.Returned.TheVariants.{Nothing, Value}
-use Rattle.typed_tree.specs.Tree.{TypedTree, TypedTrees, word_node, truth_node, slot_node, call_node, size_node, cat_node, sum_node, bits_node, element_node}
-use Rattle.typed_tree.specs.Tree.{not_node, cast_node, binary_node, cut_node, declassify_node}
-use Rattle.typed_tree.specs.Tree as Tree'
-use Rattle.typed_tree.specs.Statements.{TypedStatementTree, TypedStatementTrees, empty_statement, block_statement, if_statement, loop_statement, do_statement}
-use Rattle.typed_tree.specs.Statements.{break_statement, continue_statement, return_statement, assert_statement, store_statement, default_statement}
-use Rattle.typed_tree.specs.Statements.{fill_statement, input_statement, element_statement, publish_statement, evaluate_statement}
-use Rattle.typed_tree.specs.Statements as Statements'
-use Rattle.typed_tree.specs.Programs.{TypedProgramTree}
-use Rattle.secrec_ast.specs.Programs.{ProgramTree}
+use Rattle.program_trees.specs.declared.kinds.Shape.{Shape}
+use Rattle.program_trees.specs.declared.kinds.Slot.{Slot}
+use Rattle.program_trees.specs.declared.typed_function.Returned.{Returned}
+use Rattle.program_trees.specs.declared.typed_function.Returned.TheVariants.{Nothing, Value}
+use Rattle.program_trees.specs.TypedTree.{TypedTree, TypedTrees, word_node, truth_node, slot_node, call_node, size_node, cat_node, sum_node, bits_node, element_node}
+use Rattle.program_trees.specs.TypedTree.{not_node, cast_node, binary_node, cut_node, declassify_node}
+use Rattle.program_trees.specs.TypedTree as Tree'
+use Rattle.program_trees.specs.TypedStatements.{TypedStatementTree, TypedStatementTrees, empty_statement, block_statement, if_statement, loop_statement, do_statement}
+use Rattle.program_trees.specs.TypedStatements.{break_statement, continue_statement, return_statement, assert_statement, store_statement, default_statement}
+use Rattle.program_trees.specs.TypedStatements.{fill_statement, input_statement, element_statement, publish_statement, evaluate_statement}
+use Rattle.program_trees.specs.TypedStatements as Statements'
+use Rattle.program_trees.specs.TypedPrograms.{TypedProgramTree}
+use Rattle.program_trees.specs.Programs.{ProgramTree}
 use Rattle.domain_types.specs.ProgramTypes.{IsAccepted}
 use Rattle.name_resolution.specs.Functions.{typed_of}
 use Rattle.reached_instances.specs.declared.instance.BoundDomain.{BoundDomain}
@@ -24,10 +24,10 @@ use Rattle.reached_instances.specs.Instances.{Instance}
 use Rattle.reached_instances.specs.Calls.{called, main_of}
 use Rattle.reached_instances.specs.Reached.{IsReachedList}
 use Rattle.language_model.specs.Evaluation.{StatementContext, is_private, bound_at, slots_of}
-use Rattle.raw_steps.specs.Fit as fit
-use Rattle.raw_steps.specs.Fit.{MayStand, IsFit, AreFit, FitsSlot, IsFitStatement, AreFitStatements, IsThere, IsFitAlone, IsFitProgram, the_main, gives_value}
-use Rattle.raw_steps.proofs.Means.{means}
-use Rattle.raw_steps.proofs.Reached.{reached_fit}
+use Rattle.code_model.specs.Fit as fit
+use Rattle.code_model.specs.Fit.{MayStand, IsFit, AreFit, FitsSlot, IsFitStatement, AreFitStatements, IsThere, IsFitAlone, IsFitProgram, the_main, gives_value}
+use Rattle.code_model.proofs.Means.{means}
+use Rattle.code_model.proofs.Reached.{reached_fit}
 use Rattle.well_typed.specs.Kinds.{GoesTo}
 use Rattle.well_typed.specs.Expressions.{Gives, AreTaken}
 use Rattle.well_typed.specs.Statements.{FitsInto, IsWellTypedStatement, AreWellTypedStatements}

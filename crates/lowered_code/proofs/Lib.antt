@@ -12,5 +12,5 @@ pub mod Registers
 pub mod RegistersOfBodies
 pub mod RegistersOfPrograms
 pub mod Limits
-pub use Rattle.raw_steps.proofs.Passing
-pub use Rattle.raw_steps.proofs.Names
+pub use Rattle.code_model.proofs.Passing
+pub use Rattle.code_model.proofs.Names

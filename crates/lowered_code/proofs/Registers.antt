@@ -2,22 +2,22 @@
 use Rattle.std.proofs.Common.{◌≡◌, ℕ, ◌+◌, ◌≤◌, List, [], ◌∷◌, length, map, Option, Some, None, Bool, true, false, cond, refl, ap, subst}
 use Rattle.std.proofs.Common.{arith}
 use Rattle.std.specs.Prelude.{nat_eq}
-use Rattle.secrec_ast.specs.Tree.{Tree, Trees, number, truth, variable, call, index, parentheses, negation, cast, binary, declassify, argument, publish}
-use Rattle.secrec_ast.specs.Tree as Tree'
+use Rattle.program_trees.specs.Tree.{Tree, Trees, number, truth, variable, call, index, parentheses, negation, cast, binary, declassify, argument, publish}
+use Rattle.program_trees.specs.Tree as Tree'
 use Rattle.domain_types.specs.BuiltIn.{BuiltIn}
 use Rattle.domain_types.specs.BuiltIn.TheVariants.{Size, Cat, Sum, BitExtract}
 use Rattle.domain_types.specs.Declarations.{Declared, Callee, built_in, defined, callee}
-use Rattle.typed_tree.specs.declared.operators.BinaryOperator.{BinaryOperator}
-use Rattle.typed_tree.specs.declared.operators.Connective.{Connective}
-use Rattle.typed_tree.specs.Tree.{TypedTree, call_node, typed_trees_of}
-use Rattle.typed_tree.specs.Operators.{operator_on, operands_of, may_cut_short}
+use Rattle.program_trees.specs.declared.operators.BinaryOperator.{BinaryOperator}
+use Rattle.program_trees.specs.declared.operators.Connective.{Connective}
+use Rattle.program_trees.specs.TypedTree.{TypedTree, call_node, typed_trees_of}
+use Rattle.program_trees.specs.Operators.{operator_on, operands_of, may_cut_short}
 use Rattle.name_resolution.specs.Scopes.{Scope, variable_named}
 use Rattle.name_resolution.specs.Sizes.{nodes, nodes_all}
 use Rattle.name_resolution.specs.Values.{TypedValue, TypedCall, of_both, variable_value, element_value, negated, cast_value, declassified_value, operation_node}
 use Rattle.name_resolution.specs.Values.{operation_made, operation, gives_value, with_shape, value_given, shape_returned, tree_of_value, built_in_value, called}
 use Rattle.name_resolution.specs.Values.{and_more, value, values}
 use Rattle.name_resolution.proofs.SoundValues.{mapped, both_there, then_there, some_is}
-use Rattle.raw_steps.proofs.Widths.{width, widths}
+use Rattle.code_model.proofs.Widths.{width, widths}
 
 -- arguments have a register more each
 abbrev pub all_widths : List TypedValue → ℕ

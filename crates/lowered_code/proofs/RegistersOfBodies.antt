@@ -1,22 +1,22 @@
 -- A statement and the slots that it declares have at most twice as many registers as its tree has nodes.
 use Rattle.std.proofs.Common.{◌≡◌, ℕ, ◌+◌, ◌≤◌, List, [], ◌∷◌, length, Option, Some, None, refl, ap, subst, arith, length-append}
 use Rattle.std.specs.Prelude.{option_map}
-use Rattle.secrec_ast.specs.declared.expression.DataType.{DataType}
-use Rattle.secrec_ast.specs.declared.expression.DataType.TheVariants.{Uint64}
-use Rattle.secrec_ast.specs.declared.expression.DataType.TheVariants as datatype
-use Rattle.secrec_ast.specs.declared.statement.Identifier.{Identifier}
-use Rattle.secrec_ast.specs.declared.statement.DeclaredType.{DeclaredType}
-use Rattle.secrec_ast.specs.Tree.{Tree, Trees, number, truth, variable, call, index, parentheses, negation, cast, binary, declassify, argument, publish}
-use Rattle.secrec_ast.specs.Statements.{DeclarationTree, AssignmentTree, StartTree, starts_with_nothing, starts_with_declaration}
-use Rattle.secrec_ast.specs.Statements.{starts_with_assignment, StepTree}
-use Rattle.secrec_ast.specs.Statements.{steps_by_nothing, steps_by_assignment, steps_by_expression, StatementTree, block, empty, branch, choice, while_loop}
-use Rattle.secrec_ast.specs.Statements.{do_loop, for_loop, breaks, continues, returns, assertion, declaration, assignment, evaluation, StatementTrees}
-use Rattle.secrec_ast.specs.Statements as Statements'
+use Rattle.program_trees.specs.declared.expression.DataType.{DataType}
+use Rattle.program_trees.specs.declared.expression.DataType.TheVariants.{Uint64}
+use Rattle.program_trees.specs.declared.expression.DataType.TheVariants as datatype
+use Rattle.program_trees.specs.declared.statement.Identifier.{Identifier}
+use Rattle.program_trees.specs.declared.statement.DeclaredType.{DeclaredType}
+use Rattle.program_trees.specs.Tree.{Tree, Trees, number, truth, variable, call, index, parentheses, negation, cast, binary, declassify, argument, publish}
+use Rattle.program_trees.specs.Statements.{DeclarationTree, AssignmentTree, StartTree, starts_with_nothing, starts_with_declaration}
+use Rattle.program_trees.specs.Statements.{starts_with_assignment, StepTree}
+use Rattle.program_trees.specs.Statements.{steps_by_nothing, steps_by_assignment, steps_by_expression, StatementTree, block, empty, branch, choice, while_loop}
+use Rattle.program_trees.specs.Statements.{do_loop, for_loop, breaks, continues, returns, assertion, declaration, assignment, evaluation, StatementTrees}
+use Rattle.program_trees.specs.Statements as Statements'
 use Rattle.domain_types.specs.Declarations.{Declared, callee}
-use Rattle.typed_tree.specs.Tree.{TypedTree, truth_node}
-use Rattle.typed_tree.specs.Statements.{TypedStatementTree, none, also, empty_statement, block_statement, if_statement, loop_statement, do_statement}
-use Rattle.typed_tree.specs.Statements.{break_statement, continue_statement, return_statement, assert_statement, store_statement, default_statement}
-use Rattle.typed_tree.specs.Statements.{fill_statement, input_statement, element_statement, publish_statement, evaluate_statement}
+use Rattle.program_trees.specs.TypedTree.{TypedTree, truth_node}
+use Rattle.program_trees.specs.TypedStatements.{TypedStatementTree, none, also, empty_statement, block_statement, if_statement, loop_statement, do_statement}
+use Rattle.program_trees.specs.TypedStatements.{break_statement, continue_statement, return_statement, assert_statement, store_statement, default_statement}
+use Rattle.program_trees.specs.TypedStatements.{fill_statement, input_statement, element_statement, publish_statement, evaluate_statement}
 use Rattle.name_resolution.specs.Scopes.{FunctionScope, declaring, entering, behind_block}
 use Rattle.name_resolution.specs.Sizes.{nodes, nodes_all, optional_nodes, declaration_nodes, assignment_nodes, start_nodes, step_nodes, statement_nodes}
 use Rattle.name_resolution.specs.Sizes.{statements_nodes}
@@ -26,7 +26,7 @@ use Rattle.name_resolution.specs.Resolving.{known_at, named}
 use Rattle.name_resolution.specs.Bodies.{calling, evaluated, default_of, from_value, initial, declared, assigned_to, assigned, started, stepped}
 use Rattle.name_resolution.specs.Bodies.{condition_of, returned, looped, resolved, resolved_all}
 use Rattle.name_resolution.proofs.SoundValues.{mapped, both_there}
-use Rattle.raw_steps.proofs.Widths.{width, statement_width, statements_width}
+use Rattle.code_model.proofs.Widths.{width, statement_width, statements_width}
 use Rattle.lowered_code.proofs.Registers.{called_width, value_width, values_width}
 
 -- what is made and the slots that are declared, together, are at most n more

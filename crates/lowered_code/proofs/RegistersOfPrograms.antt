@@ -6,13 +6,13 @@ use Rattle.std.specs.Prelude.{slice_get, nat_le}
 use Rattle.std.proofs.lemmas.Bool.{leb-true, leb-false}
 use Rattle.std.proofs.lemmas.List.{length-map}
 use Rattle.std.proofs.Math.Nat.{min-eq_left, min-eq_right}
-use Rattle.secrec_ast.specs.declared.function.Parameter.{Parameter}
-use Rattle.secrec_ast.specs.Programs.{FunctionTree, ProgramTree}
+use Rattle.program_trees.specs.declared.function.Parameter.{Parameter}
+use Rattle.program_trees.specs.Programs.{FunctionTree, ProgramTree}
 use Rattle.domain_types.specs.Declarations.{Declared, declared_by}
-use Rattle.typed_tree.specs.declared.kinds.Slot.{Slot}
-use Rattle.typed_tree.specs.declared.function.Returned.{Returned}
-use Rattle.typed_tree.specs.declared.function.Returned.TheVariants.{Nothing, Value}
-use Rattle.typed_tree.specs.Programs.{TypedFunctionTree, TypedProgramTree}
+use Rattle.program_trees.specs.declared.kinds.Slot.{Slot}
+use Rattle.program_trees.specs.declared.typed_function.Returned.{Returned}
+use Rattle.program_trees.specs.declared.typed_function.Returned.TheVariants.{Nothing, Value}
+use Rattle.program_trees.specs.TypedPrograms.{TypedFunctionTree, TypedProgramTree}
 use Rattle.name_resolution.specs.Values.{and_more}
 use Rattle.name_resolution.specs.Functions.{slots_written, given_back, with_parameters, function_made, function_from, function_behind, typed_function}
 use Rattle.name_resolution.specs.Functions.{typed_functions, program_of, typed_of}
@@ -24,17 +24,17 @@ use Rattle.name_resolution.proofs.SoundValues.{mapped, both_there, then_there, s
 use Rattle.reached_instances.specs.declared.instance.BoundDomain.{BoundDomain}
 use Rattle.reached_instances.specs.Instances.{Instance}
 use Rattle.verified_code.specs.Steps.{Function}
-use Rattle.raw_steps.specs.Kinds.{slot_kind, rows_kinds}
-use Rattle.raw_steps.specs.Expressions.{Numbers}
-use Rattle.raw_steps.specs.Statements.{defaults_behind, statements_depth}
-use Rattle.raw_steps.specs.Programs.{last_kinds, function_code, numbers_in, code_of_found, instance_code, code_of}
-use Rattle.raw_steps.specs.Instructions.{nowhere}
-use Rattle.raw_steps.proofs.Passing.{unmapped}
+use Rattle.code_model.specs.Kinds.{slot_kind, rows_kinds}
+use Rattle.code_model.specs.Expressions.{Numbers}
+use Rattle.code_model.specs.Statements.{defaults_behind, statements_depth}
+use Rattle.code_model.specs.Programs.{last_kinds, function_code, numbers_in, code_of_found, instance_code, code_of}
+use Rattle.code_model.specs.Instructions.{nowhere}
+use Rattle.code_model.proofs.Passing.{unmapped}
 use Rattle.well_typed.proofs.Calling.{known_in}
 use Rattle.well_typed.proofs.SlotsWritten.{slots_count}
 use Rattle.lowered_code.specs.Laws.{AreSmall, HasNumberedRegisters}
 use Rattle.lowered_code.proofs.Standing.{found_among}
-use Rattle.raw_steps.proofs.Widths.{statements_width, rows_length, statements_deep}
+use Rattle.code_model.proofs.Widths.{statements_width, rows_length, statements_deep}
 use Rattle.lowered_code.proofs.RegistersOfBodies.{statements_take}
 
 -- ---- FUNCTIONS

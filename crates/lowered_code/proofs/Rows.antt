@@ -1,14 +1,14 @@
 -- The code of nodes with two operands is right where that of the operands is.
 use Rattle.std.proofs.Common.{◌≡◌, ℕ, ◌+◌, ◌<◌, List, [], ◌∷◌, ◌++◌, length, Option, Bool, true, false, not, ◌&&◌, ◌||◌, refl, sym, ◌∙◌, subst}
 use Rattle.std.proofs.Common.{arith, length-append}
-use Rattle.secrec_ast.specs.declared.expression.DataType.{DataType}
-use Rattle.secrec_ast.specs.declared.expression.DataType.TheVariants.{Uint64}
-use Rattle.secrec_ast.specs.declared.expression.DataType.TheVariants as datatype
-use Rattle.typed_tree.specs.declared.operators.BinaryOperator.{BinaryOperator}
-use Rattle.typed_tree.specs.declared.operators.Operands.{Operands}
-use Rattle.typed_tree.specs.declared.operators.Connective.{Connective}
-use Rattle.typed_tree.specs.declared.operators.Connective.TheVariants.{AndAlso, OrElse}
-use Rattle.typed_tree.specs.Shapes.{shape_of}
+use Rattle.program_trees.specs.declared.expression.DataType.{DataType}
+use Rattle.program_trees.specs.declared.expression.DataType.TheVariants.{Uint64}
+use Rattle.program_trees.specs.declared.expression.DataType.TheVariants as datatype
+use Rattle.program_trees.specs.declared.operators.BinaryOperator.{BinaryOperator}
+use Rattle.program_trees.specs.declared.operators.Operands.{Operands}
+use Rattle.program_trees.specs.declared.operators.Connective.{Connective}
+use Rattle.program_trees.specs.declared.operators.Connective.TheVariants.{AndAlso, OrElse}
+use Rattle.program_trees.specs.Shapes.{shape_of}
 use Rattle.reached_instances.specs.declared.instance.BoundDomain.{BoundDomain}
 use Rattle.reached_instances.specs.Domains.{joined_domain}
 use Rattle.language_model.specs.Words.{truth_word}
@@ -16,11 +16,11 @@ use Rattle.language_model.specs.Operations.{is_product, result_shape}
 use Rattle.language_model.specs.Evaluation.{is_private}
 use Rattle.bytecode.specs.declared.kind.Kind.{Kind}
 use Rattle.verified_code.specs.Steps.{Step, Function, Literal, Move, Binary, Cat, At, Branch, Jump}
-use Rattle.raw_steps.specs.Fit.{MayStand}
-use Rattle.raw_steps.specs.Kinds.{kind_of}
-use Rattle.raw_steps.specs.Kinded.{HasKind, left_array, right_array, public_scalar}
-use Rattle.raw_steps.specs.Expressions.{classifying, picked, lacks, mixes, binary_code, cat_code, element_code, deciding, settling, cut_code}
-use Rattle.raw_steps.specs.Right.{kind, operand_element, IsRight}
+use Rattle.code_model.specs.Fit.{MayStand}
+use Rattle.code_model.specs.Kinds.{kind_of}
+use Rattle.code_model.specs.Kinded.{HasKind, left_array, right_array, public_scalar}
+use Rattle.code_model.specs.Expressions.{classifying, picked, lacks, mixes, binary_code, cat_code, element_code, deciding, settling, cut_code}
+use Rattle.code_model.specs.Right.{kind, operand_element, IsRight}
 use Rattle.well_typed.specs.Kinds.{MayOperate}
 use Rattle.lowered_code.proofs.Standing.{clash, AllRight, both_right, classifying_right, lacking_right, picked_kind}
 use Rattle.lowered_code.proofs.Shapes.{joined_private, private_allowed, behind_mixing, mixed_or, secrecy_fits}

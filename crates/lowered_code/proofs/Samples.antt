@@ -3,17 +3,17 @@ use Rattle.std.proofs.Common.{◌≡◌, ℕ, zero, suc, ◌≤◌, length, List
 use Rattle.std.specs.Prelude.{codes, slice_get}
 use Rattle.std.proofs.lemmas.Option.{none-some, same_Some}
 use Rattle.sc_text.specs.Lists.{Among}
-use Rattle.secrec_ast.specs.declared.expression.DataType.TheVariants.{Uint64}
-use Rattle.secrec_ast.specs.declared.expression.DataType.TheVariants as datatype
-use Rattle.typed_tree.specs.declared.kinds.SlotDomain.TheVariants as slot
-use Rattle.typed_tree.specs.declared.function.Returned.TheVariants.{Nothing, Value}
-use Rattle.typed_tree.specs.declared.operators.WordOperator.TheVariants as word
-use Rattle.typed_tree.specs.declared.operators.BinaryOperator.TheVariants.{Words}
-use Rattle.typed_tree.specs.declared.operators.Operands.TheVariants.{Scalars}
-use Rattle.typed_tree.specs.Tree.{word_node, slot_node, call_node, binary_node, declassify_node, typed_trees_of}
-use Rattle.typed_tree.specs.Statements.{return_statement, input_statement, publish_statement, typed_statements_of}
-use Rattle.typed_tree.specs.Programs.{TypedFunctionTree, TypedProgramTree}
-use Rattle.typed_tree.specs.Shapes.{shape_of}
+use Rattle.program_trees.specs.declared.expression.DataType.TheVariants.{Uint64}
+use Rattle.program_trees.specs.declared.expression.DataType.TheVariants as datatype
+use Rattle.program_trees.specs.declared.kinds.SlotDomain.TheVariants as slot
+use Rattle.program_trees.specs.declared.typed_function.Returned.TheVariants.{Nothing, Value}
+use Rattle.program_trees.specs.declared.operators.WordOperator.TheVariants as word
+use Rattle.program_trees.specs.declared.operators.BinaryOperator.TheVariants.{Words}
+use Rattle.program_trees.specs.declared.operators.Operands.TheVariants.{Scalars}
+use Rattle.program_trees.specs.TypedTree.{word_node, slot_node, call_node, binary_node, declassify_node, typed_trees_of}
+use Rattle.program_trees.specs.TypedStatements.{return_statement, input_statement, publish_statement, typed_statements_of}
+use Rattle.program_trees.specs.TypedPrograms.{TypedFunctionTree, TypedProgramTree}
+use Rattle.program_trees.specs.Shapes.{shape_of}
 use Rattle.reached_instances.specs.declared.instance.BoundDomain.TheVariants.{Private}
 use Rattle.reached_instances.specs.Instances.{Instance}
 use Rattle.reached_instances.specs.Reached.{IsReached, begins, follows, IsReachedList}
@@ -24,8 +24,8 @@ use Rattle.bytecode.specs.Raw as raw
 use Rattle.verified_code.specs.Settled.{settled}
 use Rattle.verified_code.specs.Steps.{Function}
 use Rattle.verified_code.specs.Verified.{IsVerified}
-use Rattle.raw_steps.specs.Fit.{the_main}
-use Rattle.raw_steps.specs.Programs.{code_of}
+use Rattle.code_model.specs.Fit.{the_main}
+use Rattle.code_model.specs.Programs.{code_of}
 use Rattle.well_typed.specs.Programs.{IsWellTypedInstance, IsWellTyped}
 use Rattle.lowered_code.specs.Laws.{HasNumberedRegisters}
 use Rattle.lowered_code.specs.RawCodes.{raw_code_of_program}

@@ -1,32 +1,32 @@
 -- The kind of the value of a well-typed expression.
 use Rattle.std.proofs.Common.{◌≡◌, Some, Bool, true, false, not, ◌&&◌, ◌||◌, refl, sym, ap, ◌∙◌}
 use Rattle.std.proofs.lemmas.Option.{none-some, same_Some}
-use Rattle.typed_tree.specs.declared.kinds.Shape.{Shape}
-use Rattle.typed_tree.specs.declared.operators.Cast.{Cast}
-use Rattle.typed_tree.specs.declared.operators.Cast.TheVariants.{WordToWord, WordToBool, BoolToWord, BoolToBool}
-use Rattle.typed_tree.specs.declared.operators.Operands.{Operands}
-use Rattle.typed_tree.specs.declared.operators.Operands.TheVariants.{Scalars, ArrayAndScalar, ScalarAndArray, Arrays}
-use Rattle.typed_tree.specs.declared.operators.WordOperator.TheVariants as word
-use Rattle.typed_tree.specs.declared.operators.BoolOperator.TheVariants as truth
-use Rattle.typed_tree.specs.declared.operators.BinaryOperator.{BinaryOperator}
-use Rattle.typed_tree.specs.declared.operators.BinaryOperator.TheVariants.{Words, Bools}
-use Rattle.typed_tree.specs.declared.function.Returned.{Returned}
-use Rattle.typed_tree.specs.declared.function.Returned.TheVariants.{Nothing, Value}
-use Rattle.typed_tree.specs.Operators.{element_made}
-use Rattle.typed_tree.specs.Shapes.{shape_of}
-use Rattle.typed_tree.specs.Tree.{TypedTree, word_node, truth_node, slot_node, call_node, size_node, cat_node, sum_node, bits_node, element_node}
-use Rattle.typed_tree.specs.Tree.{not_node, cast_node, binary_node, cut_node, declassify_node}
+use Rattle.program_trees.specs.declared.kinds.Shape.{Shape}
+use Rattle.program_trees.specs.declared.operators.Cast.{Cast}
+use Rattle.program_trees.specs.declared.operators.Cast.TheVariants.{WordToWord, WordToBool, BoolToWord, BoolToBool}
+use Rattle.program_trees.specs.declared.operators.Operands.{Operands}
+use Rattle.program_trees.specs.declared.operators.Operands.TheVariants.{Scalars, ArrayAndScalar, ScalarAndArray, Arrays}
+use Rattle.program_trees.specs.declared.operators.WordOperator.TheVariants as word
+use Rattle.program_trees.specs.declared.operators.BoolOperator.TheVariants as truth
+use Rattle.program_trees.specs.declared.operators.BinaryOperator.{BinaryOperator}
+use Rattle.program_trees.specs.declared.operators.BinaryOperator.TheVariants.{Words, Bools}
+use Rattle.program_trees.specs.declared.typed_function.Returned.{Returned}
+use Rattle.program_trees.specs.declared.typed_function.Returned.TheVariants.{Nothing, Value}
+use Rattle.program_trees.specs.Operators.{element_made}
+use Rattle.program_trees.specs.Shapes.{shape_of}
+use Rattle.program_trees.specs.TypedTree.{TypedTree, word_node, truth_node, slot_node, call_node, size_node, cat_node, sum_node, bits_node, element_node}
+use Rattle.program_trees.specs.TypedTree.{not_node, cast_node, binary_node, cut_node, declassify_node}
 use Rattle.reached_instances.specs.declared.instance.BoundDomain.{BoundDomain}
 use Rattle.reached_instances.specs.declared.instance.BoundDomain.TheVariants.{Public, Private}
 use Rattle.reached_instances.specs.Domains.{Setting, joined_domain}
 use Rattle.language_model.specs.Operations.{is_product, result_shape, cast_shape}
 use Rattle.language_model.specs.Evaluation.{is_private, shape_at}
 use Rattle.verified_code.specs.Fitting as fitting
-use Rattle.raw_steps.specs.Fit.{MayStand}
-use Rattle.raw_steps.specs.Kinds.{kind_of, returned_shape, called_shape, shape_in}
-use Rattle.raw_steps.specs.Kinded.{left_array, right_array, cast_source, cast_target}
-use Rattle.raw_steps.specs.Expressions.{lacks, mixes}
-use Rattle.raw_steps.specs.Right.{operand_element}
+use Rattle.code_model.specs.Fit.{MayStand}
+use Rattle.code_model.specs.Kinds.{kind_of, returned_shape, called_shape, shape_in}
+use Rattle.code_model.specs.Kinded.{left_array, right_array, cast_source, cast_target}
+use Rattle.code_model.specs.Expressions.{lacks, mixes}
+use Rattle.code_model.specs.Right.{operand_element}
 use Rattle.well_typed.specs.Kinds.{GoesTo, operand_of, MayOperate, left_is_array, right_is_array, cast_from, cast_to}
 use Rattle.well_typed.specs.Expressions.{Gives, shape_given}
 use Rattle.lowered_code.proofs.Standing.{clash}

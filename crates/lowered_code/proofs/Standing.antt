@@ -6,18 +6,18 @@ use Rattle.std.specs.Prelude.{slice_get, max}
 use Rattle.std.proofs.Math.Nat.{le-max_left, le-max_right}
 use Rattle.std.proofs.lemmas.Option.{none-some, same_Some}
 use Rattle.sc_text.specs.Lists.{Among}
-use Rattle.secrec_ast.specs.declared.expression.DataType.{DataType}
-use Rattle.secrec_ast.specs.declared.expression.DataType.TheVariants.{Uint64}
-use Rattle.secrec_ast.specs.declared.expression.DataType.TheVariants as datatype
-use Rattle.typed_tree.specs.declared.kinds.Shape.{Shape}
+use Rattle.program_trees.specs.declared.expression.DataType.{DataType}
+use Rattle.program_trees.specs.declared.expression.DataType.TheVariants.{Uint64}
+use Rattle.program_trees.specs.declared.expression.DataType.TheVariants as datatype
+use Rattle.program_trees.specs.declared.kinds.Shape.{Shape}
 use Rattle.language_model.specs.Evaluation.{either}
 use Rattle.bytecode.specs.declared.kind.Kind.{Kind}
 use Rattle.verified_code.specs.Steps.{Step, Function}
-use Rattle.raw_steps.specs.Fit.{MayStand}
-use Rattle.raw_steps.specs.Kinds.{kind_of, kind_number, shape_kinds, rows_kinds, in_row}
-use Rattle.raw_steps.specs.Kinded.{HasKind}
-use Rattle.raw_steps.specs.Expressions.{classifying, picked, lacks, next_row}
-use Rattle.raw_steps.specs.Right.{IsRight}
+use Rattle.code_model.specs.Fit.{MayStand}
+use Rattle.code_model.specs.Kinds.{kind_of, kind_number, shape_kinds, rows_kinds, in_row}
+use Rattle.code_model.specs.Kinded.{HasKind}
+use Rattle.code_model.specs.Expressions.{classifying, picked, lacks, next_row}
+use Rattle.code_model.specs.Right.{IsRight}
 
 pub clash : false ≡ true → ⊥
 clash h = cc

@@ -3,32 +3,32 @@ use Rattle.std.proofs.Common.{◌≡◌, ℕ, ◌+◌, ◌<◌, List, [], ◌∷
 use Rattle.std.proofs.Common.{arith, length-append}
 use Rattle.std.specs.Prelude.{slice_get, max}
 use Rattle.std.proofs.lemmas.Option.{slice_get_within}
-use Rattle.secrec_ast.specs.declared.expression.DataType.{DataType}
-use Rattle.secrec_ast.specs.declared.expression.DataType.TheVariants.{Uint64}
-use Rattle.secrec_ast.specs.declared.expression.DataType.TheVariants as datatype
-use Rattle.typed_tree.specs.declared.kinds.Shape.{Shape}
-use Rattle.typed_tree.specs.declared.kinds.Slot.{Slot}
-use Rattle.typed_tree.specs.declared.function.Returned.{Returned}
-use Rattle.typed_tree.specs.declared.function.Returned.TheVariants.{Nothing, Value}
-use Rattle.typed_tree.specs.Tree.{TypedTree}
-use Rattle.typed_tree.specs.Statements.{TypedStatementTree, TypedStatementTrees, empty_statement, block_statement, if_statement, loop_statement, do_statement}
-use Rattle.typed_tree.specs.Statements.{break_statement, continue_statement, return_statement, assert_statement, store_statement, default_statement}
-use Rattle.typed_tree.specs.Statements.{fill_statement, input_statement, element_statement, publish_statement, evaluate_statement}
-use Rattle.typed_tree.specs.Statements as Statements'
+use Rattle.program_trees.specs.declared.expression.DataType.{DataType}
+use Rattle.program_trees.specs.declared.expression.DataType.TheVariants.{Uint64}
+use Rattle.program_trees.specs.declared.expression.DataType.TheVariants as datatype
+use Rattle.program_trees.specs.declared.kinds.Shape.{Shape}
+use Rattle.program_trees.specs.declared.kinds.Slot.{Slot}
+use Rattle.program_trees.specs.declared.typed_function.Returned.{Returned}
+use Rattle.program_trees.specs.declared.typed_function.Returned.TheVariants.{Nothing, Value}
+use Rattle.program_trees.specs.TypedTree.{TypedTree}
+use Rattle.program_trees.specs.TypedStatements.{TypedStatementTree, TypedStatementTrees, empty_statement, block_statement, if_statement, loop_statement, do_statement}
+use Rattle.program_trees.specs.TypedStatements.{break_statement, continue_statement, return_statement, assert_statement, store_statement, default_statement}
+use Rattle.program_trees.specs.TypedStatements.{fill_statement, input_statement, element_statement, publish_statement, evaluate_statement}
+use Rattle.program_trees.specs.TypedStatements as Statements'
 use Rattle.reached_instances.specs.declared.instance.BoundDomain.{BoundDomain}
 use Rattle.reached_instances.specs.Domains.{Setting, domain, domain_under, slot_domain, given_domain}
 use Rattle.language_model.specs.Evaluation.{StatementContext, is_private, gives_private, slot_is_private, slot_shape, shape_at}
 use Rattle.bytecode.specs.declared.kind.Kind.{Kind}
 use Rattle.verified_code.specs.Steps.{Step, Function, Store, Fill, Put, Publish, Assert, Branch, Return}
-use Rattle.raw_steps.specs.Fit.{MayStand, IsFit, IsFitStatement, AreFitStatements}
-use Rattle.raw_steps.specs.Kinds.{depth, kind_of, slot_kind, private_kind_in, in_row}
-use Rattle.raw_steps.specs.Kinded.{HasKind, public_scalar}
-use Rattle.raw_steps.specs.Expressions.{Numbers, picked, lacks, classified_at, stands_at, next_row, expression_code}
-use Rattle.raw_steps.specs.Statements.{shape_number, statement_depth, statements_depth, statement_code, statements_code, behind_classifying}
-use Rattle.raw_steps.specs.Programs.{given_kind}
-use Rattle.raw_steps.proofs.Lengths.{expression_length, statement_length}
-use Rattle.raw_steps.proofs.Widths.{depth_some}
-use Rattle.raw_steps.specs.Right.{kind, IsRight}
+use Rattle.code_model.specs.Fit.{MayStand, IsFit, IsFitStatement, AreFitStatements}
+use Rattle.code_model.specs.Kinds.{depth, kind_of, slot_kind, private_kind_in, in_row}
+use Rattle.code_model.specs.Kinded.{HasKind, public_scalar}
+use Rattle.code_model.specs.Expressions.{Numbers, picked, lacks, classified_at, stands_at, next_row, expression_code}
+use Rattle.code_model.specs.Statements.{shape_number, statement_depth, statements_depth, statement_code, statements_code, behind_classifying}
+use Rattle.code_model.specs.Programs.{given_kind}
+use Rattle.code_model.proofs.Lengths.{expression_length, statement_length}
+use Rattle.code_model.proofs.Widths.{depth_some}
+use Rattle.code_model.specs.Right.{kind, IsRight}
 use Rattle.well_typed.specs.Kinds.{scalar, GoesTo}
 use Rattle.well_typed.specs.Expressions.{Gives}
 use Rattle.well_typed.specs.Statements.{IsPublicScalar, IsReturned, IsWellTypedStatement, AreWellTypedStatements}

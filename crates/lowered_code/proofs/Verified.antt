@@ -6,15 +6,15 @@ use Rattle.std.specs.Prelude.{slice_get}
 use Rattle.std.proofs.lemmas.List.{length-map}
 use Rattle.std.proofs.lemmas.Option.{none-some, same_Some}
 use Rattle.sc_text.specs.Lists.{Among}
-use Rattle.secrec_ast.specs.declared.expression.DataType.{DataType}
-use Rattle.secrec_ast.specs.declared.expression.DataType.TheVariants.{Uint64}
-use Rattle.secrec_ast.specs.declared.expression.DataType.TheVariants as datatype
-use Rattle.typed_tree.specs.Shapes.{shape_of}
-use Rattle.typed_tree.specs.declared.kinds.Shape.{Shape}
-use Rattle.typed_tree.specs.declared.kinds.Slot.{Slot}
-use Rattle.typed_tree.specs.declared.function.Returned.{Returned}
-use Rattle.typed_tree.specs.declared.function.Returned.TheVariants.{Nothing, Value}
-use Rattle.typed_tree.specs.Programs.{TypedFunctionTree, TypedProgramTree}
+use Rattle.program_trees.specs.declared.expression.DataType.{DataType}
+use Rattle.program_trees.specs.declared.expression.DataType.TheVariants.{Uint64}
+use Rattle.program_trees.specs.declared.expression.DataType.TheVariants as datatype
+use Rattle.program_trees.specs.Shapes.{shape_of}
+use Rattle.program_trees.specs.declared.kinds.Shape.{Shape}
+use Rattle.program_trees.specs.declared.kinds.Slot.{Slot}
+use Rattle.program_trees.specs.declared.typed_function.Returned.{Returned}
+use Rattle.program_trees.specs.declared.typed_function.Returned.TheVariants.{Nothing, Value}
+use Rattle.program_trees.specs.TypedPrograms.{TypedFunctionTree, TypedProgramTree}
 use Rattle.reached_instances.specs.declared.instance.BoundDomain.{BoundDomain}
 use Rattle.reached_instances.specs.Domains.{Setting}
 use Rattle.reached_instances.specs.Instances.{Instance, same_instance}
@@ -24,21 +24,21 @@ use Rattle.language_model.specs.Evaluation.{either, place_in, slots_of}
 use Rattle.bytecode.specs.declared.kind.Kind.{Kind}
 use Rattle.bytecode.specs.Kinds.{element_bit}
 use Rattle.verified_code.specs.Steps.{Step, Function, Jump}
-use Rattle.raw_steps.specs.Fit.{AreFitStatements, IsKnownIn, IsFitProgram, the_main}
-use Rattle.raw_steps.specs.Kinds.{kind_of, slot_kind, rows_kinds}
-use Rattle.raw_steps.specs.Kinded.{HasKind, is_return, IsIn}
-use Rattle.raw_steps.specs.Expressions.{Numbers}
-use Rattle.raw_steps.specs.Statements.{shape_number, default_kinds, defaults_behind, first_free, statements_depth}
-use Rattle.raw_steps.specs.Statements.{statements_code}
-use Rattle.raw_steps.specs.Programs.{given_kind, last_kinds, last_step, body_end, function_code, place_of, numbers_in, code_of_found, instance_code, code_of}
-use Rattle.raw_steps.proofs.Forward.{all_forward}
-use Rattle.raw_steps.proofs.Lengths.{statements_length}
-use Rattle.raw_steps.specs.Instructions.{nowhere}
-use Rattle.raw_steps.specs.Right.{IsRight, IsRightFunction, AreRight}
-use Rattle.raw_steps.proofs.Passing.{mapped, unmapped}
-use Rattle.raw_steps.proofs.Whole.{verified, settles_again}
-use Rattle.secrec_ast.specs.Programs.{ProgramTree}
-use Rattle.raw_steps.specs.Meaning.{mean_in}
+use Rattle.code_model.specs.Fit.{AreFitStatements, IsKnownIn, IsFitProgram, the_main}
+use Rattle.code_model.specs.Kinds.{kind_of, slot_kind, rows_kinds}
+use Rattle.code_model.specs.Kinded.{HasKind, is_return, IsIn}
+use Rattle.code_model.specs.Expressions.{Numbers}
+use Rattle.code_model.specs.Statements.{shape_number, default_kinds, defaults_behind, first_free, statements_depth}
+use Rattle.code_model.specs.Statements.{statements_code}
+use Rattle.code_model.specs.Programs.{given_kind, last_kinds, last_step, body_end, function_code, place_of, numbers_in, code_of_found, instance_code, code_of}
+use Rattle.code_model.proofs.Forward.{all_forward}
+use Rattle.code_model.proofs.Lengths.{statements_length}
+use Rattle.code_model.specs.Instructions.{nowhere}
+use Rattle.code_model.specs.Right.{IsRight, IsRightFunction, AreRight}
+use Rattle.code_model.proofs.Passing.{mapped, unmapped}
+use Rattle.code_model.proofs.Whole.{verified, settles_again}
+use Rattle.program_trees.specs.Programs.{ProgramTree}
+use Rattle.code_model.specs.Meaning.{mean_in}
 use Rattle.well_typed.proofs.Reaching.{accepted_well_typed}
 use Rattle.well_typed.specs.Statements.{AreWellTypedStatements}
 use Rattle.well_typed.specs.Programs.{IsWellTypedInstance, IsWellTyped}
@@ -48,7 +48,7 @@ use Rattle.lowered_code.proofs.Standing.{clash, front, found_among, Stands, stan
 use Rattle.lowered_code.proofs.Standing.{both_right, right_at}
 use Rattle.lowered_code.proofs.Calling.{parameters_of}
 use Rattle.lowered_code.proofs.Limits.{within_small}
-use Rattle.raw_steps.proofs.Widths.{rows_length}
+use Rattle.code_model.proofs.Widths.{rows_length}
 use Rattle.lowered_code.proofs.RegistersOfPrograms.{small_numbered}
 use Rattle.lowered_code.proofs.Expressions.{IsCallee}
 use Rattle.lowered_code.proofs.Statements.{statements_right}

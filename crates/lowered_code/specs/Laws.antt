@@ -1,10 +1,10 @@
 -- What is promised of the code of accepted programs.
 use Rattle.std.specs.Prelude.{◌≡◌, ◌≤◌, ℕ, List, length, Some}
-use Rattle.secrec_ast.specs.Programs.{ProgramTree}
+use Rattle.program_trees.specs.Programs.{ProgramTree}
 use Rattle.domain_types.specs.ProgramTypes.{IsAccepted}
 use Rattle.std.specs.List.{slice_get}
 use Rattle.sc_text.specs.Lists.{Among}
-use Rattle.typed_tree.specs.Programs.{TypedFunctionTree, TypedProgramTree}
+use Rattle.program_trees.specs.TypedPrograms.{TypedFunctionTree, TypedProgramTree}
 use Rattle.name_resolution.specs.Functions.{typed_of}
 use Rattle.reached_instances.specs.Instances.{Instance}
 use Rattle.reached_instances.specs.Reached.{IsReachedList}
@@ -14,11 +14,11 @@ use Rattle.language_model.specs.Reports.{evaluated}
 use Rattle.verified_code.specs.Settled.{settled}
 use Rattle.verified_code.specs.Steps.{Function}
 use Rattle.verified_code.specs.Verified.{IsVerified}
-use Rattle.raw_steps.specs.Fit.{IsFitProgram}
-use Rattle.raw_steps.specs.Kinded.{IsIn}
-use Rattle.raw_steps.specs.Meaning.{mean_in}
-use Rattle.raw_steps.specs.Programs.{code_of}
-use Rattle.raw_steps.specs.Instructions.{nowhere}
+use Rattle.code_model.specs.Fit.{IsFitProgram}
+use Rattle.code_model.specs.Kinded.{IsIn}
+use Rattle.code_model.specs.Meaning.{mean_in}
+use Rattle.code_model.specs.Programs.{code_of}
+use Rattle.code_model.specs.Instructions.{nowhere}
 use Rattle.well_typed.specs.Programs.{IsWellTyped}
 use Rattle.well_typed.specs.Sources.{IsWellWritten}
 use Rattle.lowered_code.specs.RawCodes.{raw_code_of_program}

@@ -1,4 +1,4 @@
 pub mod RawCodes
 pub mod Laws
-pub use Rattle.raw_steps.specs.Instructions
-pub use Rattle.raw_steps.specs.Right
+pub use Rattle.code_model.specs.Instructions
+pub use Rattle.code_model.specs.Right

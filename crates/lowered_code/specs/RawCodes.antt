@@ -1,10 +1,10 @@
 -- The raw code of a program's reached instances.
 use Rattle.std.specs.Prelude.{List}
-use Rattle.typed_tree.specs.Programs.{TypedProgramTree}
+use Rattle.program_trees.specs.TypedPrograms.{TypedProgramTree}
 use Rattle.reached_instances.specs.Instances.{Instance}
 use Rattle.bytecode.specs.Raw.{RawCode}
-use Rattle.raw_steps.specs.Programs.{code_of}
-use Rattle.raw_steps.specs.Instructions.{raw_code_of}
+use Rattle.code_model.specs.Programs.{code_of}
+use Rattle.code_model.specs.Instructions.{raw_code_of}
 
 -- instructions with the numbers that the bytes say
 abbrev pub raw_code_of_program : TypedProgramTree → List Instance → RawCode

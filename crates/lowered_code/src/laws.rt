@@ -1,7 +1,7 @@
 // What is true of the code of an accepted program.
 ghost use Rattle.std.specs.Prelude.{List};
-ghost use Rattle.secrec_ast.specs.Programs.{ProgramTree};
-ghost use Rattle.typed_tree.specs.Programs.{TypedProgramTree};
+ghost use Rattle.program_trees.specs.Programs.{ProgramTree};
+ghost use Rattle.program_trees.specs.TypedPrograms.{TypedProgramTree};
 ghost use Rattle.reached_instances.specs.Instances.{Instance};
 ghost use Rattle.lowered_code.specs.Laws.{FitsWhereWellTyped, MeansWhereAccepted};
 ghost use Rattle.lowered_code.specs.Laws.{HasNumbersWhereSmall, IsSmallWithinLimits, IsVerifiedWhereWellTyped, RunsWhereAccepted};

@@ -2,7 +2,7 @@
 use Rattle.std.proofs.Common.{◌≡◌, ℕ, ◌+◌, Bool, List, [], ◌∷◌, ◌++◌, length, refl, sym, ap, ap₂, ◌∙◌, arith, append_assoc, length-append}
 use Rattle.std.specs.Prelude.{map, slice_set}
 use Rattle.std.proofs.lemmas.List.{map-append, length-map, length_push, set_at}
-use Rattle.typed_tree.specs.declared.operators.Connective.{Connective}
+use Rattle.program_trees.specs.declared.operators.Connective.{Connective}
 use Rattle.verified_code.specs.Steps.{Step, Branch}
 use Rattle.code_model.specs.Expressions.{deciding}
 use Rattle.lowered_expressions.specs.Built.{BodyPiece, whole, Built, with_step, with_steps}

@@ -1,7 +1,7 @@
 // What a call names.
 ghost use Rattle.std.specs.Prelude.{◌≡◌, IfOk, map};
 ghost use Rattle.std.specs.List.{slice_get};
-ghost use Rattle.typed_tree.specs.Tree.{typed_tree, typed_trees_of};
+ghost use Rattle.program_trees.specs.TypedTree.{typed_tree, typed_trees_of};
 ghost use Rattle.reached_instances.specs.Domains.{domains};
 ghost use Rattle.reached_instances.specs.Views.{setting};
 ghost use Rattle.language_model.specs.Evaluation.{bound_at, slots_of};
@@ -11,9 +11,9 @@ ghost use Rattle.lowered_expressions.specs.inner.Notes.{arguments_notes};
 
 use crate::around::Around;
 use crate::notes::{Note, noted_domains};
+use program_trees::{Returned, Slot, TypedExpression};
 use reached_instances::{BoundDomain, Instance, Setting, binding_of};
 use std::alloc::{AllocError, Global};
-use typed_tree::{Returned, Slot, TypedExpression};
 
 /// A call: the line of its construct, the number of its function, and the register of what it gives, if there is one.
 #[derive(Clone, Copy)]

@@ -10,9 +10,8 @@ use crate::body::Body;
 use crate::operands::{WantedOperand, wanted};
 use crate::step::Step;
 use crate::words::{deciding, truth_word};
-use secrec_ast::DataType;
+use program_trees::{Cast, Connective, DataType, Operation};
 use std::alloc::AllocError;
-use typed_tree::{Cast, Connective, Operation};
 
 /// An operation on one operand.
 #[derive(Clone, Copy)]

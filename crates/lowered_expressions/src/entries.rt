@@ -1,6 +1,6 @@
 // Expressions are noted, and their code is made.
 ghost use Rattle.std.specs.Prelude.{◌≡◌, IfOk, OnOk, map};
-ghost use Rattle.typed_tree.specs.Tree.{typed_tree, typed_trees_of};
+ghost use Rattle.program_trees.specs.TypedTree.{typed_tree, typed_trees_of};
 ghost use Rattle.language_model.specs.Evaluation.{gives_private};
 ghost use Rattle.code_model.specs.Expressions.{classified_at, lacks, picked, stands_at};
 ghost use Rattle.lowered_expressions.specs.Parts.{with_call, with_expression, with_operand};
@@ -11,8 +11,8 @@ use crate::body::Body;
 use crate::calling::CallHead;
 use crate::expressions;
 use crate::noting::{arguments_notes, notes_of};
+use program_trees::TypedExpression;
 use std::alloc::AllocError;
-use typed_tree::TypedExpression;
 
 /// Puts the code of an expression after a body, with registers from a row on; the register where its value stands. That is one of this
 /// row, but a variable's is its slot, and it has no code. An error comes where memory runs short. The time grows with the size of the

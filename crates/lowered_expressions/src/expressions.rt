@@ -2,7 +2,7 @@
 // its first operand, and the rows after it for the others, but a variable's value stands in its slot. Kinds are read off the notes of the
 // tree, of which each function takes those of its own expressions: the time grows with the size of a tree.
 ghost use Rattle.std.specs.Prelude.{◌≡◌, ◌∷◌, [], IfOk, OnOk, false, length, map};
-ghost use Rattle.typed_tree.specs.Tree.{binary_node, call_node, cat_node, cut_node, element_node, typed_tree, typed_trees_of};
+ghost use Rattle.program_trees.specs.TypedTree.{binary_node, call_node, cat_node, cut_node, element_node, typed_tree, typed_trees_of};
 ghost use Rattle.verified_code.specs.Steps as S;
 ghost use Rattle.language_model.specs.Evaluation.{either, gives_private};
 ghost use Rattle.code_model.specs.Expressions.{arguments_code, arguments_places, classified_at, lacks, expression_code, picked, read_at, stands_at};
@@ -23,10 +23,11 @@ use crate::rows::{in_row, next_row};
 use crate::step::Step;
 use crate::words::{lacks, mixes, truth_word};
 use bytecode::Kind;
+use program_trees::{
+    BinaryOperator, Connective, DataType, Operands, Operation, Shape, Slot, TypedExpression,
+};
 use reached_instances::{BoundDomain, next_is_private};
-use secrec_ast::DataType;
 use std::alloc::AllocError;
-use typed_tree::{BinaryOperator, Connective, Operands, Operation, Shape, Slot, TypedExpression};
 
 /// Puts the code of an expression, of which these are the notes, after a body, with registers from a row on; the register where its value
 /// stands. That is one of this row, but a variable's is its slot, and it has no code. An error comes where memory runs short.

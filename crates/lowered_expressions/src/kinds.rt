@@ -1,17 +1,16 @@
 // The kinds of registers.
 ghost use Rattle.std.specs.Prelude.{◌≡◌, IfOk, map};
 ghost use Rattle.std.specs.List.{slice_get};
-ghost use Rattle.typed_tree.specs.Tree.{typed_tree};
-ghost use Rattle.typed_tree.specs.Programs.{typed_function_tree};
+ghost use Rattle.program_trees.specs.TypedTree.{typed_tree};
+ghost use Rattle.program_trees.specs.TypedPrograms.{typed_function_tree};
 ghost use Rattle.reached_instances.specs.Views.{setting};
 ghost use Rattle.language_model.specs.Evaluation.{gives_private};
 ghost use Rattle.code_model.specs.Kinds.{called_shape, kind_in, kind_of, returned_shape, shape_in};
 
 use bytecode::Kind;
+use program_trees::{DataType, Returned, Shape, TypedExpression, TypedFunction};
 use reached_instances::{Setting, domain, slot_shape};
-use secrec_ast::DataType;
 use std::alloc::{AllocError, Global};
-use typed_tree::{Returned, Shape, TypedExpression, TypedFunction};
 
 // The shape of what a function gives back; where it gives nothing, that of a number.
 fn returned_shape(given: Returned) -> Shape

@@ -6,10 +6,9 @@ ghost use Rattle.lowered_expressions.specs.inner.Notes.{first_private_kind, note
 
 use crate::kinds::kind_of;
 use bytecode::Kind;
+use program_trees::{DataType, Shape};
 use reached_instances::BoundDomain;
-use secrec_ast::DataType;
 use std::alloc::{AllocError, Global};
-use typed_tree::Shape;
 
 /// Who may see what an expression gives, and its shape.
 #[derive(Clone, Copy)]

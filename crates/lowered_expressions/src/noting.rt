@@ -1,6 +1,6 @@
 // The notes of expressions: one walk over a tree. The functions call one another, so they stand together.
 ghost use Rattle.std.specs.Prelude.{◌≡◌, ◌++◌, IfOk, OnOk, map};
-ghost use Rattle.typed_tree.specs.Tree.{typed_tree, typed_trees_of};
+ghost use Rattle.program_trees.specs.TypedTree.{typed_tree, typed_trees_of};
 ghost use Rattle.reached_instances.specs.declared.instance.BoundDomain.TheVariants.{Public};
 ghost use Rattle.reached_instances.specs.Domains.{domains};
 ghost use Rattle.reached_instances.specs.Views.{setting};
@@ -10,12 +10,11 @@ ghost use Rattle.lowered_expressions.specs.inner.Operands.{two_given};
 use crate::closing::One;
 use crate::kinds::called_shape;
 use crate::notes::{Given, Note, nothing_noted};
+use program_trees::{DataType, Shape, TypedExpression};
 use reached_instances::{
     BoundDomain, Setting, call_domain, joined_domain, slot_domain, slot_shape,
 };
-use secrec_ast::DataType;
 use std::alloc::{AllocError, Global};
-use typed_tree::{Shape, TypedExpression};
 
 fn given_of(domain: BoundDomain, shape: Shape) -> Given
     ensures { result ≡ given_of domain shape }

@@ -1,14 +1,13 @@
 // The registers of values on their way. They stand in rows of eight, one for each kind, which each statement uses again.
 ghost use Rattle.std.specs.Prelude.{◌≡◌, ◌+◌, IfOk, map, max};
-ghost use Rattle.typed_tree.specs.Tree.{typed_tree, typed_trees_of};
+ghost use Rattle.program_trees.specs.TypedTree.{typed_tree, typed_trees_of};
 ghost use Rattle.bytecode.specs.Kinds.{element_bit};
 ghost use Rattle.code_model.specs.Expressions.{next_row};
 ghost use Rattle.code_model.specs.Kinds.{depth, depths, in_row, kind_number};
 
 use bytecode::Kind;
-use secrec_ast::DataType;
+use program_trees::{DataType, TypedExpression};
 use std::alloc::AllocError;
-use typed_tree::TypedExpression;
 
 // A sum that memory has room for.
 fn sum(a: usize, b: usize) -> Result<usize, AllocError>

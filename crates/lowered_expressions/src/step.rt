@@ -1,7 +1,6 @@
 use bytecode::Kind;
+use program_trees::{BinaryOperator, Cast, DataType, Operands};
 use sc_text::Name;
-use secrec_ast::DataType;
-use typed_tree::{BinaryOperator, Cast, Operands};
 
 /// A step of a function's code. Registers, places and functions are numbers as large as they come; a line is that of the construct
 /// in the program.

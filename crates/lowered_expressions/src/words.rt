@@ -3,7 +3,7 @@ ghost use Rattle.std.specs.Prelude.{◌≡◌};
 ghost use Rattle.language_model.specs.Words.{truth_word};
 ghost use Rattle.code_model.specs.Expressions.{deciding, lacks, mixes};
 
-use typed_tree::{BinaryOperator, Connective};
+use program_trees::{BinaryOperator, Connective};
 
 /// Whether a public value stands where a private one is wanted.
 pub fn lacks(wanted: bool, given: bool) -> bool

@@ -3,7 +3,7 @@ use Rattle.std.proofs.Common.{◌≡◌, ℕ, zero, suc, ◌+◌, ◌*◌, true,
 use Rattle.std.proofs.Common.{length-append}
 use Rattle.std.specs.Prelude.{map, Option}
 use Rattle.std.proofs.lemmas.List.{length-map, map-append}
-use Rattle.typed_tree.specs.Programs.{TypedFunctionTree}
+use Rattle.program_trees.specs.TypedPrograms.{TypedFunctionTree}
 use Rattle.reached_instances.specs.declared.instance.BoundDomain.{BoundDomain}
 use Rattle.language_model.specs.Evaluation.{place_in}
 use Rattle.bytecode.specs.declared.kind.Kind.{Kind}

@@ -1,7 +1,7 @@
 -- The last steps of statements without others in them.
 use Rattle.std.proofs.Common.{◌≡◌, ℕ, ◌+◌, Bool, List, [], ◌∷◌, ◌++◌, length, refl, ap, ap₂, ◌∙◌, append_assoc}
 use Rattle.verified_code.specs.Steps.{Step}
-use Rattle.typed_tree.specs.Tree.{TypedTree}
+use Rattle.program_trees.specs.TypedTree.{TypedTree}
 use Rattle.reached_instances.specs.Domains.{Setting}
 use Rattle.language_model.specs.Evaluation.{gives_private, slot_is_private}
 use Rattle.code_model.specs.Expressions.{Numbers, classifying, lacks, picked, classified_at, stands_at, next_row, expression_code}

@@ -2,8 +2,8 @@
 use Rattle.std.proofs.Common.{◌≡◌, ℕ, ◌+◌, ◌-◌, true, List, [], ◌∷◌, ◌++◌, length, sym, ap, ap₂, ◌∙◌, arith, append_assoc, length-append}
 use Rattle.std.specs.Prelude.{map, slice_set}
 use Rattle.std.proofs.lemmas.List.{length-map, map-append, set_at}
-use Rattle.typed_tree.specs.Tree.{TypedTree}
-use Rattle.typed_tree.specs.Statements.{TypedStatementTree, loop_statement, do_statement}
+use Rattle.program_trees.specs.TypedTree.{TypedTree}
+use Rattle.program_trees.specs.TypedStatements.{TypedStatementTree, loop_statement, do_statement}
 use Rattle.language_model.specs.Evaluation.{StatementContext}
 use Rattle.verified_code.specs.Steps.{Step, Branch, Jump, ReturnNone}
 use Rattle.code_model.specs.Expressions.{Numbers, stands_at, expression_code}

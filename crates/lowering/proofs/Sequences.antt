@@ -1,6 +1,6 @@
 -- The pieces of statements, one more at a time.
 use Rattle.std.proofs.Common.{◌≡◌, ℕ, ◌+◌, ◌≤◌, List, [], ◌∷◌, ◌++◌, length, sym, ap, ◌∙◌, arith, append_assoc, append-nil, length-append}
-use Rattle.typed_tree.specs.Statements.{TypedStatementTree, typed_statements_of}
+use Rattle.program_trees.specs.TypedStatements.{TypedStatementTree, typed_statements_of}
 use Rattle.language_model.specs.Evaluation.{StatementContext}
 use Rattle.code_model.specs.Expressions.{Numbers}
 use Rattle.code_model.specs.Statements.{first_free, statement_depth, statements_depth}

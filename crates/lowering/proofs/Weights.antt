@@ -1,10 +1,10 @@
 -- How much of a statement is left to read.
 use Rattle.std.proofs.Common.{ℕ, zero, suc, ◌+◌, ◌<◌, List, [], ◌∷◌, length, get_or, arith}
 use Rattle.std.specs.Prelude.{map}
-use Rattle.typed_tree.specs.declared.statement.TypedStatement.{TypedStatement}
-use Rattle.typed_tree.specs.Statements.{TypedStatementTree, TypedStatementTrees, block_statement, if_statement, loop_statement, do_statement, typed_statement}
-use Rattle.typed_tree.specs.Statements.{typed_statements_of}
-use Rattle.typed_tree.specs.Statements as Statements'
+use Rattle.program_trees.specs.declared.typed_statement.TypedStatement.{TypedStatement}
+use Rattle.program_trees.specs.TypedStatements.{TypedStatementTree, TypedStatementTrees, block_statement, if_statement, loop_statement, do_statement, typed_statement}
+use Rattle.program_trees.specs.TypedStatements.{typed_statements_of}
+use Rattle.program_trees.specs.TypedStatements as Statements'
 
 abbrev mutual
   pub weight : TypedStatementTree → ℕ

@@ -1,9 +1,9 @@
 // The code of functions.
 ghost use Rattle.std.specs.Prelude.{◌≡◌, ◌++◌, IfOk, OnOk, length, map};
-ghost use Rattle.typed_tree.specs.Programs.{typed_function_tree};
+ghost use Rattle.program_trees.specs.TypedPrograms.{typed_function_tree};
 ghost use Rattle.code_model.specs.Statements.{defaults_behind};
 ghost use Rattle.code_model.specs.Kinds.{kind_of, rows_kinds, shape_kinds, slot_kind};
-ghost use Rattle.typed_tree.specs.Shapes.{shape_of};
+ghost use Rattle.program_trees.specs.Shapes.{shape_of};
 ghost use Rattle.code_model.specs.Programs.{function_code, given_kind, last_kinds, last_step, nothing_code};
 ghost use Rattle.lowered_expressions.specs.Built.{with_step};
 ghost use Rattle.lowered_expressions.specs.Views.{built, here_of, numbers_of, piece_seen, step_seen};
@@ -15,10 +15,9 @@ use crate::rows::statements_depth;
 use crate::statements::statements;
 use bytecode::Kind;
 use lowered_expressions::{Around, Body, BodyPiece, Step, kind_of};
+use program_trees::{DataType, Returned, Shape, Slot, TypedFunction};
 use reached_instances::{BoundDomain, domain_under, given_domain};
-use secrec_ast::DataType;
 use std::alloc::{AllocError, Global};
-use typed_tree::{Returned, Shape, Slot, TypedFunction};
 
 /// The code of a function, with numbers as large as they come.
 #[derive(Drop)]

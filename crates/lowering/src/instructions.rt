@@ -3,8 +3,8 @@ ghost use Rattle.std.specs.Prelude.{◌≡◌, ◌++◌, ◌&&◌, IfErr, IfOk, 
 ghost use Rattle.std.specs.List.{flat_map, list_all};
 ghost use Rattle.bytecode.specs.InMemory.{operator_byte, raw_function, raw_instruction, result_register};
 ghost use Rattle.bytecode.specs.Written.{body_numbers, head_numbers, instruction_numbers};
-ghost use Rattle.typed_tree.specs.declared.operators.BinaryOperator.TheVariants.{Bools, Words};
-ghost use Rattle.raw_steps.specs.Instructions.{instruction, operator_number, raw_function as raw_of, register_or_nowhere};
+ghost use Rattle.program_trees.specs.declared.operators.BinaryOperator.TheVariants.{Bools, Words};
+ghost use Rattle.code_model.specs.Instructions.{instruction, operator_number, raw_function as raw_of, register_or_nowhere};
 ghost use Rattle.lowered_expressions.specs.Views.{step_seen};
 ghost use Rattle.lowering.specs.inner.Naming.{texts};
 ghost use Rattle.lowering.specs.Narrow.{IsJust, are_short, capped, capped_instruction, is_short};
@@ -16,8 +16,8 @@ use crate::lists::push;
 use crate::naming::{Names, place_among};
 use bytecode::{CodeFunction, FunctionPlace, Instruction, JumpTarget, NamePlace, Register};
 use lowered_expressions::Step;
+use program_trees::{BinaryOperator, BoolOperator, WordOperator};
 use std::alloc::{AllocError, Global};
-use typed_tree::{BinaryOperator, BoolOperator, WordOperator};
 
 // ---- Numbers
 

@@ -1,7 +1,7 @@
 // The names of code, each once, in the order of first use.
 ghost use Rattle.std.specs.Prelude.{◌≡◌, IfOk, OnOk, map};
 ghost use Rattle.std.specs.List.{flat_map};
-ghost use Rattle.raw_steps.specs.Instructions.{names_of, naming, naming_all, place_among, step_names};
+ghost use Rattle.code_model.specs.Instructions.{names_of, naming, naming_all, place_among, step_names};
 ghost use Rattle.lowered_expressions.specs.Views.{step_seen};
 ghost use Rattle.lowering.specs.inner.Naming.{AreSame, texts};
 ghost use Rattle.lowering.specs.inner.Views.{function_seen};

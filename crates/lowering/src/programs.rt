@@ -3,10 +3,10 @@ ghost use Rattle.std.specs.Prelude.{◌≡◌, IfErr, IfOk, map};
 ghost use Rattle.std.specs.List.{flat_map};
 ghost use Rattle.bytecode.specs.InMemory.{raw_code, raw_function};
 ghost use Rattle.bytecode.specs.Written.{body_numbers, head_numbers};
-ghost use Rattle.typed_tree.specs.Programs.{typed_program_tree};
+ghost use Rattle.program_trees.specs.TypedPrograms.{typed_program_tree};
 ghost use Rattle.reached_instances.specs.Instances.{instance_seen};
 ghost use Rattle.code_model.specs.Programs.{code_of, instance_code, numbers_in};
-ghost use Rattle.raw_steps.specs.Instructions.{raw_code_of, raw_function as raw_of};
+ghost use Rattle.code_model.specs.Instructions.{raw_code_of, raw_function as raw_of};
 ghost use Rattle.lowering.specs.inner.Naming.{AreSame, texts};
 ghost use Rattle.lowering.specs.Narrow.{IsJustOfSome, IsJustRefusal};
 ghost use Rattle.lowering.specs.inner.Views.{function_seen};
@@ -18,9 +18,9 @@ use crate::lists::push;
 use crate::naming::{Names, names_of};
 use bytecode::{Code, CodeFunction};
 use lowered_expressions::Around;
+use program_trees::TypedProgram;
 use reached_instances::{Instance, ReachedInstances, Setting};
 use std::alloc::{AllocError, Global};
-use typed_tree::TypedProgram;
 
 // The code of an instance; where its function isn't there, it is empty.
 fn instance_steps<'p>(

@@ -1,15 +1,15 @@
 // How many rows of registers a function has for values on their way. Each statement begins with the first of them.
 ghost use Rattle.std.specs.Prelude.{◌≡◌, IfOk, map, max};
-ghost use Rattle.typed_tree.specs.Tree.{typed_tree};
-ghost use Rattle.typed_tree.specs.Statements.{typed_statement, typed_statements_of};
+ghost use Rattle.program_trees.specs.TypedTree.{typed_tree};
+ghost use Rattle.program_trees.specs.TypedStatements.{typed_statement, typed_statements_of};
 ghost use Rattle.reached_instances.specs.Views.{setting};
 ghost use Rattle.code_model.specs.Kinds.{depth};
 ghost use Rattle.code_model.specs.Statements.{first_free, statement_depth, statements_depth};
 
 use lowered_expressions::{depth, depth_of_two, greater};
+use program_trees::{TypedExpression, TypedStatement};
 use reached_instances::Setting;
 use std::alloc::AllocError;
-use typed_tree::{TypedExpression, TypedStatement};
 
 /// Where the rows begin: after the slots and the registers of the defaults, which are there if there is a slot.
 pub fn first_row(here: &Setting<'_>) -> usize

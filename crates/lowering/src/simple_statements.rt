@@ -1,8 +1,8 @@
 // The code of statements without others in them.
 ghost use Rattle.std.specs.Prelude.{◌≡◌, ◌<◌, OnOk};
-ghost use Rattle.typed_tree.specs.Tree.{typed_tree};
-ghost use Rattle.typed_tree.specs.Statements.{assert_statement, default_statement, evaluate_statement, input_statement, optional_tree, publish_statement};
-ghost use Rattle.typed_tree.specs.Statements.{return_statement, store_statement};
+ghost use Rattle.program_trees.specs.TypedTree.{typed_tree};
+ghost use Rattle.program_trees.specs.TypedStatements.{assert_statement, default_statement, evaluate_statement, input_statement, optional_tree, publish_statement};
+ghost use Rattle.program_trees.specs.TypedStatements.{return_statement, store_statement};
 ghost use Rattle.code_model.specs.Statements.{shape_number};
 ghost use Rattle.lowered_expressions.specs.Views.{built, here_of, numbers_of, step_seen};
 ghost use Rattle.lowering.specs.inner.Leaves.{pair_statement, pair_step, with_leaf};
@@ -15,11 +15,10 @@ use lowered_expressions::{
     Around, Body, CallHead, Step, WantedOperand, call, expression, given_to, in_row, kind, kind_of,
     lacks, next_row, operand, wanted,
 };
+use program_trees::{DataType, Shape, TypedExpression};
 use reached_instances::{slot_is_private, slot_shape};
 use sc_text::Name;
-use secrec_ast::DataType;
 use std::alloc::AllocError;
-use typed_tree::{Shape, TypedExpression};
 
 /// `return`, with a value or without. An error comes where memory runs short, here as in what follows.
 pub fn returning(

@@ -1,7 +1,7 @@
 // The code of statements with others in them. They call one another, so they stand together.
 ghost use Rattle.std.specs.Prelude.{◌≡◌, OnOk, map};
-ghost use Rattle.typed_tree.specs.Tree.{typed_tree};
-ghost use Rattle.typed_tree.specs.Statements.{typed_statement, typed_statements_of, do_statement, if_statement, loop_statement};
+ghost use Rattle.program_trees.specs.TypedTree.{typed_tree};
+ghost use Rattle.program_trees.specs.TypedStatements.{typed_statement, typed_statements_of, do_statement, if_statement, loop_statement};
 ghost use Rattle.lowered_expressions.specs.Views.{built};
 ghost use Rattle.lowering.specs.inner.Pieces.{with_statement, with_statements};
 ghost use Rattle.lowering.specs.inner.Views.{numbers_at, place_seen};
@@ -14,8 +14,8 @@ use crate::simple_statements::{
     unread,
 };
 use lowered_expressions::{Body, BodyPiece, Step, expression};
+use program_trees::{TypedExpression, TypedStatement};
 use std::alloc::AllocError;
-use typed_tree::{TypedExpression, TypedStatement};
 
 /// Puts the code of a statement after a body. An error comes where memory runs short.
 #[cycle(statements)]

@@ -20,8 +20,8 @@ use Rattle.miner_node.specs.declared.node_err.NodeErr.TheVariants.{LinkFault, Pe
 use Rattle.miner_node.specs.declared.node_err.ServeErr.{ServeErr}
 use Rattle.miner_node.specs.declared.node_err.ServeErr.TheVariants.{Node, TapeFault}
 use Rattle.miner_node.specs.Serving.{Outcome, Mismatch, NoFrame, Refused, Serving}
-use Rattle.node_faults.specs.declared.fault.NodeFault.{NodeFault}
-use Rattle.node_faults.specs.declared.fault.NodeFault.TheVariants as faults
+use Rattle.command_frame.specs.declared.fault.NodeFault.{NodeFault}
+use Rattle.command_frame.specs.declared.fault.NodeFault.TheVariants as faults
 use Rattle.node_run.specs.declared.running.NodeText.{NodeText}
 use Rattle.node_run.specs.Nodes.{Outgoing, Own, own_bytes, own_serving, Runs}
 use Rattle.node_run.proofs.Joins.{all_sent}

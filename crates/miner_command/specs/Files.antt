@@ -7,12 +7,12 @@ use Rattle.proto_core.specs.Parties.{count_of}
 use Rattle.command_words.specs.Ask.{MinerAsk}
 use Rattle.command_frame.specs.declared.status.Status.TheVariants.{Program}
 use Rattle.command_frame.specs.Answer.{Cause, ◌>>=◌, bytes_at}
-use Rattle.node_faults.specs.Faults.{node_fault_line}
-use Rattle.node_faults.specs.declared.fault.NodeFault.TheVariants.{Bytes, Step}
-use Rattle.node_faults.specs.declared.kinds.ByteFault.{ByteFault}
-use Rattle.node_faults.specs.declared.kinds.ByteFault.TheVariants as byte_faults
-use Rattle.node_faults.specs.declared.kinds.StepFault.{StepFault}
-use Rattle.node_faults.specs.declared.kinds.StepFault.TheVariants as step_faults
+use Rattle.command_frame.specs.Faults.{node_fault_line}
+use Rattle.command_frame.specs.declared.fault.NodeFault.TheVariants.{Bytes, Step}
+use Rattle.command_frame.specs.declared.kinds.ByteFault.{ByteFault}
+use Rattle.command_frame.specs.declared.kinds.ByteFault.TheVariants as byte_faults
+use Rattle.command_frame.specs.declared.kinds.StepFault.{StepFault}
+use Rattle.command_frame.specs.declared.kinds.StepFault.TheVariants as step_faults
 use Rattle.bytecode.specs.Raw.{RawCode}
 use Rattle.bytecode.specs.Decoded.{decoded}
 use Rattle.bytecode.specs.declared.fault.DecodeFault.{DecodeFault}

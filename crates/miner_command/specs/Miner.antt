@@ -14,11 +14,11 @@ use Rattle.proto_core.specs.declared.refused.BadMessage.TheVariants as refusals
 use Rattle.proto_core.specs.Strand.{Act}
 use Rattle.wire.specs.declared.fields.Field.{Field}
 use Rattle.wire.specs.declared.fields.Field.TheVariants as fields
-use Rattle.node_faults.specs.Faults.{node_fault_line}
-use Rattle.node_faults.specs.declared.fault.NodeFault.{NodeFault}
-use Rattle.node_faults.specs.declared.fault.NodeFault.TheVariants as faults
-use Rattle.node_faults.specs.declared.kinds.HelloField.{HelloField}
-use Rattle.node_faults.specs.declared.kinds.HelloField.TheVariants as hello_fields
+use Rattle.command_frame.specs.Faults.{node_fault_line}
+use Rattle.command_frame.specs.declared.fault.NodeFault.{NodeFault}
+use Rattle.command_frame.specs.declared.fault.NodeFault.TheVariants as faults
+use Rattle.command_frame.specs.declared.kinds.HelloField.{HelloField}
+use Rattle.command_frame.specs.declared.kinds.HelloField.TheVariants as hello_fields
 use Rattle.miner_node.specs.Serving.{Outcome, Finished, Mismatch, NoFrame, Refused, CutOff, Serving}
 use Rattle.node_run.specs.Nodes.{Outgoing, Own, end_in, node_text, own_bytes, own_serving}
 use Rattle.program_commands.specs.Ends.{ending_status}

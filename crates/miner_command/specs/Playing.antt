@@ -18,7 +18,7 @@ use Rattle.miner_node.specs.declared.node_err.NodeErr.TheVariants.{LinkFault, Pe
 use Rattle.miner_node.specs.declared.node_err.ServeErr.{ServeErr}
 use Rattle.miner_node.specs.declared.node_err.ServeErr.TheVariants.{Node, TapeFault}
 use Rattle.miner_node.specs.Peers.{Sends, SendsFronts}
-use Rattle.node_faults.specs.declared.fault.NodeFault.TheVariants as faults
+use Rattle.command_frame.specs.declared.fault.NodeFault.TheVariants as faults
 use Rattle.node_run.specs.declared.running.NodeText.{NodeText}
 use Rattle.node_run.specs.Nodes.{Outgoing, Own, own_bytes, own_serving, with_memory, Runs}
 use Rattle.tape_sources.specs.FileTapes.{file_in, words_in, TapeFaulted}

@@ -2,14 +2,13 @@
 ghost use Rattle.std.specs.Prelude.{◌≡◌, ◌∷◌, [], IfOk, IfErr, string_bytes};
 ghost use Rattle.command_frame.specs.Reads.{OnlyRead, Gives, StopNames};
 ghost use Rattle.command_frame.specs.Stops.{IsRefusalFor};
-ghost use Rattle.node_faults.specs.Faults.{node_fault_line};
-ghost use Rattle.node_faults.specs.declared.fault.NodeFault.TheVariants.{Bytes, Step};
+ghost use Rattle.command_frame.specs.Faults.{node_fault_line};
+ghost use Rattle.command_frame.specs.declared.fault.NodeFault.TheVariants.{Bytes, Step};
 ghost use Rattle.miner_command.specs.Files.{bad_bytes, bad_step, byte_fault, code_at, code_of, step_fault};
 ghost use Rattle.miner_command.specs.Views.{code_seen, Judges};
 
 use bytecode::{DecodeErr, DecodeFault, FaultKind, decode};
-use command_frame::{Status, Stop, read_file, refused};
-use node_faults::{ByteFault, StepFault};
+use command_frame::{ByteFault, Status, StepFault, Stop, read_file, refused};
 use outside::Files;
 use std::alloc::{AllocError, Global};
 use verified_code::{CodeProblem, Verified, VerifyErr, verify};

@@ -4,9 +4,8 @@ ghost use Rattle.command_frame.specs.Stops.{IsBreachFor};
 ghost use Rattle.miner_command.specs.Miner.{bad_peer, hello_field, message_fault};
 ghost use Rattle.miner_command.specs.Playing.{IsNodeStop, IsServeStop};
 
-use command_frame::{Object, Status, Stop, breached, file_stop};
+use command_frame::{HelloField, NodeFault, Object, Status, Stop, breached, file_stop};
 use miner_node::{NodeErr, ServeErr};
-use node_faults::{HelloField, NodeFault};
 use proto_core::{BadMessage, Link};
 use std::alloc::Global;
 use wire::Field;

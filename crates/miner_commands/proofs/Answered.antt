@@ -11,7 +11,7 @@ use Rattle.command_frame.specs.Stops.{IsFileStop}
 use Rattle.command_frame.proofs.Naming.{names_later}
 use Rattle.command_frame.proofs.ReadStops.{later_gives, read_on}
 use Rattle.command_words.specs.Ask.{RunAsk}
-use Rattle.typed_tree.specs.Programs.{TypedProgramTree}
+use Rattle.program_trees.specs.TypedPrograms.{TypedProgramTree}
 use Rattle.value_file.specs.declared.inputs.Entry.{Entry}
 use Rattle.tape_file.specs.Tapes.{FourTapes}
 use Rattle.counted_net.specs.declared.delivery.DeliveryErr.{DeliveryErr}

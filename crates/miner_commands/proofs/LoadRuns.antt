@@ -12,7 +12,7 @@ use Rattle.tape_file.specs.Tapes.{FourTapes}
 use Rattle.value_file.specs.declared.inputs.Entry.{Entry}
 use Rattle.value_file.specs.Input.{AreInputs}
 use Rattle.view_model.specs.TapeMaps.{AreTapes}
-use Rattle.typed_tree.specs.Programs.{TypedProgramTree}
+use Rattle.program_trees.specs.TypedPrograms.{TypedProgramTree}
 use Rattle.workload.specs.Load.{load_entries, load_program, load_seed}
 use Rattle.tape_file.specs.Seeds.{seed_tapes}
 use Rattle.workload.specs.LoadTree.{load_typed}

@@ -6,7 +6,7 @@ use Rattle.command_words.specs.Ask.{RunAsk}
 use Rattle.sc_text.specs.declared.end.End.{End}
 use Rattle.sc_text.specs.declared.event.Event.{Event}
 use Rattle.sc_text.specs.Event.{run_text}
-use Rattle.typed_tree.specs.Programs.{TypedProgramTree}
+use Rattle.program_trees.specs.TypedPrograms.{TypedProgramTree}
 use Rattle.value_file.specs.declared.inputs.Entry.{Entry}
 use Rattle.tape_file.specs.Tapes.{FourTapes}
 use Rattle.language_model.specs.Reports.{Report}

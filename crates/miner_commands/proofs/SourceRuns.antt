@@ -5,7 +5,7 @@ use Rattle.outside.specs.Tapes.{TapesState}
 use Rattle.protocol_model.specs.Network.{Delivery}
 use Rattle.tape_file.specs.Tapes.{FourTapes}
 use Rattle.tape_sources.specs.Parties.{four_of}
-use Rattle.typed_tree.specs.Programs.{TypedProgramTree}
+use Rattle.program_trees.specs.TypedPrograms.{TypedProgramTree}
 use Rattle.value_file.specs.declared.inputs.Entry.{Entry}
 use Rattle.view_model.specs.TapeMaps.{AreTapes}
 use Rattle.counted_net.specs.declared.delivery.DeliveryErr.{DeliveryErr}

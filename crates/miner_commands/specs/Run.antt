@@ -12,7 +12,7 @@ use Rattle.protocol_model.specs.Network.{Delivery}
 use Rattle.schedule_file.specs.Text.{schedule_bytes}
 use Rattle.tape_file.specs.Tapes.{FourTapes}
 use Rattle.value_file.specs.declared.inputs.Entry.{Entry}
-use Rattle.typed_tree.specs.Programs.{TypedProgramTree}
+use Rattle.program_trees.specs.TypedPrograms.{TypedProgramTree}
 use Rattle.language_model.specs.Reports.{Report}
 use Rattle.program_run.specs.Reports.{eval_with}
 use Rattle.viewed_run.specs.Deliveries.{delivered_of, net_of, IsOrRefused, IsRefusedOf}

@@ -8,7 +8,7 @@ ghost use Rattle.viewed_run.specs.Sources.{RunsFrom};
 ghost use Rattle.counted_net.specs.declared.delivery.DeliveryErr.TheVariants.{Memory as NoMemory};
 ghost use Rattle.viewed_run.specs.Deliveries.{delivery_seen};
 ghost use Rattle.program_run.specs.Accepted.{IsAccepted};
-ghost use Rattle.typed_tree.specs.Programs.{typed_program_tree};
+ghost use Rattle.program_trees.specs.TypedPrograms.{typed_program_tree};
 ghost use Rattle.value_file.specs.Input.{AreInputs};
 ghost use Rattle.miner_commands.specs.Run.{ran_effect, ran_paths, recorded_links, IsRanOrNot};
 
@@ -17,10 +17,10 @@ use command_frame::{Content, Plan, PlannedWrite};
 use command_words::RunWords;
 use outside::TapeSource;
 use program_commands::ending_status;
+use program_trees::TypedProgram;
 use proto_core::Link;
 use sc_text::run_text;
 use std::alloc::{AllocError, Global};
-use typed_tree::TypedProgram;
 use value_file::Inputs;
 use viewed_run::{CourseErr, DeliveredRun, Delivery, run_delivered, run_seen};
 

@@ -9,7 +9,7 @@ ghost use Rattle.viewed_run.specs.Deliveries.{delivery_seen};
 ghost use Rattle.program_run.specs.Accepted.{IsAccepted};
 ghost use Rattle.tape_file.specs.Seeds.{seed_tapes};
 ghost use Rattle.tape_sources.specs.FileTapes.{TapeFaulted};
-ghost use Rattle.typed_tree.specs.Programs.{typed_program_tree};
+ghost use Rattle.program_trees.specs.TypedPrograms.{typed_program_tree};
 ghost use Rattle.value_file.specs.Input.{AreInputs};
 ghost use Rattle.program_commands.specs.Judging.{Finding, FoundAt, HasFinding, its_program, Tells};
 ghost use Rattle.miner_commands.specs.Opened.{open_paths, tapes_in, tapes_seen, AreOpen, IsOpen, IsCourseStop};

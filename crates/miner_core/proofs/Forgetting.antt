@@ -127,7 +127,7 @@ answer_alike s x (Ok (step.Waits l)) = (λ h. standing_forgetting s x ∙ h, λ 
 answer_alike s x (Ok (step.Ended end)) = ended_alike s end
 answer_alike s x (Err (error.BadMessage l cause)) = (λ h. standing_forgetting s x ∙ h, λ h. sym (standing_forgetting s x) ∙ h)
 answer_alike s x (Err (error.NotAwaited l)) = (λ h. h, λ h. h)
-answer_alike s x (Err error.Memory) = (λ h. h, λ h. h)
+answer_alike s x (Err (error.Lost why)) = (λ h. h, λ h. h)
 
 -- ---- WHAT MAY BE LET GO
 

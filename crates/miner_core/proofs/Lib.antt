@@ -14,7 +14,7 @@ pub mod Sources
 pub mod Past
 pub mod Draws
 pub mod Streaming
-pub mod LeanMiners
+pub mod Miners
 pub mod Told
 pub mod Plans
 pub use Rattle.gate_node.proofs.Always

@@ -1,5 +1,5 @@
 -- What a miner does is the same whatever it has let go of that is done with.
-use Rattle.std.proofs.Common.{◌≡◌, ℕ, List, [], ◌++◌, append_assoc, map, refl, sym, ◌∙◌, ap, subst}
+use Rattle.std.proofs.Common.{◌≡◌, ℕ, List, [], ◌++◌, append_assoc, take, drop, take-append-drop, map, refl, sym, ◌∙◌, ap, subst}
 use Rattle.std.specs.Prelude.{Option}
 use Rattle.proto_core.specs.declared.party.Number.{Number}
 use Rattle.proto_core.specs.declared.refused.BadMessage.{BadMessage}
@@ -215,6 +215,32 @@ at_rest_previous i past e at ahead s h =
     let l = e.node.links in
     at_rest_less i past (record past { to_previous = past.to_previous ++ l.to_previous }) e (record l { to_previous = [] }) refl refl
     (ap (λ v. record (sent_before past l) { to_previous = v }) (append-none (past.to_previous ++ l.to_previous))) at ahead s h
+
+-- the first of those to the next miner
+pub at_rest_next_first :
+    {P : Type 0} (i : Number) (count : ℕ) (past : Past) (e : Engine P) (at : Rest) (ahead : ℕ) (s : Story) → IsAtRest i past e at ahead s →
+    IsAtRest i (record past { to_next = past.to_next ++ take count e.node.links.to_next })
+    (record e { node = node.with_links e.node (record e.node.links { to_next = drop count e.node.links.to_next }) }) at ahead s
+at_rest_next_first i count past e at ahead s h =
+    let l = e.node.links in
+    let first = take count l.to_next in
+    let others = drop count l.to_next in
+    at_rest_less i past (record past { to_next = past.to_next ++ first }) e (record l { to_next = others }) refl refl
+    (ap (λ v. record (sent_before past l) { to_next = v })
+    (append_assoc past.to_next first others ∙ ap (λ v. past.to_next ++ v) (take-append-drop count l.to_next))) at ahead s h
+
+-- the first of those to the previous miner
+pub at_rest_previous_first :
+    {P : Type 0} (i : Number) (count : ℕ) (past : Past) (e : Engine P) (at : Rest) (ahead : ℕ) (s : Story) → IsAtRest i past e at ahead s →
+    IsAtRest i (record past { to_previous = past.to_previous ++ take count e.node.links.to_previous })
+    (record e { node = node.with_links e.node (record e.node.links { to_previous = drop count e.node.links.to_previous }) }) at ahead s
+at_rest_previous_first i count past e at ahead s h =
+    let l = e.node.links in
+    let first = take count l.to_previous in
+    let others = drop count l.to_previous in
+    at_rest_less i past (record past { to_previous = past.to_previous ++ first }) e (record l { to_previous = others }) refl refl
+    (ap (λ v. record (sent_before past l) { to_previous = v })
+    (append_assoc past.to_previous first others ∙ ap (λ v. past.to_previous ++ v) (take-append-drop count l.to_previous))) at ahead s h
 
 -- ---- by its gates
 

@@ -71,7 +71,7 @@ module _ (i : Number) where
   again after last k refused n cause e (Err (error.NotAwaited l)) h = no_end refused cause (sym h.1 ∙ e)
   again after last k refused n cause e (Err (error.BadMessage l why)) h =
       same_refusal l refused why cause (sym h.2 ∙ ap (stands_at i) h.1 ∙ (stays after k n refused cause e).0)
-  again after last k refused n cause e (Err error.Memory) h = tt
+  again after last k refused n cause e (Err (error.Lost why)) h = tt
 
   pub answers_again :
       (before after last : Story) (l k refused : Link) (cause : BadMessage) (m n : List ℕ) (answer : Result Step MinerErr) →

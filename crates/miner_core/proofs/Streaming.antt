@@ -1,7 +1,7 @@
--- A miner that draws its tape, for every tape that begins with the words drawn; and one that was given its tape whole.
-use Rattle.std.proofs.Common.{◌≡◌, ℕ, ◌+◌, ◌-◌, ◌≤◌, false, true, List, [], ◌∷◌, ◌++◌, length, length-drop, drop, map, refl, sym, ◌∙◌, ap, subst, arith}
+-- A miner that draws its tape, for every tape that begins with the words drawn; and one that has its tape whole.
+use Rattle.std.proofs.Common.{◌≡◌, ℕ, ◌+◌, ◌-◌, ◌≤◌, false, List, [], ◌∷◌, ◌++◌, length, length-drop, drop, map, refl, sym, ◌∙◌, ap, subst, arith}
 use Rattle.std.proofs.Math.Seq.{drop-append_seam}
-use Rattle.std.specs.Prelude.{Option, Some, None, Result, Ok, Err, IfSome}
+use Rattle.std.specs.Prelude.{Option, Some, None, Result, Ok, Err}
 use Rattle.outside.specs.Tapes.{TapesState, Drew}
 use Rattle.proto_core.specs.declared.party.Number.{Number}
 use Rattle.proto_core.specs.declared.link.Link.{Link}
@@ -17,19 +17,17 @@ use Rattle.own_code.specs.OwnCode.{Ended}
 use Rattle.gate_node.specs.Nodes.{IsTapeOf}
 use Rattle.miner_core.specs.declared.answer.Step.{Step}
 use Rattle.miner_core.specs.declared.answer.MinerErr.{MinerErr}
-use Rattle.miner_core.specs.declared.answer.MinerErr.TheVariants as whole
 use Rattle.miner_core.specs.declared.answer.Lost.{Lost}
-use Rattle.miner_core.specs.declared.answer.StreamErr.{StreamErr}
-use Rattle.miner_core.specs.declared.answer.StreamErr.TheVariants as error
+use Rattle.miner_core.specs.declared.answer.MinerErr.TheVariants as error
 use Rattle.miner_core.specs.declared.engine.Engine.{Engine}
 use Rattle.miner_core.specs.declared.rest.Rest.{Rest}
 use Rattle.miner_core.specs.declared.task.Task.{Task}
 use Rattle.miner_core.specs.Engines.{engine_left, ending_at, if_ended, with_words, Rests}
 use Rattle.miner_core.specs.Drawing.{left_for, Delivers, IsAtRest, IsAtItsEnd}
 use Rattle.miner_core.specs.Past.{Past, with_past}
-use Rattle.miner_core.specs.Story.{Story, Follows, received, start_of, story_of, stands_at, IsAnswer, IsAnswerOf, DeliverAnswers}
+use Rattle.miner_core.specs.Story.{Story, Follows, received, start_of, stands_at, IsAnswer, IsAnswerOf, DeliverAnswers}
 use Rattle.miner_core.specs.Story.{sent_to_next, sent_to_previous, has_told, ending_in, cost_in, drawn_in}
-use Rattle.miner_core.specs.Streams.{StreamState, has_lost, with_tape, story_so_far, story_in_use, ForEachTape, ForWordsDrawn, settled, no_words}
+use Rattle.miner_core.specs.Streams.{StreamState, has_lost, with_tape, story_so_far, story_in_use, ForEachTape, ForWordsDrawn, no_words}
 use Rattle.miner_core.specs.Streams.{IsOfMessage, IsMade, HasMoved, Answers}
 use Rattle.miner_core.specs.Views.{notice_seen}
 use Rattle.miner_core.proofs.Draws.{at_rest_after, received_with}
@@ -38,21 +36,18 @@ use Rattle.miner_core.proofs.Stops.{ending_is, cost_is, drawn_is}
 use Rattle.miner_core.proofs.Stories.{answer_of, follows, standing_of_story}
 
 answers_by :
-    (i : Number) (before after : StreamState) (l : Link) (m : List ℕ) (s t : TapesState) (r : Result Step StreamErr) → IsOfMessage r →
-    HasMoved i l m before after s t (settled r) → Answers i l m before after s t r
+    (i : Number) (before after : StreamState) (l : Link) (m : List ℕ) (s t : TapesState) (r : Result Step MinerErr) → IsOfMessage r →
+    HasMoved i l m before after s t r → Answers i l m before after s t r
 answers_by i before after l m s t (Ok step) of h = h
 answers_by i before after l m s t (Err (error.BadMessage at cause)) of h = h
 answers_by i before after l m s t (Err (error.NotAwaited at)) of h = absurd of
 answers_by i before after l m s t (Err (error.Lost why)) of h = absurd of
 
 -- that it has ended is answered
-abbrev pub IsNotAwaited : Result Step StreamErr → Link → Type 0
+abbrev pub IsNotAwaited : Result Step MinerErr → Link → Type 0
 IsNotAwaited r l = r ≡ Err (error.NotAwaited l)
 
 -- ---- by its engine
-
-abbrev pub seen : {P : Type 0} → Engine P → (budget ahead : ℕ) → Option Lost → StreamState
-seen e budget ahead lost = record { story = story_of e budget; ahead = ahead; lost = lost }
 
 -- while it is of use it rests so, with what it has let go of what it had sent
 module _
@@ -84,14 +79,14 @@ module _
 
   -- what is answered
   pub answer_at :
-      (r : Result Step StreamErr) →
-      ((more : List ℕ) → Rests i at (with_words e more) → IsAnswerOf (engine_left i (with_words e more)) (mail_left i e.node.links) (settled r)) →
-      ForEachTape w (λ s. IsAnswer i s (settled r))
+      (r : Result Step MinerErr) →
+      ((more : List ℕ) → Rests i at (with_words e more) → IsAnswerOf (engine_left i (with_words e more)) (mail_left i e.node.links) r) →
+      ForEachTape w (λ s. IsAnswer i s r)
   answer_at r answers =
-      at_tape (λ s. IsAnswer i s (settled r))
+      at_tape (λ s. IsAnswer i s r)
       (λ more s same f stands.
-      answer_of i (with_words (with_past past e) more) s (settled r) f
-      (subst (λ v. IsAnswerOf v (mail_left i e.node.links) (settled r)) (sym (left_past i past (with_words e more))) (answers more stands)))
+      answer_of i (with_words (with_past past e) more) s r f
+      (subst (λ v. IsAnswerOf v (mail_left i e.node.links) r) (sym (left_past i past (with_words e more))) (answers more stands)))
 
   -- with what it has let go, it stands where it stands
   standing_past :
@@ -164,11 +159,11 @@ module _ {P : Type 0} (i : Number) (w : StreamState) (l : Link) (m : List ℕ) w
       (at_rest_after i past e e2 at at2 l m w.ahead (story_in_use w) s t h d))
 
   moved :
-      (past : Past) (e2 : Engine P) (at2 : Rest) (s t : TapesState) (taken : List ℕ) (ahead : ℕ) (r : Result Step StreamErr) → w.lost ≡ None →
+      (past : Past) (e2 : Engine P) (at2 : Rest) (s t : TapesState) (taken : List ℕ) (ahead : ℕ) (r : Result Step MinerErr) → w.lost ≡ None →
       Drew s t (count_of i) taken → left_for i t ≡ ahead → IsAtRest i past e2 at2 ahead (story_in_use (then_state i w l m taken ahead)) →
       ((more : List ℕ) → Rests i at2 (with_words e2 more) →
-      IsAnswerOf (engine_left i (with_words e2 more)) (mail_left i e2.node.links) (settled r)) →
-      HasMoved i l m w (then_state i w l m taken ahead) s t (settled r)
+      IsAnswerOf (engine_left i (with_words e2 more)) (mail_left i e2.node.links) r) →
+      HasMoved i l m w (then_state i w l m taken ahead) s t r
   moved past e2 at2 s t taken ahead r going drew left rests answers =
       record {
         going = going;
@@ -176,23 +171,21 @@ module _ {P : Type 0} (i : Number) (w : StreamState) (l : Link) (m : List ℕ) w
         drew = drew;
         tape = refl;
         ahead = left;
+        past = refl;
         received = λ tape. sym (received_with i w.story l m tape (has_lost w.lost));
         answers = answer_at i past e2 at2 (then_state i w l m taken ahead) (λ same. rests) r answers going;
       }
 
   pub answers_moved :
-      (past : Past) (e2 : Engine P) (at2 : Rest) (s t : TapesState) (taken : List ℕ) (ahead : ℕ) (r : Result Step StreamErr) → w.lost ≡ None →
+      (past : Past) (e2 : Engine P) (at2 : Rest) (s t : TapesState) (taken : List ℕ) (ahead : ℕ) (r : Result Step MinerErr) → w.lost ≡ None →
       Drew s t (count_of i) taken → left_for i t ≡ ahead → IsAtRest i past e2 at2 ahead (story_in_use (then_state i w l m taken ahead)) →
       ((more : List ℕ) → Rests i at2 (with_words e2 more) →
-      IsAnswerOf (engine_left i (with_words e2 more)) (mail_left i e2.node.links) (settled r)) → IsOfMessage r →
+      IsAnswerOf (engine_left i (with_words e2 more)) (mail_left i e2.node.links) r) → IsOfMessage r →
       Answers i l m w (then_state i w l m taken ahead) s t r
   answers_moved past e2 at2 s t taken ahead r going drew left rests answers of =
       answers_by i w (then_state i w l m taken ahead) l m s t r of (moved past e2 at2 s t taken ahead r going drew left rests answers)
 
 -- ---- with its whole tape
-
-false_is_true : false ≡ true → ⊥
-false_is_true e = cc
 
 pub none_of : (l : Option Lost) → has_lost l ≡ false → l ≡ None
 none_of None h = refl
@@ -202,9 +195,6 @@ pub itself : (xs : List ℕ) (n : ℕ) → n ≡ 0 → IsTapeOf xs n xs
 itself xs n same =
     let none : drop (length xs) xs ≡ [] = ap (drop (length xs)) (sym (append-none xs)) ∙ drop-append_seam xs [] in
     record { begins = sym (append-none xs) ∙ ap (λ r. xs ++ r) (sym none); counted = omega (arith, same) }
-
-pub at_whole : (m : StreamState) (Q : Story → Type 0) → (m.lost ≡ None → m.ahead ≡ 0) → ForEachTape m Q → (story_so_far m).lost ≡ false → Q (story_so_far m)
-at_whole m Q none h going = let is = none_of m.lost going in h is m.story.tape (itself m.story.tape m.ahead (none is))
 
 pub no_length : (xs : List ℕ) → length xs ≡ 0 → xs ≡ []
 no_length [] h = refl
@@ -251,65 +241,26 @@ module _ (i : Number) (l : Link) (m : List ℕ) (before after : StreamState) (t 
         h.answers after.story.tape (itself after.story.tape after.ahead (after_none r h)),
       )
 
-  by_answer : (r : Result Step StreamErr) → before.lost ≡ None → Answers i l m before after no_words t r →
-      DeliverAnswers i (story_so_far before) (story_so_far after) l m (settled r)
+  by_answer : (r : Result Step MinerErr) → before.lost ≡ None → Answers i l m before after no_words t r →
+      DeliverAnswers i (story_so_far before) (story_so_far after) l m r
   by_answer (Ok step) going h = move (Ok step) going h
-  by_answer (Err (error.BadMessage at cause)) going h = move (Err (whole.BadMessage at cause)) going h
+  by_answer (Err (error.BadMessage at cause)) going h = move (Err (error.BadMessage at cause)) going h
   by_answer (Err (error.NotAwaited at)) going h =
       (h.here, h.ended before.story.tape (itself before.story.tape before.ahead (none going)), ap story_so_far h.same)
   by_answer (Err (error.Lost why)) going h = ap has_lost h.state
 
-  still_none : (r : Result Step StreamErr) → before.lost ≡ None → Answers i l m before after no_words t r → after.lost ≡ None → after.ahead ≡ 0
-  still_none (Ok step) going h same = after_none (Ok step) h
-  still_none (Err (error.BadMessage at cause)) going h same = after_none (Err (whole.BadMessage at cause)) h
-  still_none (Err (error.NotAwaited at)) going h same = ap (λ (x : StreamState). x.ahead) h.same ∙ none going
-  still_none (Err (error.Lost why)) going h same = absurd (apart why (sym h.state ∙ same))
-    where
-      apart : (k : Lost) → Some k ≡ None → ⊥
-      apart k e = cc
-
   -- what a miner that is of no further use answers
-  abbrev IsSame : Result Step StreamErr → Lost → Type 0
+  abbrev IsSame : Result Step MinerErr → Lost → Type 0
   IsSame r k = (r ≡ Err (error.Lost k)) × (after ≡ before)
 
-  module _ (r : Result Step StreamErr) (answers : before.lost ≡ None → Answers i l m before after no_words t r)
+  module _ (r : Result Step MinerErr) (answers : before.lost ≡ None → Answers i l m before after no_words t r)
       (lost : (k : Lost) → before.lost ≡ Some k → IsSame r k) where
-    pub whole_answers : DeliverAnswers i (story_so_far before) (story_so_far after) l m (settled r)
+    pub whole_answers : DeliverAnswers i (story_so_far before) (story_so_far after) l m r
     whole_answers = by_lost before.lost refl
       where
-        by_lost : (k : Option Lost) → before.lost ≡ k → DeliverAnswers i (story_so_far before) (story_so_far after) l m (settled r)
+        by_lost : (k : Option Lost) → before.lost ≡ k → DeliverAnswers i (story_so_far before) (story_so_far after) l m r
         by_lost None is = by_answer r is (answers is)
         by_lost (Some k) is =
             let same = lost k is in
-            subst (λ q. DeliverAnswers i (story_so_far before) (story_so_far after) l m (settled q)) (sym same.0)
+            subst (λ q. DeliverAnswers i (story_so_far before) (story_so_far after) l m q) (sym same.0)
             (ap (λ (x : StreamState). has_lost x.lost) same.1 ∙ ap has_lost is)
-
-    pub whole_still : after.lost ≡ None → after.ahead ≡ 0
-    whole_still = by_lost before.lost refl
-      where
-        by_lost : (k : Option Lost) → before.lost ≡ k → after.lost ≡ None → after.ahead ≡ 0
-        by_lost None is = still_none r is (answers is)
-        by_lost (Some k) is = λ gone. let same = lost k is in ap (λ (x : StreamState). x.ahead) same.1 ∙
-            none (sym (ap (λ (x : StreamState). x.lost) same.1) ∙ gone)
-
-    pub whole_lost : (story_so_far before).lost ≡ true → (settled r ≡ Err whole.Memory) × (story_so_far after ≡ story_so_far before)
-    whole_lost = by_lost before.lost refl
-      where
-        by_lost : (k : Option Lost) → before.lost ≡ k → has_lost before.lost ≡ true → (settled r ≡ Err whole.Memory) × (story_so_far after ≡
-            story_so_far before)
-        by_lost None is h = absurd (false_is_true (sym (ap has_lost is) ∙ h))
-        by_lost (Some k) is h = let same = lost k is in (ap settled same.0, ap story_so_far same.1)
-
--- what is said where it is of no further use
-pub if_lost : (o : Option Lost) (Q : Lost → Type 0) → IfSome o Q → (k : Lost) → o ≡ Some k → Q k
-if_lost None Q h k is = absurd cc
-if_lost (Some j) Q h k is = let e : j ≡ k = cc in subst Q e h
-
--- what it answers then
-pub lost_whole :
-    (m : StreamState) (r : Result Step StreamErr) → IfSome m.lost (λ l. r ≡ Err (error.Lost l)) → (story_so_far m).lost ≡ true → settled r ≡ Err whole.Memory
-lost_whole m r h gone = by_lost m.lost h gone
-  where
-    by_lost : (o : Option Lost) → IfSome o (λ l. r ≡ Err (error.Lost l)) → has_lost o ≡ true → settled r ≡ Err whole.Memory
-    by_lost None k gone = absurd cc
-    by_lost (Some l) k gone = ap settled k

@@ -20,7 +20,7 @@ abbrev pub IsThisRefusal : Link → BadMessage → Result Step MinerErr → Type
 IsThisRefusal refused cause (Ok step) = ⊥
 IsThisRefusal refused cause (Err (error.NotAwaited link)) = ⊥
 IsThisRefusal refused cause (Err (error.BadMessage link why)) = (link ≡ refused) × (why ≡ cause)
-IsThisRefusal refused cause (Err error.Memory) = Unit {0}
+IsThisRefusal refused cause (Err (error.Lost why)) = Unit {0}
 
 -- where one delivery is answered by a refusal, so is the next
 abbrev pub AnswersAgain :

@@ -5,7 +5,7 @@ pub mod Story
 pub mod Past
 pub mod Drawing
 pub mod Streams
-pub mod Lean
+pub mod Miners
 pub mod Laws
 pub use Rattle.own_code.specs.OwnCode
 pub use Rattle.own_code.specs.Places

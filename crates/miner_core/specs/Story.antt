@@ -126,14 +126,14 @@ IsAnswerOf s unread (Ok (step.Waits l)) = standing_with s unread ≡ Awaits l
 IsAnswerOf s unread (Ok (step.Ended end)) = HasEnded s end
 IsAnswerOf s unread (Err (error.BadMessage l cause)) = standing_with s unread ≡ Refuses l cause
 IsAnswerOf s unread (Err (error.NotAwaited l)) = ⊥
-IsAnswerOf s unread (Err error.Memory) = ⊥
+IsAnswerOf s unread (Err (error.Lost why)) = ⊥
 
 abbrev pub IsAnswer : Number → Story → Result Step MinerErr → Type 0
 IsAnswer i s answer = IsAnswerOf (node i s).left (node i s).unread answer
 
 -- what a delivery does: the answer says where the miner stands with the message; where it had ended, it is as before
 abbrev pub DeliverAnswers : Number → (before after : Story) → Link → List ℕ → Result Step MinerErr → Type 0
-DeliverAnswers i before after l m (Err error.Memory) = after.lost ≡ true
+DeliverAnswers i before after l m (Err (error.Lost why)) = after.lost ≡ true
 DeliverAnswers i before after l m (Err (error.NotAwaited at)) = (at ≡ l) × (stands_at i before ≡ AtItsEnd) × (after ≡ before)
 DeliverAnswers i before after l m answer = (before.lost ≡ false) × (after ≡ received i before l m) × IsAnswer i after answer
 

@@ -9,10 +9,9 @@ use Rattle.gates.specs.Clear.{Values}
 use Rattle.gate_node.specs.Nodes.{IsTapeOf}
 use Rattle.miner_core.specs.declared.answer.Step.{Step}
 use Rattle.miner_core.specs.declared.answer.MinerErr.{MinerErr}
-use Rattle.miner_core.specs.declared.answer.MinerErr.TheVariants as whole
 use Rattle.miner_core.specs.declared.answer.Lost.{Lost}
-use Rattle.miner_core.specs.declared.answer.StreamErr.{StreamErr}
-use Rattle.miner_core.specs.declared.answer.StreamErr.TheVariants as error
+use Rattle.miner_core.specs.declared.answer.MinerErr.TheVariants as error
+use Rattle.miner_core.specs.declared.kept.Kept.{Kept}
 use Rattle.miner_core.specs.declared.task.Task.{Task}
 use Rattle.miner_core.specs.Story.{Story, received, start_of, stands_at, IsAnswer}
 use Rattle.miner_core.specs.Drawing.{left_for, HasDrawn, IsLostBy}
@@ -22,6 +21,8 @@ pub record StreamState : Type 0 where
   pub story : Story
   pub ahead : ℕ
   pub lost : Option Lost
+  -- whether it lets go what is done with
+  pub past : Kept
 
 abbrev pub has_lost : Option Lost → Bool
 has_lost None = false
@@ -47,15 +48,8 @@ ForWordsDrawn m Q = m.lost ≡ None → Q (story_so_far m)
 abbrev pub ForEachTape : StreamState → (Story → Type 0) → Type 0
 ForEachTape m Q = m.lost ≡ None → (tape : List ℕ) → IsTapeOf m.story.tape m.ahead tape → Q (with_tape m tape)
 
--- what is answered where it has its whole tape by itself
-abbrev pub settled : Result Step StreamErr → Result Step MinerErr
-settled (Ok step) = Ok step
-settled (Err (error.NotAwaited l)) = Err (whole.NotAwaited l)
-settled (Err (error.BadMessage l cause)) = Err (whole.BadMessage l cause)
-settled (Err (error.Lost l)) = Err whole.Memory
-
 -- an answer of a miner that has taken a message
-abbrev pub IsOfMessage : Result Step StreamErr → Type 0
+abbrev pub IsOfMessage : Result Step MinerErr → Type 0
 IsOfMessage (Ok step) = Unit {0}
 IsOfMessage (Err (error.BadMessage l cause)) = Unit {0}
 IsOfMessage (Err (error.NotAwaited l)) = ⊥
@@ -83,6 +77,7 @@ module _ (i : Number) (l : Link) (m : List ℕ) (before after : StreamState) (ol
     pub drew : Drew old new (count_of i) taken
     pub tape : after.story.tape ≡ before.story.tape ++ taken
     pub ahead : left_for i new ≡ after.ahead
+    pub past : after.past ≡ before.past
     pub received : (tape : List ℕ) → with_tape after tape ≡ received i (with_tape before tape) l m
     pub answers : (tape : List ℕ) → IsTapeOf after.story.tape after.ahead tape → IsAnswer i (with_tape after tape) answer
 
@@ -99,8 +94,8 @@ module _ (i : Number) (l : Link) (m : List ℕ) (before after : StreamState) (ol
     pub drawn : HasDrawn i old new
     pub cause : IsLostBy old new why
 
-  abbrev pub Answers : Result Step StreamErr → Type 0
+  abbrev pub Answers : Result Step MinerErr → Type 0
   Answers (Ok step) = HasMoved (Ok step)
   Answers (Err (error.NotAwaited at)) = HasNotMoved at
-  Answers (Err (error.BadMessage at cause)) = HasMoved (Err (whole.BadMessage at cause))
+  Answers (Err (error.BadMessage at cause)) = HasMoved (Err (error.BadMessage at cause))
   Answers (Err (error.Lost why)) = IsLostNow why

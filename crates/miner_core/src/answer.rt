@@ -1,6 +1,5 @@
-ghost use Rattle.std.specs.Prelude.{◌≡◌, Result};
+ghost use Rattle.std.specs.Prelude.{◌≡◌};
 ghost use Rattle.miner_core.specs.declared.answer.Lost.TheVariants as lost;
-ghost use Rattle.miner_core.specs.Streams.{settled};
 
 use outside::Failed;
 use proto_core::{BadMessage, Link};
@@ -29,18 +28,6 @@ pub enum Step {
     Ended(End),
 }
 
-/// Why a message leads nowhere.
-#[derive(Clone, Copy, Drop)]
-pub enum MinerErr {
-    /// The miner has ended.
-    NotAwaited { link: Link },
-    /// The oldest message of this link, which is awaited, hasn't the length that is wanted, or a word that has to be a bit and is none. The
-    /// cause says which, with both lengths, or with the word's place and the word: it is what the protocol says that refuses the message.
-    BadMessage { link: Link, cause: BadMessage },
-    /// There is no memory left.
-    Memory,
-}
-
 /// Why a miner is of no further use.
 #[derive(Clone, Copy, Drop)]
 pub enum Lost {
@@ -66,25 +53,14 @@ impl From<Failed> for Lost {
     }
 }
 
-/// Why a message leads nowhere, of a miner that draws its tape from a source.
+/// Why a message leads nowhere.
 #[derive(Clone, Copy, Drop)]
-pub enum StreamErr {
+pub enum MinerErr {
     /// The miner has ended.
     NotAwaited { link: Link },
-    /// The oldest message of this link, which is awaited, is refused, for this cause.
+    /// The oldest message of this link, which is awaited, hasn't the length that is wanted, or a word that has to be a bit and is none. The
+    /// cause says which, with both lengths, or with the word's place and the word: it is what the protocol says that refuses the message.
     BadMessage { link: Link, cause: BadMessage },
     /// The miner is of no further use, for this cause.
     Lost(Lost),
-}
-
-/// What is answered where the miner has its whole tape by itself.
-pub(crate) fn of_whole(answer: Result<Step, StreamErr>) -> Result<Step, MinerErr>
-    ensures { result ≡ settled answer }
-{
-    match answer {
-        Ok(step) => Ok(step),
-        Err(StreamErr::NotAwaited { link }) => Err(MinerErr::NotAwaited { link }),
-        Err(StreamErr::BadMessage { link, cause }) => Err(MinerErr::BadMessage { link, cause }),
-        Err(StreamErr::Lost(_)) => Err(MinerErr::Memory),
-    }
 }

@@ -6,9 +6,9 @@ ghost use Rattle.miner_core.specs.Drawing.{Draws, Delivers, IsAtItsEnd};
 ghost use Rattle.miner_core.specs.Engines.{engine_left, ended_by, ending_at, end_by, with_words, IsSoundAlways, Rests};
 ghost use Rattle.miner_core.specs.Past.{Past, with_past};
 ghost use Rattle.miner_core.specs.Story.{Story, Leads, story_of, received, start_of, IsAnswerOf};
-ghost use Rattle.miner_core.specs.Streams.{settled, IsOfMessage};
+ghost use Rattle.miner_core.specs.Streams.{IsOfMessage};
 
-use crate::answer::{End, Lost, Step, StreamErr};
+use crate::answer::{End, Lost, MinerErr, Step};
 use crate::engine::{At, Engine};
 use crate::letting_go::Letting;
 use crate::rest::Rest;
@@ -129,9 +129,9 @@ impl<P: Party> Engine<P> {
     }
 
     /// What is answered, where it stands so, whatever words come.
-    pub fn answer(&self, rest: Rest) -> Result<Step, StreamErr>
+    pub fn answer(&self, rest: Rest) -> Result<Step, MinerErr>
         ensures stands { (more : List ℕ) → Rests P.me rest (with_words self.now more) →
-            IsAnswerOf (engine_left P.me (with_words self.now more)) (mail_left P.me self.now.node.links) (settled result) }
+            IsAnswerOf (engine_left P.me (with_words self.now more)) (mail_left P.me self.now.node.links) result }
         ensures of_message { IsOfMessage result }
     {
         match rest {
@@ -142,7 +142,7 @@ impl<P: Party> Engine<P> {
             Rest::Stuck => Ok(Step::Ended(End::Unfit)),
             Rest::Waits(link, cause) => match cause {
                 None => Ok(Step::Waits(link)),
-                Some(cause) => Err(StreamErr::BadMessage { link, cause }),
+                Some(cause) => Err(MinerErr::BadMessage { link, cause }),
             },
         }
     }

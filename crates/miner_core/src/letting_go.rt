@@ -9,10 +9,12 @@ ghost use Rattle.code_machine.specs.Views.{machine_seen};
 ghost use Rattle.driven_nodes.specs.Steps.{last_of};
 ghost use Rattle.own_code.specs.Named.{AreAmong, MachineNames};
 ghost use Rattle.miner_core.specs.declared.engine.At.TheVariants.{Ready};
+ghost use Rattle.miner_core.specs.declared.kept.Kept.TheVariants as kept;
 ghost use Rattle.miner_core.specs.Engines.{left_with, all_forgetting, measure, IsSoundAlways, IsThroughAlways, KeepsLinks, LeadsOn};
 ghost use Rattle.miner_core.specs.Past.{IsLighter, HoldsLittle};
 
 use crate::engine::{At, Engine};
+use crate::kept::Kept;
 use crate::outcome::Turned;
 use crate::telling::last_words;
 use gates::Gate;
@@ -138,12 +140,19 @@ impl<P: Party> Engine<P> {
         Ok(())
     }
 
-    /// Lets go the messages that came, of each link on which all were taken, and the words that were supplied, once all were drawn.
-    pub fn let_go_done(&mut self)
+    /// Lets go the messages that came, of each link on which all were taken, and the words that were supplied, once all were drawn; nothing where
+    /// all is kept.
+    pub fn let_go_done(&mut self, past: Kept)
         ensures lighter { IsLighter self.old self.new }
-        ensures little { HoldsLittle self.new }
+        ensures little { past ≡ kept.Needed → HoldsLittle self.new }
+        ensures same { past ≡ kept.All → self.new ≡ self.old }
     {
-        self.node.let_go_taken();
-        self.node.let_go_drawn();
+        match past {
+            Kept::All => {}
+            Kept::Needed => {
+                self.node.let_go_taken();
+                self.node.let_go_drawn();
+            }
+        }
     }
 }

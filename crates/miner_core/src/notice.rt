@@ -7,9 +7,9 @@ ghost use Rattle.miner_core.specs.Views.{notice_seen, if_any, told_since};
 
 use crate::speech::Speech;
 use crate::telling::{Told, words_behind};
+use program_trees::Shape;
 use sc_text::Name;
 use std::alloc::{AllocError, Global};
-use typed_tree::Shape;
 use value_steps::{Secrecy, Stage};
 
 /// What a miner tells: words, of a value of this shape; a truth value is 1 or 0, and of a share of one bit 0 counts.

@@ -7,9 +7,9 @@ ghost use Rattle.code_machine.specs.Views.{machine_seen};
 ghost use Rattle.miner_core.specs.TurnViews.{speech_seen};
 
 use code_machine::{Machine, name_in};
+use program_trees::Shape;
 use sc_text::Name;
 use std::alloc::{AllocError, Global};
-use typed_tree::Shape;
 use value_steps::Value;
 use verified_code::Step;
 

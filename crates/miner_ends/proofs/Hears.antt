@@ -11,10 +11,11 @@ use Rattle.sc_text.specs.declared.end.TapeOwner.TheVariants.{Miner1, Miner2, Min
 use Rattle.sc_text.specs.declared.event.Event.{Event}
 use Rattle.sc_text.specs.declared.event.Event.TheVariants as event
 use Rattle.gates.specs.declared.gate.Gate.{Gate}
-use Rattle.typed_tree.specs.declared.kinds.Shape.{Shape}
+use Rattle.program_trees.specs.declared.kinds.Shape.{Shape}
 use Rattle.language_model.specs.Effects.{Words, World, Stage, RunStop, Ended, Short, Run, Effect, ◌>>=◌, carry, done, end, charge, test, fits, draw}
 use Rattle.language_model.specs.Effects.{drawn_yet, gate, next_number, put_gates, emit, next_answers}
 use Rattle.language_model.specs.Values.{Value}
+use Rattle.language_model.specs.Operations.{publication}
 use Rattle.language_model.specs.Evaluation.{Frame, Flow, turns, repeats}
 use Rattle.language_model.proofs.Loops.{IsFlow, turns_flow, repeats_flow}
 use Rattle.language_model.proofs.Walk.{IsLaw, told_open}
@@ -165,7 +166,7 @@ hears_law w =
       on_gate = hears_gate;
       on_number = hears_number;
       on_gates = hears_gates;
-      on_publish = λ text elements. hears_emit (event.Publish text elements);
+      on_publish = λ x text elements. hears_emit (publication x text elements);
       on_answers = hears_answers;
       on_told = hears_told;
       on_turns = hears_turns;

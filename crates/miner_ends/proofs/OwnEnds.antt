@@ -27,9 +27,9 @@ use Rattle.blocked_protocol.specs.Opening.{open_protocol}
 use Rattle.shared_gates.specs.LocalGates.{local_share}
 use Rattle.shared_gates.specs.Model.{sizes_made, SizesSuit, AllSizesSuit, run_gates, sizes_after}
 use Rattle.shared_gates.proofs.Models.{local-size}
-use Rattle.joint_run.specs.declared.exchange.Exchange.{Exchange}
-use Rattle.joint_run.specs.declared.exchange.Exchange.TheVariants.{Product, Splitting, Conversion, Opening, Resharing}
-use Rattle.joint_run.specs.Exchanges.{protocol_of}
+use Rattle.gate_exchanges.specs.declared.exchange.Exchange.{Exchange}
+use Rattle.gate_exchanges.specs.declared.exchange.Exchange.TheVariants.{Product, Splitting, Conversion, Opening, Resharing}
+use Rattle.gate_exchanges.specs.Exchanges.{protocol_of}
 use Rattle.driven_nodes.specs.Steps.{last_of}
 use Rattle.gate_node.specs.OwnGates.{Halted, Whole, Stuck, own_gate, own_draws, can_run, own_gates, then_gates}
 use Rattle.gate_node.proofs.Always.{EndsAlways, HaveSizes, always-then, gate-sized}

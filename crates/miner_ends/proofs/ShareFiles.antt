@@ -8,8 +8,8 @@ use Rattle.proto_core.specs.Parties.{count_of}
 use Rattle.proto_core.specs.Lists.{at}
 use Rattle.protocol_model.specs.Gates.{sizes_of}
 use Rattle.shared_gates.specs.Model.{miner_of}
-use Rattle.secrec_ast.specs.declared.expression.DataType.{DataType}
-use Rattle.secrec_ast.specs.declared.expression.DataType.TheVariants as datatype
+use Rattle.program_trees.specs.declared.expression.DataType.{DataType}
+use Rattle.program_trees.specs.declared.expression.DataType.TheVariants as datatype
 use Rattle.value_file.specs.declared.value.Shape.{Shape}
 use Rattle.value_file.specs.declared.value.Shape.TheVariants.{Scalar, Array}
 use Rattle.value_file.specs.declared.value.Value.TheVariants.{Number as OneNumber, Truth, Numbers, Truths}

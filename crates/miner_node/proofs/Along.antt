@@ -13,14 +13,12 @@ use Rattle.gate_node.specs.Nodes.{IsTapeOf}
 use Rattle.gate_node.proofs.Supplied.{tape-before}
 use Rattle.miner_core.specs.declared.answer.Step.{Step}
 use Rattle.miner_core.specs.declared.answer.MinerErr.{MinerErr}
-use Rattle.miner_core.specs.declared.answer.MinerErr.TheVariants as whole
 use Rattle.miner_core.specs.declared.answer.Lost.{Lost}
 use Rattle.miner_core.specs.declared.answer.Lost.TheVariants as lost
-use Rattle.miner_core.specs.declared.answer.StreamErr.{StreamErr}
-use Rattle.miner_core.specs.declared.answer.StreamErr.TheVariants as stream
+use Rattle.miner_core.specs.declared.answer.MinerErr.TheVariants as miner_error
+use Rattle.miner_core.specs.declared.kept.Kept.TheVariants.{All}
 use Rattle.miner_core.specs.Drawing.{left_for, HasDrawn, IsTapeFault}
-use Rattle.miner_core.specs.Story.{Story, IsAnswer}
-use Rattle.miner_core.specs.Streams.{StreamState, ForEachTape, with_tape, story_so_far, settled, no_words, HasMoved, Answers}
+use Rattle.miner_core.specs.Streams.{StreamState, with_tape, story_so_far, no_words, HasMoved, IsOfMessage, Answers}
 use Rattle.miner_core.proofs.Draws.{tape_earlier}
 use Rattle.miner_core.proofs.Sources.{drew_none, drew_more, rose_on}
 use Rattle.miner_core.proofs.Streaming.{none_of, itself, none_taken}
@@ -77,7 +75,7 @@ module _ (i : Number) where
             λ tape of.
             holds tape
             (subst (λ w. IsTapeOf w m.ahead tape) (append-none m.story.tape) (subst (λ n. IsTapeOf (m.story.tape ++ []) n tape) left of));
-        ok = on_ok r (record { going = going; tape = sym (append-none m.story.tape); left = left });
+        ok = on_ok r (record { going = going; tape = sym (append-none m.story.tape); left = left; past = refl });
         cause = λ gone. not_lost m.lost going gone;
         still = λ h. h;
       }
@@ -144,6 +142,7 @@ module _ (i : Number) where
               going = g.going;
               tape = g.tape ∙ ap (λ w. w ++ k.taken) h.ok.tape ∙ append_assoc a.story.tape h.taken k.taken;
               left = g.left;
+              past = g.past ∙ h.ok.past;
             }
         gone (Err e) g = tt
 
@@ -169,7 +168,7 @@ module _ (i : Number) where
     unfailed going gone = not_lost after.lost going gone
 
     pub delivered :
-        (r : Result Step StreamErr) → before.lost ≡ None → Answers i l w before after s t r → Along i before after s t (node_answer r) (at_tapes (node_answer r))
+        (r : Result Step MinerErr) → before.lost ≡ None → Answers i l w before after s t r → Along i before after s t (node_answer r) (at_tapes (node_answer r))
     delivered (Ok step) going h =
         record {
           taken = h.taken;
@@ -177,43 +176,36 @@ module _ (i : Number) where
           holds =
               λ tape of.
               record { ok = (h.received tape, at_ease_after i (with_tape after tape) step (h.answers tape (of_after (Ok step) h tape of))); err = tt };
-          ok = record { going = h.going; tape = h.tape; left = h.ahead };
+          ok = record { going = h.going; tape = h.tape; left = h.ahead; past = h.past };
           cause = unfailed h.going;
           still = still;
         }
-    delivered (Err (stream.BadMessage at cause)) going h =
+    delivered (Err (miner_error.BadMessage at cause)) going h =
         record {
           taken = h.taken;
           drew = h.drew;
           holds =
               λ tape of.
-              record { ok = tt; err = (h.received tape, h.answers tape (of_after (Err (whole.BadMessage at cause)) h tape of)) };
+              record { ok = tt; err = (h.received tape, h.answers tape (of_after (Err (miner_error.BadMessage at cause)) h tape of)) };
           ok = tt;
           cause = unfailed h.going;
           still = still;
         }
-    delivered (Err (stream.NotAwaited at)) going h =
+    delivered (Err (miner_error.NotAwaited at)) going h =
         no_more (subst (λ v. HasDrawn i s v) (sym h.source) (record { taken = []; drew = drew_none s (count_of i) }))
         (unfailed (ap (λ (m : StreamState). m.lost) h.same ∙ going))
-    delivered (Err (stream.Lost lost.TapeFault)) going h = no_more h.drawn (λ gone. h.cause)
-    delivered (Err (stream.Lost lost.Memory)) going h =
+    delivered (Err (miner_error.Lost lost.TapeFault)) going h = no_more h.drawn (λ gone. h.cause)
+    delivered (Err (miner_error.Lost lost.Memory)) going h =
         no_more h.drawn (λ gone. not_its_tape after.lost h.state gone)
 
 -- ---- why a node stopped
 
 -- only a miner that has lost its tape answers so
 pub tape_lost :
-    (i : Number) (m : StreamState) (r : Result Step StreamErr) → ForEachTape m (λ s. IsAnswer i s (settled r)) → IfSome m.lost (λ l. r ≡ Err (stream.Lost l)) →
-    r ≡ Err (stream.Lost lost.TapeFault) → m.lost ≡ Some lost.TapeFault
-tape_lost i m r stands gone is = by_lost m.lost refl gone
-  where
-    by_lost : (o : Option Lost) → m.lost ≡ o → IfSome o (λ l. r ≡ Err (stream.Lost l)) → m.lost ≡ Some lost.TapeFault
-    by_lost None e k =
-        let one = some_tape m.story.tape m.ahead in
-        absurd (subst (λ v. IsAnswer i (with_tape m one.0) (settled v)) is (stands e one.0 one.1))
-    by_lost (Some l) e k =
-        let same : l ≡ lost.TapeFault = cc in
-        e ∙ ap Some same
+    (o : Option Lost) (r : Result Step MinerErr) → (o ≡ None → IsOfMessage r) → IfSome o (λ l. r ≡ Err (miner_error.Lost l)) →
+    r ≡ Err (miner_error.Lost lost.TapeFault) → o ≡ Some lost.TapeFault
+tape_lost None r of_use gone is = absurd (subst IsOfMessage is (of_use refl))
+tape_lost (Some l) r of_use gone is = let same : l ≡ lost.TapeFault = cc in ap Some same
 
 module _ (i : Number) (hello : Hello) (a b : LinksState) (m n : StreamState) (s t : TapesState) (taken : List ℕ) where
   pub stops_so :
@@ -225,11 +217,10 @@ module _ (i : Number) (hello : Hello) (a b : LinksState) (m n : StreamState) (s 
 -- ---- a miner that has its whole tape
 
 pub ready :
-    (i : Number) (m : StreamState) (s : Story) → story_so_far m ≡ s → (m.lost ≡ None → m.ahead ≡ 0) → IsFresh s → IsReady i m no_words
-ready i m s is none fresh =
-    let h : IsFresh (story_so_far m) = subst (λ v. IsFresh v) (sym is) fresh in
-    let going = none_of m.lost h.going in
-    record { going = going; previous = h.previous; next = h.next; left = sym (none going) }
+    (i : Number) (m : StreamState) → m.past ≡ All → (m.lost ≡ None → m.ahead ≡ 0) → IsFresh (story_so_far m) → IsReady i m no_words
+ready i m kept none fresh =
+    let going = none_of m.lost fresh.going in
+    record { kept = kept; going = going; previous = fresh.previous; next = fresh.next; left = sym (none going) }
 
 module _ (i : Number) (hello : Hello) (a b : LinksState) (m : StreamState) (taken : List ℕ) (drew : Drew no_words no_words (count_of i) taken) where
   same_tape : m.story.tape ++ taken ≡ m.story.tape

@@ -8,8 +8,9 @@ use Rattle.sc_text.specs.declared.end.Ending.{Ending}
 use Rattle.gate_node.specs.Nodes.{IsTapeOf}
 use Rattle.miner_core.specs.declared.answer.Step.{Step}
 use Rattle.miner_core.specs.declared.answer.Lost.TheVariants as lost
-use Rattle.miner_core.specs.declared.answer.StreamErr.{StreamErr}
-use Rattle.miner_core.specs.declared.answer.StreamErr.TheVariants as stream
+use Rattle.miner_core.specs.declared.answer.MinerErr.{MinerErr}
+use Rattle.miner_core.specs.declared.answer.MinerErr.TheVariants as miner_error
+use Rattle.miner_core.specs.declared.kept.Kept.TheVariants.{All}
 use Rattle.miner_core.specs.Drawing.{left_for, IsTapeFault}
 use Rattle.miner_core.specs.Streams.{StreamState, with_tape}
 use Rattle.wire.specs.declared.fields.Hello.{Hello}
@@ -19,8 +20,9 @@ use Rattle.miner_node.specs.declared.node_err.ServeErr.{ServeErr}
 use Rattle.miner_node.specs.declared.node_err.ServeErr.TheVariants.{Node, TapeFault}
 use Rattle.miner_node.specs.Serves.{HasServed, HasStopped}
 
--- nothing was delivered to a miner, it is of use, and the source has the words that it has not drawn
+-- nothing was delivered to a miner that keeps all, it is of use, and the source has the words that it has not drawn
 pub record IsReady (i : Number) (m : StreamState) (tapes : TapesState) : Type 0 where
+  pub kept : m.past ≡ All
   pub going : m.lost ≡ None
   pub previous : m.story.from_previous ≡ []
   pub next : m.story.from_next ≡ []
@@ -32,6 +34,7 @@ module _ (i : Number) (before after : StreamState) (old new : TapesState) where
     pub going : after.lost ≡ None
     pub tape : after.story.tape ≡ before.story.tape ++ taken
     pub left : left_for i new ≡ after.ahead
+    pub past : after.past ≡ before.past
 
   -- words were drawn; and this holds for each tape that begins with all that were, and has as many after them as are left
   pub record Along {A : Type 0} (result : Result A NodeErr) (Q : List ℕ → Type 0) : Type 0 where
@@ -45,11 +48,11 @@ module _ (i : Number) (before after : StreamState) (old new : TapesState) where
 -- ---- a node that serves its links
 
 -- what a node answers to a delivery
-abbrev pub node_answer : Result Step StreamErr → Result (Unit {0}) NodeErr
+abbrev pub node_answer : Result Step MinerErr → Result (Unit {0}) NodeErr
 node_answer (Ok step) = Ok tt
-node_answer (Err (stream.BadMessage link cause)) = Err (BadMessage link cause)
-node_answer (Err (stream.NotAwaited link)) = Err Memory
-node_answer (Err (stream.Lost why)) = Err Memory
+node_answer (Err (miner_error.BadMessage link cause)) = Err (BadMessage link cause)
+node_answer (Err (miner_error.NotAwaited link)) = Err Memory
+node_answer (Err (miner_error.Lost why)) = Err Memory
 
 -- why it stopped: where memory runs out the miner may have lost its tape
 abbrev pub StoppedBy : NodeErr → StreamState → ServeErr → Type 0

@@ -11,4 +11,4 @@ mod transfers;
 
 pub use laws::{honest_peers_lead_to_the_end, nodes_do_as_their_miners};
 pub use node_err::{NodeErr, ServeErr};
-pub use serving::{Served, ServedStream, serve, serve_from};
+pub use serving::{Served, serve, serve_from};

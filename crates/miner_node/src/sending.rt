@@ -1,6 +1,8 @@
 // The frames of a miner's messages, to its two peers.
-ghost use Rattle.std.specs.Prelude.{◌<◌, ◌≤◌, length, get_or, []};
+ghost use Rattle.std.specs.Prelude.{◌≡◌, ◌<◌, ◌≤◌, length, get_or, []};
 ghost use Rattle.proto_core.specs.Parties.{count_of, next_of, previous_of};
+ghost use Rattle.miner_core.specs.declared.kept.Kept.TheVariants as kept;
+ghost use Rattle.miner_core.specs.Miners.{held};
 ghost use Rattle.miner_core.specs.Story.{sent_to_next, sent_to_previous};
 ghost use Rattle.miner_core.specs.Streams.{ForEachTape};
 ghost use Rattle.wire.specs.Frames.{frame_bytes};
@@ -9,7 +11,7 @@ ghost use Rattle.miner_node.specs.Turns.{SendsFrom, SendsNew};
 
 use crate::node_err::NodeErr;
 use crate::transfers::send_all;
-use miner_core::StreamMiner;
+use miner_core::Miner;
 use outside::Links;
 use proto_core::{Messages, Party};
 use std::alloc::Global;
@@ -79,11 +81,12 @@ fn send_from<L: Links>(
 /// Sends the next miner the frames of the messages for it from number `sent` on; how many messages there are.
 fn send_next<P: Party, L: Links>(
     alloc: Global,
-    miner: &StreamMiner<P>,
+    miner: &Miner<P>,
     sent: usize,
     links: &mut L,
 ) -> Result<usize, NodeErr>
-    ensures { ForEachTape miner.now (λ s. SendsFrom (L.state links.old) (L.state links.new) (count_of (next_of P.me)) (sent_to_next P.me s) sent result) }
+    requires { miner.now.past ≡ kept.All }
+    ensures { ForEachTape (held miner.now) (λ s. SendsFrom (L.state links.old) (L.state links.new) (count_of (next_of P.me)) (sent_to_next P.me s) sent result) }
 {
     let peer = P::number().next().as_u8();
     send_from(alloc, miner.sent_to_next(), sent, peer, links)
@@ -92,11 +95,12 @@ fn send_next<P: Party, L: Links>(
 /// The same of the previous miner.
 fn send_previous<P: Party, L: Links>(
     alloc: Global,
-    miner: &StreamMiner<P>,
+    miner: &Miner<P>,
     sent: usize,
     links: &mut L,
 ) -> Result<usize, NodeErr>
-    ensures { ForEachTape miner.now (λ s. SendsFrom (L.state links.old) (L.state links.new) (count_of (previous_of P.me)) (sent_to_previous P.me s)
+    requires { miner.now.past ≡ kept.All }
+    ensures { ForEachTape (held miner.now) (λ s. SendsFrom (L.state links.old) (L.state links.new) (count_of (previous_of P.me)) (sent_to_previous P.me s)
         sent result) }
 {
     let peer = P::number().previous().as_u8();
@@ -106,11 +110,12 @@ fn send_previous<P: Party, L: Links>(
 /// Sends what a miner has sent since these counts, and counts it.
 pub(crate) fn send_new<P: Party, L: Links>(
     alloc: Global,
-    miner: &StreamMiner<P>,
+    miner: &Miner<P>,
     counts: &mut SentCounts,
     links: &mut L,
 ) -> Result<(), NodeErr>
-    ensures { ForEachTape miner.now (λ s. SendsNew P.me s counts.old counts.new (L.state links.old) (L.state links.new) result) }
+    requires { miner.now.past ≡ kept.All }
+    ensures { ForEachTape (held miner.now) (λ s. SendsNew P.me s counts.old counts.new (L.state links.old) (L.state links.new) result) }
 {
     let next = send_next(alloc, miner, counts.to_next, links)?;
     counts.to_next = next;

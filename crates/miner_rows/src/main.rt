@@ -1,13 +1,14 @@
 //! Rows of what miners send, write and draw, as lines: frames, hellos and their digests, miners' texts that are read and written again, and the
-//! words that sources of tapes give.
+//! words that sources of tapes give; and of three miners as programs of their own: runs over children and files in memory.
 //!
-//! Each case is a line, made of what the calls answer. A line costs no proof: the file `stdout` says what must be printed, from the description
-//! of the formats, worked by hand or by other programs (SHA-256 and ChaCha20 in Python).
+//! Each case is a line, made of what the calls answer; of one run the calls of its children are told, too. A line costs no proof: the file `stdout`
+//! says what must be printed, from the description of formats, texts and commands, worked by hand or by other programs (SHA-256 and ChaCha20 in Python).
 #![tactic(auto)]
 
 mod drawn;
 mod link_bytes;
 mod miner_texts;
+mod trio_runs;
 
 use anyhow::Result;
 use row_files::Lines;
@@ -19,6 +20,7 @@ fn told(alloc: Global) -> Result<String, AllocError> {
     link_bytes::tell(alloc, &mut lines);
     miner_texts::tell(alloc, &mut lines);
     drawn::tell(alloc, &mut lines);
+    trio_runs::tell(alloc, &mut lines);
     lines.whole()
 }
 

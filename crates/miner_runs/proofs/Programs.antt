@@ -7,7 +7,7 @@ use Rattle.verified_code.specs.Settled.{settled}
 use Rattle.program_run.specs.RawCodes.{raw_code_of_program}
 use Rattle.tape_file.specs.Tapes.{FourTapes}
 use Rattle.value_file.specs.declared.inputs.Entry.{Entry}
-use Rattle.typed_tree.specs.Programs.{TypedProgramTree}
+use Rattle.program_trees.specs.TypedPrograms.{TypedProgramTree}
 use Rattle.view_model.specs.TapeMaps.{miners_of}
 use Rattle.program_run.specs.Inputs.{dealt_of}
 use Rattle.program_run.specs.Laws.{IsAccepted}

@@ -8,7 +8,7 @@ use Rattle.code_places.specs.Dealt.{Dealt}
 use Rattle.code_runs.specs.Laws.{MayRunShared}
 use Rattle.tape_file.specs.Tapes.{FourTapes}
 use Rattle.value_file.specs.declared.inputs.Entry.{Entry}
-use Rattle.typed_tree.specs.Programs.{TypedProgramTree}
+use Rattle.program_trees.specs.TypedPrograms.{TypedProgramTree}
 use Rattle.program_run.specs.Accepted.{IsAccepted}
 use Rattle.program_run.specs.Dealt.{CanBeDealt}
 use Rattle.miner_runs.specs.OwnRuns.{OwnRunAsReported}

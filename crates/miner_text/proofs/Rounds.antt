@@ -4,7 +4,7 @@ use Rattle.std.specs.Prelude.{Option, Some, None, Result, Ok, Err}
 use Rattle.std.specs.List.{join_with_byte, flat_map}
 use Rattle.std.proofs.lemmas.List.Splits.{join_with_byte-slice_split}
 use Rattle.sc_text.specs.declared.end.End.{End}
-use Rattle.sc_text.specs.declared.event.Event.TheVariants.{Open, Publish}
+use Rattle.sc_text.specs.declared.event.Event.TheVariants.{Open, Publish, Hand}
 use Rattle.view_text.specs.Text.{spaced}
 use Rattle.view_text.specs.Reading.{words_in_line, lines_in}
 use Rattle.view_text.proofs.Bytes.{split_at, words_back, spaced_free}
@@ -61,6 +61,7 @@ line_is_cut : (l : MinerLine) → IsLine l → words_in_line (shown l) ≡ line_
 line_is_cut (lines.Told (Open es)) h = words_back _ _ (no_spaces (line_words (lines.Told (Open es))) (line_plain (lines.Told (Open es)) h))
 line_is_cut (lines.Told (Publish name es)) h =
     words_back _ _ (no_spaces (line_words (lines.Told (Publish name es))) (line_plain (lines.Told (Publish name es)) h))
+line_is_cut (lines.Told (Hand name es)) h = absurd h
 line_is_cut (lines.Share s) h = words_back _ _ (no_spaces (line_words (lines.Share s)) (line_plain (lines.Share s) h))
 line_is_cut (lines.Ended end) h = words_back _ _ (no_spaces (line_words (lines.Ended end)) (line_plain (lines.Ended end) h))
 

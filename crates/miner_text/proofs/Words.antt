@@ -3,13 +3,13 @@ use Rattle.std.proofs.Common.{◌≡◌, ℕ, List, [], ◌∷◌, ◌++◌, map
 use Rattle.std.specs.Prelude.{codes, bytes_eq, Option, Some, None, option_map, option_and_then}
 use Rattle.std.specs.Fmt.{decimal}
 use Rattle.std.proofs.lemmas.Slice.Eq.{bytes_eq-Decides}
-use Rattle.secrec_ast.specs.declared.expression.DataType.{DataType}
-use Rattle.secrec_ast.specs.declared.expression.DataType.TheVariants.{Uint64}
-use Rattle.secrec_ast.specs.declared.expression.DataType.TheVariants as datatype
+use Rattle.program_trees.specs.declared.expression.DataType.{DataType}
+use Rattle.program_trees.specs.declared.expression.DataType.TheVariants.{Uint64}
+use Rattle.program_trees.specs.declared.expression.DataType.TheVariants as datatype
 use Rattle.sc_text.specs.declared.elements.Element.{Element}
 use Rattle.sc_text.specs.declared.end.End.{End}
 use Rattle.sc_text.specs.declared.event.Event.{Event}
-use Rattle.sc_text.specs.declared.event.Event.TheVariants.{Open, Publish}
+use Rattle.sc_text.specs.declared.event.Event.TheVariants.{Open, Publish, Hand}
 use Rattle.sc_text.specs.Elements.{element_text, elements_text}
 use Rattle.sc_text.specs.Event.{event_line}
 use Rattle.sc_text.specs.Name.{is_name}
@@ -38,6 +38,7 @@ IsLine (lines.Ended end) = IsEnd end
 abbrev pub event_words : Event → List (List ℕ)
 event_words (Open es) = codes "open" ∷ map element_text es
 event_words (Publish name es) = codes "publish" ∷ name ∷ map element_text es
+event_words (Hand name es) = codes "publish" ∷ name ∷ map element_text es
 
 abbrev pub line_words : MinerLine → List (List ℕ)
 line_words (lines.Told event) = event_words event
@@ -59,6 +60,7 @@ event_written : (event : Event) → event_line event ≡ spaced (event_words eve
 unfolding event_line
 event_written (Open es) = sym (opened_line es)
 event_written (Publish name es) = ap (λ x. codes "publish " ++ (x ++ 10 ∷ [])) (sym (spaced_elements name es))
+event_written (Hand name es) = ap (λ x. codes "publish " ++ (x ++ 10 ∷ [])) (sym (spaced_elements name es))
 
 share_written : (s : ResultShare) → share_line s ≡ spaced (line_words (lines.Share s)) ++ 10 ∷ []
 unfolding share_line
@@ -87,6 +89,7 @@ type_plain datatype.Bool = plain (codes "bool") refl
 pub line_plain : (l : MinerLine) → IsLine l → NoGaps (line_words l)
 line_plain (lines.Told (Open es)) h = view_line_plain (Opened es) h
 line_plain (lines.Told (Publish name es)) h = (plain (codes "publish") refl, (name_plain name h.0, (view_line_plain (Opened es) h.1).1))
+line_plain (lines.Told (Hand name es)) h = absurd h
 line_plain (lines.Share s) h =
     (plain (codes "share") refl, (name_plain s.name h.0, (type_plain s.element, (view_line_plain (Drew s.words) h.1).1)))
 line_plain (lines.Ended end) h = view_line_plain (Ended end) (record { how = h.0; cost = h.1 })
@@ -138,6 +141,7 @@ share_back s h =
 pub line_back : (l : MinerLine) → IsLine l → line_in (line_words l) ≡ Some l
 line_back (lines.Told (Open es)) h = ap (option_map (λ xs. lines.Told (Open xs))) (elements_back es h)
 line_back (lines.Told (Publish name es)) h = ap (option_map lines.Told) (published_back name es h)
+line_back (lines.Told (Hand name es)) h = absurd h
 line_back (lines.Share s) h = ap (option_map lines.Share) (share_back s h)
 line_back (lines.Ended end) h = ap (option_map lines.Ended) (end_back end h)
 

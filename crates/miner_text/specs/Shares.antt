@@ -1,6 +1,6 @@
 -- A miner's share of a value that is published to the client.
 use Rattle.std.specs.Prelude.{ℕ, List}
-use Rattle.secrec_ast.specs.declared.expression.DataType.{DataType}
+use Rattle.program_trees.specs.declared.expression.DataType.{DataType}
 
 pub record ResultShare : Type 0 where
   pub name : List ℕ

@@ -1,7 +1,7 @@
 -- Lines that a text can have.
 use Rattle.std.specs.Prelude.{◌≡◌, ◌<◌, ◌^◌, true, List, [], ◌∷◌}
 use Rattle.sc_text.specs.declared.event.Event.{Event}
-use Rattle.sc_text.specs.declared.event.Event.TheVariants.{Open, Publish}
+use Rattle.sc_text.specs.declared.event.Event.TheVariants.{Open, Publish, Hand}
 use Rattle.sc_text.specs.declared.end.End.{End}
 use Rattle.sc_text.specs.Name.{is_name}
 use Rattle.view_text.specs.View.{Words, AreElements, IsEnding}
@@ -9,10 +9,11 @@ use Rattle.miner_text.specs.Shares.{ResultShare}
 use Rattle.miner_text.specs.declared.line.MinerLine.{MinerLine}
 use Rattle.miner_text.specs.declared.line.MinerLine.TheVariants as lines
 
--- names, words of 64 bits, and numbers as large as an end may have
+-- names, words of 64 bits, and numbers as large as an end may have; what is handed over is told by shares
 abbrev pub IsEvent : Event → Type 0
 IsEvent (Open es) = AreElements es
 IsEvent (Publish name es) = (is_name name ≡ true) × AreElements es
+IsEvent (Hand name es) = ⊥
 
 abbrev pub IsShare : ResultShare → Type 0
 IsShare s = (is_name s.name ≡ true) × Words s.words

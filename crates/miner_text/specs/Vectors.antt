@@ -1,8 +1,8 @@
 -- Worked texts, and what is read of them.
 use Rattle.std.specs.Prelude.{◌≡◌, List, [], ◌∷◌, codes, refl, Ok, Err, true}
 use Rattle.std.specs.Fmt.{digits}
-use Rattle.secrec_ast.specs.declared.expression.DataType.TheVariants.{Uint64}
-use Rattle.secrec_ast.specs.declared.expression.DataType.TheVariants as datatype
+use Rattle.program_trees.specs.declared.expression.DataType.TheVariants.{Uint64}
+use Rattle.program_trees.specs.declared.expression.DataType.TheVariants as datatype
 use Rattle.sc_text.specs.Elements.{element_text, elements_text}
 use Rattle.sc_text.specs.End.{ending_text, end_line}
 use Rattle.sc_text.specs.Event.{event_line}

@@ -3,8 +3,8 @@ ghost use Rattle.std.specs.Prelude.{◌≡◌, Some};
 ghost use Rattle.miner_text.specs.Shares.{ResultShare as AResultShare};
 
 use crate::types::type_word;
+use program_trees::DataType;
 use sc_text::Name;
-use secrec_ast::DataType;
 use std::fmt;
 use std::marker::Model;
 

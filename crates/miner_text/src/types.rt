@@ -3,7 +3,7 @@ ghost use Rattle.std.specs.Prelude.{◌≡◌};
 ghost use Rattle.miner_text.specs.Lines.{type_word};
 ghost use Rattle.miner_text.specs.Reading.{type_in};
 
-use secrec_ast::DataType;
+use program_trees::DataType;
 use view_reader::is_word;
 
 /// The word for a type: `uint64` or `bool`.

@@ -1,6 +1,6 @@
 -- Each step of the code is the strand's: what it sends and holds is what the miner's part does next.
 use Rattle.std.proofs.Common.{◌≡◌, ℕ, ◌*◌, true, List, [], ◌∷◌, ◌++◌, length, sym, ◌∙◌, ap, subst}
-use Rattle.share_ring.specs.Ring.{Ring, RingLaws}
+use Rattle.proto_core.specs.Ring.{Ring, RingLaws}
 use Rattle.proto_core.specs.declared.party.Number.{Number}
 use Rattle.proto_core.specs.Parties.{to_next, previous_of}
 use Rattle.proto_core.specs.Lists.{part}

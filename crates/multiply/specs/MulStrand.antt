@@ -1,6 +1,6 @@
 -- Multiplying, as one miner does it.
 use Rattle.std.specs.Prelude.{ℕ, List, [], ◌∷◌, ◌++◌}
-use Rattle.share_ring.specs.Ring.{Ring}
+use Rattle.proto_core.specs.Ring.{Ring}
 use Rattle.proto_core.specs.declared.party.Number.{Number}
 use Rattle.proto_core.specs.Parties.{to_next, from_previous}
 use Rattle.proto_core.specs.Lists.{part}

@@ -1,6 +1,6 @@
 -- The protocol that multiplies: both factors are masked anew and passed on, and each miner adds three of the nine products.
 use Rattle.std.specs.Prelude.{◌≡◌, ℕ, ◌*◌, if◌then◌else◌, List, [], ◌∷◌, ◌++◌}
-use Rattle.share_ring.specs.Ring.{Ring}
+use Rattle.proto_core.specs.Ring.{Ring}
 use Rattle.proto_core.specs.declared.party.Number.{Number}
 use Rattle.proto_core.specs.declared.party.Number.TheVariants.{One, Two, Three}
 use Rattle.proto_core.specs.Parties.{next_of, previous_of, to_next, from_previous, sender_of, is_forward, is_same}

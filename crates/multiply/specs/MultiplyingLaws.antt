@@ -1,6 +1,6 @@
 -- The protocol multiplies, and each view can be made without the others' shares.
 use Rattle.std.proofs.Common.{◌≡◌, ℕ, ◌*◌, true, false, cond, List, [], ◌∷◌, ◌++◌, length, refl, sym, ◌∙◌, ap, subst, arith, map, length-append, append_assoc}
-use Rattle.share_ring.specs.Ring.{Ring, RingLaws}
+use Rattle.proto_core.specs.Ring.{Ring, RingLaws}
 use Rattle.proto_core.specs.declared.link.Link.{Link}
 use Rattle.proto_core.specs.declared.link.Link.TheVariants.{Link12, Link13, Link21, Link23, Link31, Link32}
 use Rattle.proto_core.specs.declared.party.Number.{Number}

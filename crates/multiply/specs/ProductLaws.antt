@@ -1,7 +1,7 @@
 -- Products of shares in any ring.
 use Rattle.std.proofs.Common.{◌≡◌, ℕ, ◌+◌, List, ◌++◌, sym, ◌∙◌, ap, arith}
-use Rattle.share_ring.specs.Ring.{Ring, RingLaws}
-use Rattle.share_ring.proofs.Sums.{products_of_three}
+use Rattle.proto_core.specs.Ring.{Ring, RingLaws}
+use Rattle.proto_core.proofs.Sums.{products_of_three}
 use Rattle.proto_core.specs.Lists.{at, each, part}
 use Rattle.proto_core.specs.Elementwise.{plus, minus}
 use Rattle.proto_core.specs.Resharing.{reshared, sum_of_three}

@@ -1,6 +1,6 @@
 -- Products of words, element by element.
 use Rattle.std.specs.Prelude.{ℕ, List}
-use Rattle.share_ring.specs.Ring.{Ring}
+use Rattle.proto_core.specs.Ring.{Ring}
 use Rattle.proto_core.specs.Lists.{at, each}
 
 unfoldable pub times : Ring → ℕ → List ℕ → List ℕ → List ℕ

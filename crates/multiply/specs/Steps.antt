@@ -1,6 +1,6 @@
 -- What each step of multiplying gives, by what a miner held before and the message that comes.
 use Rattle.std.specs.Prelude.{◌≡◌, ℕ, ◌*◌, ◌++◌, List, length}
-use Rattle.share_ring.specs.Ring.{Ring}
+use Rattle.proto_core.specs.Ring.{Ring}
 use Rattle.proto_core.specs.Lists.{part}
 use Rattle.proto_core.specs.Elementwise.{plus, minus}
 use Rattle.multiply.specs.MulStrand.{Held, product}

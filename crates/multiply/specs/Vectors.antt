@@ -1,6 +1,6 @@
 -- Worked values: 6 times 7 by shares 0, 0, 6 and 0, 0, 7, and rows with masks that are not zero.
 use Rattle.std.specs.Prelude.{◌≡◌, [], ◌∷◌, ◌++◌, refl}
-use Rattle.share_ring.specs.Rings.{add_ring, xor_ring}
+use Rattle.proto_core.specs.Rings.{add_ring, xor_ring}
 use Rattle.proto_core.specs.declared.party.Number.TheVariants.{One, Two, Three}
 use Rattle.proto_core.specs.declared.link.Link.TheVariants.{Link12, Link21, Link23, Link31}
 use Rattle.proto_core.specs.Lists.{each, part}

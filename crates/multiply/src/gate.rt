@@ -2,8 +2,7 @@ ghost use Rattle.proto_core.specs.Protocol.{Lawful};
 ghost use Rattle.multiply.specs.Multiplying.{mul_protocol, Multiplies};
 ghost use Rattle.multiply.specs.MultiplyingLaws.{mul_lawful};
 
-use proto_core::Interactive;
-use share_ring::ShareRing;
+use proto_core::{Interactive, ShareRing};
 use std::marker::PhantomData;
 
 /// The gate that multiplies two values shared in a ring: integers, or words bit by bit by `and`.

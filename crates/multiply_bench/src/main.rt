@@ -9,8 +9,7 @@ mod held;
 
 use crate::held::Held;
 use multiply::MulWords;
-use proto_core::Messages;
-use share_ring::AddRing;
+use proto_core::{AddRing, Messages};
 use std::alloc::{AllocError, Global};
 use std::time::{Duration, Instant};
 use std::{env, io};

@@ -2,7 +2,7 @@
 use Rattle.std.proofs.Common.{◌≡◌, ℕ, ◌-◌, ◌≤◌, List, ◌++◌, length, take, drop, sym, ap, ◌∙◌, Some, arith}
 use Rattle.std.proofs.lemmas.List.{length-append}
 use Rattle.std.proofs.Math.Seq.{drop-append_seam, take-append_seam}
-use Rattle.secrec_ast.specs.declared.statement.DeclaredType.{DeclaredType}
+use Rattle.program_trees.specs.declared.statement.DeclaredType.{DeclaredType}
 use Rattle.name_resolution.specs.Scopes.{Variable, Scope, FunctionScope, leaving, entering, behind_block, left}
 use Rattle.name_resolution.specs.Resolving.{Resolving, closed, in_block}
 use Rattle.name_resolution.proofs.Sequences.{place_made}

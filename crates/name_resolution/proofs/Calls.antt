@@ -2,10 +2,10 @@
 use Rattle.std.proofs.Common.{◌≡◌, List, [], ◌∷◌, ◌++◌, refl, ap}
 use Rattle.std.specs.Prelude.{map}
 use denote.Ref.{Bor}
-use Rattle.secrec_ast.specs.declared.function.Function.{Function}
-use Rattle.secrec_ast.specs.Tree.{Tree, trees_of}
-use Rattle.secrec_ast.specs.Statements.{StatementTree, statements_of}
-use Rattle.secrec_ast.specs.Programs.{FunctionTree}
+use Rattle.program_trees.specs.declared.function.Function.{Function}
+use Rattle.program_trees.specs.Tree.{Tree, trees_of}
+use Rattle.program_trees.specs.Statements.{StatementTree, statements_of}
+use Rattle.program_trees.specs.Programs.{FunctionTree}
 use Rattle.declarations.specs.Declarations.{Declared}
 use Rattle.declarations.specs.Named.{name_of}
 use Rattle.declarations.specs.Views.{tree_at}

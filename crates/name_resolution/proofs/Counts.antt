@@ -1,7 +1,7 @@
 -- Counts of lists of nodes.
 use Rattle.std.proofs.Common.{◌≡◌, ◌+◌, List, [], ◌∷◌, ◌++◌, arith}
-use Rattle.secrec_ast.specs.Tree.{Tree, trees_of}
-use Rattle.secrec_ast.specs.Statements.{StatementTree, statements_of}
+use Rattle.program_trees.specs.Tree.{Tree, trees_of}
+use Rattle.program_trees.specs.Statements.{StatementTree, statements_of}
 use Rattle.name_resolution.specs.Sizes.{nodes, nodes_all, statement_nodes, statements_nodes}
 
 pub nodes_all_more : (ts : List Tree) (t : Tree) → nodes_all (trees_of (ts ++ t ∷ [])) ≡ nodes_all (trees_of ts) + nodes t

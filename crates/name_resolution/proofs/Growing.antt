@@ -2,15 +2,15 @@
 use Rattle.std.proofs.Common.{◌≡◌, List, [], ◌∷◌, ◌++◌, refl, sym, ap, ◌∙◌, Option, Some, None}
 use Rattle.std.specs.Prelude.{map}
 use Rattle.std.proofs.lemmas.List.{map-append}
-use Rattle.secrec_ast.specs.Tree.{Tree, trees_of}
+use Rattle.program_trees.specs.Tree.{Tree, trees_of}
 use Rattle.declarations.specs.Declarations.{Declared}
 use Rattle.name_resolution.specs.Scopes.{Scope}
 use Rattle.name_resolution.specs.Values.{TypedValue, of_both, and_more, value, values}
-use Rattle.secrec_ast.specs.declared.statement.DeclaredType.{DeclaredType}
-use Rattle.secrec_ast.specs.declared.function.DomainVariable.{DomainVariable}
-use Rattle.secrec_ast.specs.Programs.{FunctionTree}
-use Rattle.typed_tree.specs.declared.kinds.Slot.{Slot}
-use Rattle.typed_tree.specs.Programs.{TypedFunctionTree}
+use Rattle.program_trees.specs.declared.statement.DeclaredType.{DeclaredType}
+use Rattle.program_trees.specs.declared.function.DomainVariable.{DomainVariable}
+use Rattle.program_trees.specs.Programs.{FunctionTree}
+use Rattle.program_trees.specs.declared.kinds.Slot.{Slot}
+use Rattle.program_trees.specs.TypedPrograms.{TypedFunctionTree}
 use Rattle.name_resolution.specs.Functions.{slot_written, slots_written, typed_function, typed_functions}
 
 pub map_one : {A B : Type 0} (f : A → B) (xs : List A) (x : A) → map f (xs ++ x ∷ []) ≡ map f xs ++ f x ∷ []

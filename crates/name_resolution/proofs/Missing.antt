@@ -4,19 +4,19 @@ use Rattle.std.specs.Prelude.{Result, Err, map}
 use Rattle.std.specs.Result.{IsErrAnd}
 use Rattle.std.proofs.lemmas.Result.{err_from_is_err_and}
 use denote.Ref.{Bor}
-use Rattle.secrec_ast.specs.declared.expression.Expression.{Expression}
-use Rattle.secrec_ast.specs.declared.statement.Statement.{Statement}
-use Rattle.secrec_ast.specs.declared.statement.DeclaredType.{DeclaredType}
-use Rattle.secrec_ast.specs.declared.function.DomainVariable.{DomainVariable}
-use Rattle.secrec_ast.specs.declared.function.Function.{Function}
-use Rattle.secrec_ast.specs.Tree.{expression, trees_of}
-use Rattle.secrec_ast.specs.Statements.{StatementTree, statement, statements_of}
+use Rattle.program_trees.specs.declared.expression.Expression.{Expression}
+use Rattle.program_trees.specs.declared.statement.Statement.{Statement}
+use Rattle.program_trees.specs.declared.statement.DeclaredType.{DeclaredType}
+use Rattle.program_trees.specs.declared.function.DomainVariable.{DomainVariable}
+use Rattle.program_trees.specs.declared.function.Function.{Function}
+use Rattle.program_trees.specs.Tree.{expression, trees_of}
+use Rattle.program_trees.specs.Statements.{StatementTree, statement, statements_of}
 use Rattle.declarations.specs.Declarations.{Declared}
 use Rattle.declarations.specs.Views.{tree_at}
 use Rattle.name_resolution.specs.declared.resolve_err.ResolveErr.{ResolveErr}
 use Rattle.name_resolution.specs.declared.resolve_err.ResolveErr.TheVariants.{Unresolved, Memory}
 use Rattle.name_resolution.specs.Answer.{Answers}
-use Rattle.typed_tree.specs.Statements.{TypedStatementTree, TypedStatementTrees, none, also}
+use Rattle.program_trees.specs.TypedStatements.{TypedStatementTree, TypedStatementTrees, none, also}
 use Rattle.name_resolution.specs.Scopes.{Scope, FunctionScope}
 use Rattle.name_resolution.specs.Values.{of_both, and_more, value, values}
 use Rattle.name_resolution.specs.Resolving.{carry, done}

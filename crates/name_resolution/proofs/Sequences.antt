@@ -1,8 +1,8 @@
 -- Statements one after another.
 use Rattle.std.proofs.Common.{◌≡◌, List, [], ◌∷◌, ◌++◌, refl, ap, ◌∙◌, Option, Some, None}
-use Rattle.secrec_ast.specs.Statements.{StatementTree, statements_of}
+use Rattle.program_trees.specs.Statements.{StatementTree, statements_of}
 use Rattle.declarations.specs.Declarations.{Declared}
-use Rattle.typed_tree.specs.Statements.{TypedStatementTree, TypedStatementTrees, none, also, typed_statements_of}
+use Rattle.program_trees.specs.TypedStatements.{TypedStatementTree, TypedStatementTrees, none, also, typed_statements_of}
 use Rattle.name_resolution.specs.Scopes.{FunctionScope}
 use Rattle.name_resolution.specs.Resolving.{carry, done}
 use Rattle.name_resolution.specs.Bodies.{resolved, resolved_all}

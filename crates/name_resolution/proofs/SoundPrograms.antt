@@ -2,20 +2,20 @@
 use Rattle.std.proofs.Common.{◌≡◌, ◌+◌, ◌≤◌, List, [], ◌∷◌, length, refl, sym, ap, ◌∙◌, subst, Some, arith}
 use Rattle.std.specs.Prelude.{map}
 use Rattle.std.proofs.lemmas.List.{length-append}
-use Rattle.secrec_ast.specs.declared.statement.DeclaredType.{DeclaredType}
-use Rattle.secrec_ast.specs.declared.function.DomainVariable.{DomainVariable}
-use Rattle.secrec_ast.specs.declared.function.Parameter.{Parameter}
-use Rattle.secrec_ast.specs.Programs.{FunctionTree, ProgramTree}
+use Rattle.program_trees.specs.declared.statement.DeclaredType.{DeclaredType}
+use Rattle.program_trees.specs.declared.function.DomainVariable.{DomainVariable}
+use Rattle.program_trees.specs.declared.function.Parameter.{Parameter}
+use Rattle.program_trees.specs.Programs.{FunctionTree, ProgramTree}
 use Rattle.declarations.specs.Declarations.{Declared, declared_by}
-use Rattle.typed_tree.specs.declared.kinds.Slot.{Slot}
+use Rattle.program_trees.specs.declared.kinds.Slot.{Slot}
 use Rattle.name_resolution.specs.Scopes.{FunctionScope, no_place, declaring}
 use Rattle.name_resolution.specs.Bodies.{resolved_all}
-use Rattle.typed_tree.specs.Programs.{TypedFunctionTree, TypedProgramTree}
+use Rattle.program_trees.specs.TypedPrograms.{TypedFunctionTree, TypedProgramTree}
 use Rattle.name_resolution.specs.Order.{reached}
 use Rattle.name_resolution.specs.Values.{and_more}
 use Rattle.name_resolution.specs.Functions.{slot_written, slots_written, given_back, with_parameters, function_from, function_made}
 use Rattle.name_resolution.specs.Functions.{function_behind, typed_function, typed_functions, with_functions, program_of, typed_of}
-use Rattle.typed_tree.specs.Sound.{parameters_of, IsSoundFunction, AreSoundFunctions, IsSound}
+use Rattle.program_trees.specs.Sound.{parameters_of, IsSoundFunction, AreSoundFunctions, IsSound}
 use Rattle.name_resolution.proofs.SoundValues.{mapped, both_there, then_there, some_is, arity, arities}
 use Rattle.name_resolution.proofs.SoundBodies.{IsPlace, declaring_place, resolved_all_yields}
 

@@ -4,21 +4,21 @@ use Rattle.std.proofs.Common.{false, cond, arith}
 use Rattle.std.specs.Prelude.{map, bytes_eq, nat_eq, option_map, option_and_then}
 use Rattle.std.specs.List.{slice_get}
 use Rattle.std.proofs.lemmas.Option.{slice_get-map}
-use Rattle.secrec_ast.specs.Tree.{Tree, Trees, number, truth, variable, call, index, parentheses, negation, cast, binary, declassify, argument, publish}
-use Rattle.secrec_ast.specs.Tree as Tree'
-use Rattle.secrec_ast.specs.Programs.{FunctionTree}
+use Rattle.program_trees.specs.Tree.{Tree, Trees, number, truth, variable, call, index, parentheses, negation, cast, binary, declassify, argument, publish}
+use Rattle.program_trees.specs.Tree as Tree'
+use Rattle.program_trees.specs.Programs.{FunctionTree}
 use Rattle.declarations.specs.declared.built_in.BuiltIn.{BuiltIn}
 use Rattle.declarations.specs.declared.built_in.BuiltIn.TheVariants.{Size, Cat, Sum, BitExtract}
 use Rattle.declarations.specs.Declarations.{Declared, Callee, built_in, defined, built_in_named, function_named, callee_or_function, callee}
-use Rattle.typed_tree.specs.declared.operators.BinaryOperator.{BinaryOperator}
-use Rattle.typed_tree.specs.declared.operators.Connective.{Connective}
-use Rattle.typed_tree.specs.Tree.{call_node, typed_trees_of}
-use Rattle.typed_tree.specs.Operators.{operator_on, operands_of, may_cut_short}
+use Rattle.program_trees.specs.declared.operators.BinaryOperator.{BinaryOperator}
+use Rattle.program_trees.specs.declared.operators.Connective.{Connective}
+use Rattle.program_trees.specs.TypedTree.{call_node, typed_trees_of}
+use Rattle.program_trees.specs.Operators.{operator_on, operands_of, may_cut_short}
 use Rattle.name_resolution.specs.Scopes.{Variable, Scope, variable_in, variable_named}
 use Rattle.name_resolution.specs.Values.{TypedValue, TypedCall, of_both, variable_value, element_value, negated, cast_value, declassified_value}
 use Rattle.name_resolution.specs.Values.{operation_node, operation_made, operation, gives_value, with_shape, value_given, shape_returned}
 use Rattle.name_resolution.specs.Values.{tree_of_value, built_in_value, called, and_more, value, values}
-use Rattle.typed_tree.specs.Sound.{count_of, IsSoundTree, AreSoundTrees}
+use Rattle.program_trees.specs.Sound.{count_of, IsSoundTree, AreSoundTrees}
 
 -- WHAT IS THERE
 

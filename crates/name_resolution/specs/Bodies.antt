@@ -1,19 +1,19 @@
 -- A statement of the program as a typed one.
 use Rattle.std.specs.Prelude.{ℕ, true, false, List, Option, Some, None, option_map}
-use Rattle.secrec_ast.specs.declared.expression.DataType.{DataType}
-use Rattle.secrec_ast.specs.declared.expression.DataType.TheVariants.{Uint64}
-use Rattle.secrec_ast.specs.declared.expression.DataType.TheVariants as datatype
-use Rattle.secrec_ast.specs.Tree.{Tree, Trees, call, argument, publish}
-use Rattle.secrec_ast.specs.Statements.{DeclarationTree, TargetTree, AssignmentTree, StartTree, starts_with_nothing, starts_with_declaration}
-use Rattle.secrec_ast.specs.Statements.{starts_with_assignment, StepTree, steps_by_nothing, steps_by_assignment, steps_by_expression, StatementTree}
-use Rattle.secrec_ast.specs.Statements.{block, empty, branch, choice, while_loop, do_loop, for_loop, breaks, continues, returns, assertion}
-use Rattle.secrec_ast.specs.Statements.{declaration, assignment, evaluation, StatementTrees}
-use Rattle.secrec_ast.specs.Statements as Statements'
+use Rattle.program_trees.specs.declared.expression.DataType.{DataType}
+use Rattle.program_trees.specs.declared.expression.DataType.TheVariants.{Uint64}
+use Rattle.program_trees.specs.declared.expression.DataType.TheVariants as datatype
+use Rattle.program_trees.specs.Tree.{Tree, Trees, call, argument, publish}
+use Rattle.program_trees.specs.Statements.{DeclarationTree, TargetTree, AssignmentTree, StartTree, starts_with_nothing, starts_with_declaration}
+use Rattle.program_trees.specs.Statements.{starts_with_assignment, StepTree, steps_by_nothing, steps_by_assignment, steps_by_expression, StatementTree}
+use Rattle.program_trees.specs.Statements.{block, empty, branch, choice, while_loop, do_loop, for_loop, breaks, continues, returns, assertion}
+use Rattle.program_trees.specs.Statements.{declaration, assignment, evaluation, StatementTrees}
+use Rattle.program_trees.specs.Statements as Statements'
 use Rattle.declarations.specs.Declarations.{Declared}
-use Rattle.typed_tree.specs.Tree.{TypedTree, word_node, truth_node}
-use Rattle.typed_tree.specs.Statements.{TypedStatementTree, TypedStatementTrees, none, also, empty_statement, block_statement, if_statement, loop_statement}
-use Rattle.typed_tree.specs.Statements.{do_statement, break_statement, continue_statement, return_statement, assert_statement, store_statement}
-use Rattle.typed_tree.specs.Statements.{default_statement, fill_statement, input_statement, element_statement, publish_statement, evaluate_statement}
+use Rattle.program_trees.specs.TypedTree.{TypedTree, word_node, truth_node}
+use Rattle.program_trees.specs.TypedStatements.{TypedStatementTree, TypedStatementTrees, none, also, empty_statement, block_statement, if_statement, loop_statement}
+use Rattle.program_trees.specs.TypedStatements.{do_statement, break_statement, continue_statement, return_statement, assert_statement, store_statement}
+use Rattle.program_trees.specs.TypedStatements.{default_statement, fill_statement, input_statement, element_statement, publish_statement, evaluate_statement}
 use Rattle.name_resolution.specs.Scopes.{FunctionScope}
 use Rattle.name_resolution.specs.Values.{call_made}
 use Rattle.name_resolution.specs.Resolving.{Resolving, ◌>>=◌, done, into, both, reading, next_slot, declare, in_block, expression, named}

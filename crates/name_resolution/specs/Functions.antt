@@ -1,24 +1,24 @@
 -- A function and a program as typed ones.
 use Rattle.std.specs.Prelude.{ℕ, List, length, map, fold, Option, Some, None, option_map, option_and_then}
-use Rattle.secrec_ast.specs.declared.statement.Domain.{Domain}
-use Rattle.secrec_ast.specs.declared.statement.Domain.TheVariants as domain
-use Rattle.secrec_ast.specs.declared.statement.DeclaredType.{DeclaredType}
-use Rattle.secrec_ast.specs.declared.function.DomainVariable.{DomainVariable}
-use Rattle.secrec_ast.specs.declared.function.Parameter.{Parameter}
-use Rattle.secrec_ast.specs.declared.function.ResultType.{ResultType}
-use Rattle.secrec_ast.specs.declared.function.ResultType.TheVariants as result
-use Rattle.secrec_ast.specs.Programs.{FunctionTree, ProgramTree}
+use Rattle.program_trees.specs.declared.statement.Domain.{Domain}
+use Rattle.program_trees.specs.declared.statement.Domain.TheVariants as domain
+use Rattle.program_trees.specs.declared.statement.DeclaredType.{DeclaredType}
+use Rattle.program_trees.specs.declared.function.DomainVariable.{DomainVariable}
+use Rattle.program_trees.specs.declared.function.Parameter.{Parameter}
+use Rattle.program_trees.specs.declared.function.ResultType.{ResultType}
+use Rattle.program_trees.specs.declared.function.ResultType.TheVariants as result
+use Rattle.program_trees.specs.Programs.{FunctionTree, ProgramTree}
 use Rattle.declarations.specs.Declarations.{Declared, declared_by, number_in}
-use Rattle.typed_tree.specs.declared.kinds.SlotDomain.{SlotDomain}
-use Rattle.typed_tree.specs.declared.kinds.SlotDomain.TheVariants.{Public, Private, Variable}
-use Rattle.typed_tree.specs.declared.kinds.Slot.{Slot}
-use Rattle.typed_tree.specs.declared.function.Returned.{Returned}
-use Rattle.typed_tree.specs.declared.function.Returned.TheVariants.{Nothing, Value}
-use Rattle.typed_tree.specs.Statements.{TypedStatementTrees}
+use Rattle.program_trees.specs.declared.kinds.SlotDomain.{SlotDomain}
+use Rattle.program_trees.specs.declared.kinds.SlotDomain.TheVariants.{Public, Private, Variable}
+use Rattle.program_trees.specs.declared.kinds.Slot.{Slot}
+use Rattle.program_trees.specs.declared.typed_function.Returned.{Returned}
+use Rattle.program_trees.specs.declared.typed_function.Returned.TheVariants.{Nothing, Value}
+use Rattle.program_trees.specs.TypedStatements.{TypedStatementTrees}
 use Rattle.name_resolution.specs.Scopes.{FunctionScope, no_place, declaring, shape_written}
 use Rattle.name_resolution.specs.Values.{of_both, all_of}
 use Rattle.name_resolution.specs.Bodies.{resolved_all}
-use Rattle.typed_tree.specs.Programs.{TypedFunctionTree, TypedProgramTree}
+use Rattle.program_trees.specs.TypedPrograms.{TypedFunctionTree, TypedProgramTree}
 use Rattle.name_resolution.specs.Sizes.{size_of}
 use Rattle.name_resolution.specs.Order.{reached}
 

@@ -1,14 +1,14 @@
 -- Which functions a program reaches, in the order in which they are first called.
 use Rattle.std.specs.Prelude.{ℕ, zero, suc, Bool, if◌then◌else◌, List, [], ◌∷◌, ◌++◌, length, Option, Some, None, codes, map, is_some}
 use Rattle.std.specs.List.{slice_get}
-use Rattle.secrec_ast.specs.Tree.{Tree, Trees, call, index, parentheses, negation, cast, binary, declassify, publish}
-use Rattle.secrec_ast.specs.Tree as Tree'
-use Rattle.secrec_ast.specs.Statements.{DeclarationTree, AssignmentTree, StartTree, starts_with_nothing, starts_with_declaration}
-use Rattle.secrec_ast.specs.Statements.{starts_with_assignment, StepTree, steps_by_nothing, steps_by_assignment, steps_by_expression, StatementTree}
-use Rattle.secrec_ast.specs.Statements.{block, branch, choice, while_loop, do_loop, for_loop, returns, assertion}
-use Rattle.secrec_ast.specs.Statements.{declaration, assignment, evaluation, StatementTrees}
-use Rattle.secrec_ast.specs.Statements as Statements'
-use Rattle.secrec_ast.specs.Programs.{FunctionTree}
+use Rattle.program_trees.specs.Tree.{Tree, Trees, call, index, parentheses, negation, cast, binary, declassify, publish}
+use Rattle.program_trees.specs.Tree as Tree'
+use Rattle.program_trees.specs.Statements.{DeclarationTree, AssignmentTree, StartTree, starts_with_nothing, starts_with_declaration}
+use Rattle.program_trees.specs.Statements.{starts_with_assignment, StepTree, steps_by_nothing, steps_by_assignment, steps_by_expression, StatementTree}
+use Rattle.program_trees.specs.Statements.{block, branch, choice, while_loop, do_loop, for_loop, returns, assertion}
+use Rattle.program_trees.specs.Statements.{declaration, assignment, evaluation, StatementTrees}
+use Rattle.program_trees.specs.Statements as Statements'
+use Rattle.program_trees.specs.Programs.{FunctionTree}
 use Rattle.declarations.specs.Declarations.{Declared, Callee, defined, callee, number_in}
 
 abbrev pub function_name : FunctionTree → List ℕ

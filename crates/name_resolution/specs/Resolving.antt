@@ -1,11 +1,11 @@
 -- A piece of a function becomes a typed one at a place, and leads to the place after it; or it has no typed one.
 use Rattle.std.specs.Prelude.{ℕ, List, length, Option, Some, None, option_map}
-use Rattle.secrec_ast.specs.declared.statement.DeclaredType.{DeclaredType}
-use Rattle.secrec_ast.specs.declared.statement.Identifier.{Identifier}
-use Rattle.secrec_ast.specs.Tree.{Tree}
+use Rattle.program_trees.specs.declared.statement.DeclaredType.{DeclaredType}
+use Rattle.program_trees.specs.declared.statement.Identifier.{Identifier}
+use Rattle.program_trees.specs.Tree.{Tree}
 use Rattle.declarations.specs.Declarations.{Declared}
 use Rattle.name_resolution.specs.declared.variables.Known.{Known}
-use Rattle.typed_tree.specs.Tree.{TypedTree}
+use Rattle.program_trees.specs.TypedTree.{TypedTree}
 use Rattle.name_resolution.specs.Scopes.{FunctionScope, known_of, variable_named, declaring, entering, behind_block}
 use Rattle.name_resolution.specs.Values.{tree_of_value, value}
 

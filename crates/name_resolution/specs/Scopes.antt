@@ -1,8 +1,8 @@
 -- The variables that are known at a place, each with its slot, and the slots so far.
 use Rattle.std.specs.Prelude.{ℕ, ◌-◌, if◌then◌else◌, List, [], ◌∷◌, ◌++◌, length, take, drop, Option, Some, None, bytes_eq}
-use Rattle.secrec_ast.specs.declared.statement.DeclaredType.{DeclaredType}
-use Rattle.secrec_ast.specs.declared.statement.Identifier.{Identifier}
-use Rattle.typed_tree.specs.declared.kinds.Shape.{Shape}
+use Rattle.program_trees.specs.declared.statement.DeclaredType.{DeclaredType}
+use Rattle.program_trees.specs.declared.statement.Identifier.{Identifier}
+use Rattle.program_trees.specs.declared.kinds.Shape.{Shape}
 use Rattle.name_resolution.specs.declared.variables.Known.{Known}
 
 pub record Variable : Type 0 where

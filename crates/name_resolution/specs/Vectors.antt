@@ -1,30 +1,30 @@
 -- Programs of the language and their typed trees, worked out by hand from the rules.
 use Rattle.std.specs.Prelude.{ℕ, ◌≡◌, Bool, true, false, List, [], ◌∷◌, Option, Some, None, codes, map, refl}
 use Rattle.sc_text.specs.declared.span.Span.{Span}
-use Rattle.secrec_ast.specs.declared.expression.DataType.{DataType}
-use Rattle.secrec_ast.specs.declared.expression.DataType.TheVariants as datatype
-use Rattle.secrec_ast.specs.declared.expression.Operator.TheVariants.{Add, Multiply, AndAlso}
-use Rattle.secrec_ast.specs.declared.statement.Domain.{Domain}
-use Rattle.secrec_ast.specs.declared.statement.Domain.TheVariants as domain
-use Rattle.secrec_ast.specs.declared.statement.Identifier.{Identifier}
-use Rattle.secrec_ast.specs.declared.statement.DeclaredType.{DeclaredType}
-use Rattle.secrec_ast.specs.declared.function.ResultType.TheVariants as result
-use Rattle.secrec_ast.specs.Tree.{Tree, number, truth, variable, call, binary, declassify, argument, publish, trees_of}
-use Rattle.secrec_ast.specs.Statements.{StatementTree, block, returns, declaration, assignment, evaluation, statements_of}
-use Rattle.secrec_ast.specs.Programs.{FunctionTree, imports, domain as domains_item, defines, ProgramTree}
-use Rattle.typed_tree.specs.declared.kinds.SlotDomain.TheVariants.{Public, Private, Variable}
-use Rattle.typed_tree.specs.declared.kinds.SlotDomain.{SlotDomain}
-use Rattle.typed_tree.specs.declared.kinds.Slot.{Slot}
-use Rattle.typed_tree.specs.declared.function.Returned.TheVariants.{Nothing, Value}
-use Rattle.typed_tree.specs.declared.operators.WordOperator.TheVariants as word
-use Rattle.typed_tree.specs.declared.operators.BoolOperator.TheVariants as bool
-use Rattle.typed_tree.specs.declared.operators.BinaryOperator.TheVariants.{Words, Bools}
-use Rattle.typed_tree.specs.declared.operators.Operands.TheVariants.{Scalars, ArrayAndScalar}
-use Rattle.typed_tree.specs.declared.operators.Connective.TheVariants as connective
-use Rattle.typed_tree.specs.Tree.{word_node, truth_node, slot_node, call_node, binary_node, cut_node, declassify_node, typed_trees_of}
-use Rattle.typed_tree.specs.Statements.{TypedStatementTree, block_statement, return_statement, default_statement, store_statement, input_statement}
-use Rattle.typed_tree.specs.Statements.{publish_statement, evaluate_statement, typed_statements_of}
-use Rattle.typed_tree.specs.Programs.{TypedFunctionTree, TypedProgramTree}
+use Rattle.program_trees.specs.declared.expression.DataType.{DataType}
+use Rattle.program_trees.specs.declared.expression.DataType.TheVariants as datatype
+use Rattle.program_trees.specs.declared.expression.Operator.TheVariants.{Add, Multiply, AndAlso}
+use Rattle.program_trees.specs.declared.statement.Domain.{Domain}
+use Rattle.program_trees.specs.declared.statement.Domain.TheVariants as domain
+use Rattle.program_trees.specs.declared.statement.Identifier.{Identifier}
+use Rattle.program_trees.specs.declared.statement.DeclaredType.{DeclaredType}
+use Rattle.program_trees.specs.declared.function.ResultType.TheVariants as result
+use Rattle.program_trees.specs.Tree.{Tree, number, truth, variable, call, binary, declassify, argument, publish, trees_of}
+use Rattle.program_trees.specs.Statements.{StatementTree, block, returns, declaration, assignment, evaluation, statements_of}
+use Rattle.program_trees.specs.Programs.{FunctionTree, imports, domain as domains_item, defines, ProgramTree}
+use Rattle.program_trees.specs.declared.kinds.SlotDomain.TheVariants.{Public, Private, Variable}
+use Rattle.program_trees.specs.declared.kinds.SlotDomain.{SlotDomain}
+use Rattle.program_trees.specs.declared.kinds.Slot.{Slot}
+use Rattle.program_trees.specs.declared.typed_function.Returned.TheVariants.{Nothing, Value}
+use Rattle.program_trees.specs.declared.operators.WordOperator.TheVariants as word
+use Rattle.program_trees.specs.declared.operators.BoolOperator.TheVariants as bool
+use Rattle.program_trees.specs.declared.operators.BinaryOperator.TheVariants.{Words, Bools}
+use Rattle.program_trees.specs.declared.operators.Operands.TheVariants.{Scalars, ArrayAndScalar}
+use Rattle.program_trees.specs.declared.operators.Connective.TheVariants as connective
+use Rattle.program_trees.specs.TypedTree.{word_node, truth_node, slot_node, call_node, binary_node, cut_node, declassify_node, typed_trees_of}
+use Rattle.program_trees.specs.TypedStatements.{TypedStatementTree, block_statement, return_statement, default_statement, store_statement, input_statement}
+use Rattle.program_trees.specs.TypedStatements.{publish_statement, evaluate_statement, typed_statements_of}
+use Rattle.program_trees.specs.TypedPrograms.{TypedFunctionTree, TypedProgramTree}
 use Rattle.name_resolution.specs.Functions.{typed_of}
 
 abbrev at : ℕ → Span

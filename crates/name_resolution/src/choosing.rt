@@ -1,9 +1,10 @@
 // Which operator a sign means on operands of one data type.
 ghost use Rattle.std.specs.Prelude.{◌≡◌};
-ghost use Rattle.typed_tree.specs.Operators.{word_operator, bool_operator, operator_on, may_cut_short};
+ghost use Rattle.program_trees.specs.Operators.{word_operator, bool_operator, operator_on, may_cut_short};
 
-use secrec_ast::{DataType, Operator};
-use typed_tree::{BinaryOperator, BoolOperator, Connective, Operands, WordOperator};
+use program_trees::{
+    BinaryOperator, BoolOperator, Connective, DataType, Operands, Operator, WordOperator,
+};
 
 fn word_operator(sign: Operator) -> Option<WordOperator>
     ensures { result ≡ word_operator sign }

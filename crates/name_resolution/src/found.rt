@@ -2,7 +2,7 @@ ghost use Rattle.std.specs.Prelude.{◌≡◌, map};
 ghost use Rattle.declarations.specs.Named.{name_of};
 
 use declarations::{Called, Declarations, NameIndex};
-use secrec_ast::Function;
+use program_trees::Function;
 use std::alloc::{AllocError, Global};
 
 /// The functions that have been called so far, in the order in which they were first called.

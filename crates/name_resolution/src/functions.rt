@@ -1,10 +1,10 @@
 // Functions as typed ones.
 ghost use Rattle.std.specs.Prelude.{◌≡◌, ◌<◌, length, IfOk, MatchOption, map};
-ghost use Rattle.secrec_ast.specs.Programs.{function_tree};
+ghost use Rattle.program_trees.specs.Programs.{function_tree};
 ghost use Rattle.declarations.specs.Views.{declared, tree_at};
 ghost use Rattle.name_resolution.specs.Functions.{variable_number, slot_domain, slot_written, slots_written, given_back, with_parameters};
 ghost use Rattle.name_resolution.specs.Functions.{typed_function, typed_functions};
-ghost use Rattle.typed_tree.specs.Programs.{typed_function_tree};
+ghost use Rattle.program_trees.specs.TypedPrograms.{typed_function_tree};
 ghost use Rattle.name_resolution.specs.Answer.{Answers};
 ghost use Rattle.name_resolution.specs.inner.Views.{place_seen, type_at, slots_seen, functions_seen};
 
@@ -14,9 +14,11 @@ use crate::sizes::size_of;
 use crate::statements::statements;
 use crate::values::shape_written;
 use declarations::Declarations;
-use secrec_ast::{DeclaredType, Domain, DomainVariable, Function, Parameter, ResultType};
+use program_trees::{
+    DeclaredType, Domain, DomainVariable, Function, Parameter, ResultType, Returned, Slot,
+    SlotDomain, TypedFunction,
+};
 use std::alloc::{AllocError, Global};
-use typed_tree::{Returned, Slot, SlotDomain, TypedFunction};
 
 // The number of a domain variable.
 fn variable_number(name: &str, variables: &[DomainVariable]) -> Option<usize>

@@ -1,7 +1,7 @@
 // Which functions are reached from `main`, in the order in which they are first called.
 ghost use Rattle.std.specs.Prelude.{◌≡◌, IfOk, map, option_map};
-ghost use Rattle.secrec_ast.specs.Tree.{expression, trees_of};
-ghost use Rattle.secrec_ast.specs.Statements.{statement, statements_of, optional, declaration_tree, assignment_tree, start_tree, step_tree};
+ghost use Rattle.program_trees.specs.Tree.{expression, trees_of};
+ghost use Rattle.program_trees.specs.Statements.{statement, statements_of, optional, declaration_tree, assignment_tree, start_tree, step_tree};
 ghost use Rattle.declarations.specs.Views.{declared, tree_at};
 ghost use Rattle.name_resolution.specs.Order.{called_in, called_in_all, called_in_optional, called_in_declaration, called_in_assignment};
 ghost use Rattle.name_resolution.specs.Order.{called_in_start, called_in_step, called_by, called_by_all, read_one, reached};
@@ -9,7 +9,7 @@ ghost use Rattle.name_resolution.specs.inner.Views.{found_seen};
 
 use crate::found::CalledFunctions;
 use declarations::Declarations;
-use secrec_ast::{Assignment, Declaration, Expression, ForStart, ForStep, Function, Statement};
+use program_trees::{Assignment, Declaration, Expression, ForStart, ForStep, Function, Statement};
 use std::alloc::{AllocError, Global};
 
 // These functions and those that an expression calls.

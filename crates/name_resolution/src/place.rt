@@ -5,7 +5,7 @@ ghost use Rattle.name_resolution.specs.inner.Views.{place_seen};
 
 use crate::values::shape_written;
 use crate::variables::{Known, Variables};
-use secrec_ast::{DeclaredType, Identifier};
+use program_trees::{DeclaredType, Identifier};
 use std::alloc::{AllocError, Global};
 
 /// The variables that are known at a place of a function, and the types of the slots that were declared before it.

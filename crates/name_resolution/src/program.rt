@@ -1,18 +1,17 @@
 // Whole programs.
 ghost use Rattle.std.specs.Prelude.{IfOk};
-ghost use Rattle.secrec_ast.specs.Programs.{program_tree};
+ghost use Rattle.program_trees.specs.Programs.{program_tree};
 ghost use Rattle.name_resolution.specs.Answer.{Answers};
 ghost use Rattle.name_resolution.specs.Functions.{typed_of};
-ghost use Rattle.typed_tree.specs.Programs.{typed_program_tree};
-ghost use Rattle.typed_tree.specs.Sound.{IsSound};
+ghost use Rattle.program_trees.specs.TypedPrograms.{typed_program_tree};
+ghost use Rattle.program_trees.specs.Sound.{IsSound};
 
 use crate::functions::typed_functions;
 use crate::order::reached;
 use crate::resolve_err::ResolveErr;
 use declarations::collect;
-use secrec_ast::Program;
+use program_trees::{Program, TypedProgram};
 use std::alloc::Global;
-use typed_tree::TypedProgram;
 
 /// The typed tree of a program, whether or not the checker accepts it: the functions that `main` reaches, in the order in which
 /// they are first called. Each slot that the tree names is one of its function, and each call is one of a function of the tree

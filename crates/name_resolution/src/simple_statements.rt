@@ -1,10 +1,10 @@
 // Statements that hold no other statement, and the parts of a `for`.
 ghost use Rattle.std.specs.Prelude.{◌≡◌, IfOk};
-ghost use Rattle.secrec_ast.specs.Tree.{expression};
-ghost use Rattle.secrec_ast.specs.Statements.{optional, declaration_tree, assignment_tree, start_tree, step_tree};
+ghost use Rattle.program_trees.specs.Tree.{expression};
+ghost use Rattle.program_trees.specs.Statements.{optional, declaration_tree, assignment_tree, start_tree, step_tree};
 ghost use Rattle.declarations.specs.Views.{declared};
-ghost use Rattle.typed_tree.specs.Tree.{typed_tree};
-ghost use Rattle.typed_tree.specs.Statements.{typed_statement};
+ghost use Rattle.program_trees.specs.TypedTree.{typed_tree};
+ghost use Rattle.program_trees.specs.TypedStatements.{typed_statement};
 ghost use Rattle.name_resolution.specs.Resolving.{resolved_value, known_at};
 ghost use Rattle.name_resolution.specs.Bodies.{evaluated, default_of, from_value, initial, declared as declared_at, assigned_to, assigned, started};
 ghost use Rattle.name_resolution.specs.Bodies.{stepped, condition_of, returned};
@@ -16,9 +16,11 @@ use crate::resolve_err::ResolveErr;
 use crate::values::{call, value};
 use crate::variables::Known;
 use declarations::Declarations;
-use secrec_ast::{Assignment, DataType, Declaration, Expression, ForStart, ForStep};
+use program_trees::{
+    Assignment, DataType, Declaration, Expression, ForStart, ForStep, TypedExpression,
+    TypedStatement,
+};
 use std::alloc::Global;
-use typed_tree::{TypedExpression, TypedStatement};
 
 /// An expression that gives a value.
 pub fn expression<'p>(

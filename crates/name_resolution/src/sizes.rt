@@ -1,12 +1,12 @@
 // How many nodes a function's tree has: counted up to 4,294,967,295, which stands for more.
 ghost use Rattle.std.specs.Prelude.{ℕ, ◌≡◌, ◌+◌, length, map};
-ghost use Rattle.secrec_ast.specs.Tree.{expression, trees_of};
-ghost use Rattle.secrec_ast.specs.Statements.{statement, statements_of, optional, declaration_tree, assignment_tree, start_tree, step_tree};
-ghost use Rattle.secrec_ast.specs.Programs.{function_tree};
+ghost use Rattle.program_trees.specs.Tree.{expression, trees_of};
+ghost use Rattle.program_trees.specs.Statements.{statement, statements_of, optional, declaration_tree, assignment_tree, start_tree, step_tree};
+ghost use Rattle.program_trees.specs.Programs.{function_tree};
 ghost use Rattle.name_resolution.specs.Sizes.{nodes, nodes_all, optional_nodes, declaration_nodes, assignment_nodes, start_nodes, step_nodes};
 ghost use Rattle.name_resolution.specs.Sizes.{statement_nodes, statements_nodes, counted, size_of};
 
-use secrec_ast::{Assignment, Declaration, Expression, ForStart, ForStep, Function, Statement};
+use program_trees::{Assignment, Declaration, Expression, ForStart, ForStep, Function, Statement};
 
 // Two counts together.
 fn both(a: u32, b: u32) -> u32

@@ -1,8 +1,8 @@
 // Statements: a `for`, and each branch or body, is a block.
 ghost use Rattle.std.specs.Prelude.{◌≡◌, IfOk, map};
-ghost use Rattle.secrec_ast.specs.Statements.{statement, statements_of, start_tree, step_tree, optional};
+ghost use Rattle.program_trees.specs.Statements.{statement, statements_of, start_tree, step_tree, optional};
 ghost use Rattle.declarations.specs.Views.{declared};
-ghost use Rattle.typed_tree.specs.Statements.{typed_statement};
+ghost use Rattle.program_trees.specs.TypedStatements.{typed_statement};
 ghost use Rattle.name_resolution.specs.Resolving.{in_block};
 ghost use Rattle.name_resolution.specs.Bodies.{looped, resolved, resolved_all};
 ghost use Rattle.name_resolution.specs.Answer.{Answers};
@@ -14,9 +14,8 @@ use crate::simple_statements::{
     assigned, condition_of, declared, evaluated, expression, returned, started, stepped,
 };
 use declarations::Declarations;
-use secrec_ast::{Expression, ForStart, ForStep, Statement};
+use program_trees::{Expression, ForStart, ForStep, Statement, TypedStatement};
 use std::alloc::Global;
-use typed_tree::TypedStatement;
 
 /// Statements one after another.
 #[cycle(statements)]

@@ -1,12 +1,12 @@
 // Expressions that give values, and calls.
 ghost use Rattle.std.specs.Prelude.{◌≡◌, true, false, IfOk, Some, map, option_map};
-ghost use Rattle.secrec_ast.specs.Tree.{expression, trees_of};
-ghost use Rattle.secrec_ast.specs.Programs.{function_tree};
+ghost use Rattle.program_trees.specs.Tree.{expression, trees_of};
+ghost use Rattle.program_trees.specs.Programs.{function_tree};
 ghost use Rattle.declarations.specs.Declarations.{defined, callee};
 ghost use Rattle.declarations.specs.Views.{declared};
-ghost use Rattle.typed_tree.specs.Tree.{typed_tree};
+ghost use Rattle.program_trees.specs.TypedTree.{typed_tree};
 ghost use Rattle.name_resolution.specs.Scopes.{variable_named, shape_written};
-ghost use Rattle.typed_tree.specs.Operators.{operands_of, may_cut_short};
+ghost use Rattle.program_trees.specs.Operators.{operands_of, may_cut_short};
 ghost use Rattle.name_resolution.specs.Values.{made, of_both, only, pair, variable_value, element_value, negated, cast_value, declassified_value};
 ghost use Rattle.name_resolution.specs.Values.{operation_node, operation, shape_returned, tree_of_value, built_in_value, called, value, values};
 ghost use Rattle.name_resolution.specs.Values.{call_made};
@@ -17,9 +17,11 @@ use crate::choosing::{may_cut_short, operator_on};
 use crate::resolve_err::ResolveErr;
 use crate::variables::Variables;
 use declarations::{BuiltIn, Called, Declarations};
-use secrec_ast::{DataType, DeclaredType, Expression, Function, Operator, ResultType};
+use program_trees::{
+    BinaryOperator, Cast, DataType, DeclaredType, Expression, Function, Operands, Operator,
+    ResultType, Shape, TypedExpression,
+};
 use std::alloc::{AllocError, Global};
-use typed_tree::{BinaryOperator, Cast, Operands, Shape, TypedExpression};
 
 /// An expression that gives a value, and the shape of the value.
 #[derive(Drop)]

@@ -2,10 +2,10 @@ ghost use Rattle.std.specs.Prelude.{ℕ, List, ◌≡◌, ◌≢◌, ◌<◌, �
 ghost use Rattle.declarations.specs.Index.{found};
 ghost use Rattle.name_resolution.specs.Scopes.{known_of, nothing_known, inner, leaving, with_variable, variable_named};
 
+use program_trees::Shape;
 use std::alloc::{AllocError, Global};
 use std::collections::BTreeMap;
 use std::marker::Model;
-use typed_tree::Shape;
 
 /// A variable that is known: its slot, and what stands in it.
 #[derive(Clone, Copy)]

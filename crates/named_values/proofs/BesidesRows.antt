@@ -5,24 +5,24 @@ use Rattle.std.specs.List.{flat_map}
 use Rattle.sc_text.specs.declared.end.Ending.TheVariants as ending
 use Rattle.sc_text.specs.declared.end.TrapKind.TheVariants as trap
 use Rattle.sc_text.specs.declared.event.Event.TheVariants as event
-use Rattle.secrec_ast.specs.declared.expression.DataType.TheVariants.{Uint64}
-use Rattle.secrec_ast.specs.declared.expression.DataType.TheVariants as datatype
+use Rattle.program_trees.specs.declared.expression.DataType.TheVariants.{Uint64}
+use Rattle.program_trees.specs.declared.expression.DataType.TheVariants as datatype
 use Rattle.gates.specs.declared.gate.Gate.TheVariants.{Const, Add, Sub, MulPub, Mul, Xor, And, Cat, Part, Put, Rep, Spread, Sum, Conv, Input, Open, Result}
 use Rattle.gates.specs.Clear.{bits_of, first_word}
 use Rattle.plans.specs.Equality.{eq_plan}
 use Rattle.plans.specs.BitExtract.{bits_plan}
 use Rattle.plans.specs.Compare.{less_plan}
-use Rattle.typed_tree.specs.declared.kinds.Shape.{Shape}
-use Rattle.typed_tree.specs.declared.operators.WordOperator.{WordOperator}
-use Rattle.typed_tree.specs.declared.operators.WordOperator.TheVariants as word
-use Rattle.typed_tree.specs.declared.operators.BoolOperator.{BoolOperator}
-use Rattle.typed_tree.specs.declared.operators.BoolOperator.TheVariants as truth
-use Rattle.typed_tree.specs.declared.operators.BinaryOperator.{BinaryOperator}
-use Rattle.typed_tree.specs.declared.operators.BinaryOperator.TheVariants as binary
-use Rattle.typed_tree.specs.declared.operators.Operands.{Operands}
-use Rattle.typed_tree.specs.declared.operators.Cast.{Cast}
-use Rattle.typed_tree.specs.declared.operators.Cast.TheVariants.{WordToWord, WordToBool, BoolToWord, BoolToBool}
-use Rattle.typed_tree.specs.Shapes.{shape_of}
+use Rattle.program_trees.specs.declared.kinds.Shape.{Shape}
+use Rattle.program_trees.specs.declared.operators.WordOperator.{WordOperator}
+use Rattle.program_trees.specs.declared.operators.WordOperator.TheVariants as word
+use Rattle.program_trees.specs.declared.operators.BoolOperator.{BoolOperator}
+use Rattle.program_trees.specs.declared.operators.BoolOperator.TheVariants as truth
+use Rattle.program_trees.specs.declared.operators.BinaryOperator.{BinaryOperator}
+use Rattle.program_trees.specs.declared.operators.BinaryOperator.TheVariants as binary
+use Rattle.program_trees.specs.declared.operators.Operands.{Operands}
+use Rattle.program_trees.specs.declared.operators.Cast.{Cast}
+use Rattle.program_trees.specs.declared.operators.Cast.TheVariants.{WordToWord, WordToBool, BoolToWord, BoolToBool}
+use Rattle.program_trees.specs.Shapes.{shape_of}
 use Rattle.language_model.specs.Effects.{World, GivenInput, Effect, words_each}
 use Rattle.language_model.specs.Values.{Secrecy, Plain, Private, Value, plain, hidden, size, visible_words, is_true, ring_for, elements_of}
 use Rattle.language_model.specs.Words as W
@@ -37,7 +37,7 @@ use Rattle.language_model.specs.Operations.{cast_shape, cast_gates, changed, cas
 use Rattle.language_model.specs.Operations.{words_for_bits, bits_from}
 use Rattle.language_model.specs.Operations.{bits_extracted, concatenated_from, concatenated, position, element_from, element_of_array}
 use Rattle.language_model.specs.Operations.{with_element_from, with_element}
-use Rattle.language_model.specs.Operations.{filled_from, filled, handed_over, published, tested, asserted}
+use Rattle.language_model.specs.Operations.{filled_from, filled, handed_over, publication, published, tested, asserted}
 use Rattle.language_model.specs.Evaluation.{is_as_declared, given_value, asked_for}
 use Rattle.named_values.proofs.Besides.{Besides, besides_bind, besides_done, besides_end, besides_charge, besides_test, besides_draw}
 use Rattle.named_values.proofs.Besides.{besides_gate, besides_number, besides_planned, besides_emit, besides_show, besides_answer}
@@ -286,4 +286,4 @@ handed_besides w (Private k) v =
 pub published_besides : (w : World) (text : List ℕ) (v : Value) → Besides (published w text v)
 published_besides w text v =
     besides_bind (untrapped_besides (size v)) (λ _. besides_bind (handed_besides w v.secrecy v) (λ _.
-    besides_emit (event.Publish text (elements_of v))))
+    besides_emit (publication v.secrecy text (elements_of v))))

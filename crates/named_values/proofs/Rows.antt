@@ -5,24 +5,24 @@ use Rattle.std.specs.List.{flat_map}
 use Rattle.sc_text.specs.declared.end.Ending.TheVariants as ending
 use Rattle.sc_text.specs.declared.end.TrapKind.TheVariants as trap
 use Rattle.sc_text.specs.declared.event.Event.TheVariants as event
-use Rattle.secrec_ast.specs.declared.expression.DataType.TheVariants.{Uint64}
-use Rattle.secrec_ast.specs.declared.expression.DataType.TheVariants as datatype
+use Rattle.program_trees.specs.declared.expression.DataType.TheVariants.{Uint64}
+use Rattle.program_trees.specs.declared.expression.DataType.TheVariants as datatype
 use Rattle.gates.specs.declared.gate.Gate.TheVariants as gates
 use Rattle.gates.specs.Clear.{bits_of, first_word}
 use Rattle.plans.specs.Equality.{eq_plan}
 use Rattle.plans.specs.BitExtract.{bits_plan}
 use Rattle.plans.specs.Compare.{less_plan}
-use Rattle.typed_tree.specs.declared.kinds.Shape.{Shape}
-use Rattle.typed_tree.specs.declared.operators.WordOperator.{WordOperator}
-use Rattle.typed_tree.specs.declared.operators.WordOperator.TheVariants as word
-use Rattle.typed_tree.specs.declared.operators.BoolOperator.{BoolOperator}
-use Rattle.typed_tree.specs.declared.operators.BoolOperator.TheVariants as truth
-use Rattle.typed_tree.specs.declared.operators.BinaryOperator.{BinaryOperator}
-use Rattle.typed_tree.specs.declared.operators.BinaryOperator.TheVariants as binary
-use Rattle.typed_tree.specs.declared.operators.Operands.{Operands}
-use Rattle.typed_tree.specs.declared.operators.Cast.{Cast}
-use Rattle.typed_tree.specs.declared.operators.Cast.TheVariants.{WordToWord, WordToBool, BoolToWord, BoolToBool}
-use Rattle.typed_tree.specs.Shapes.{shape_of}
+use Rattle.program_trees.specs.declared.kinds.Shape.{Shape}
+use Rattle.program_trees.specs.declared.operators.WordOperator.{WordOperator}
+use Rattle.program_trees.specs.declared.operators.WordOperator.TheVariants as word
+use Rattle.program_trees.specs.declared.operators.BoolOperator.{BoolOperator}
+use Rattle.program_trees.specs.declared.operators.BoolOperator.TheVariants as truth
+use Rattle.program_trees.specs.declared.operators.BinaryOperator.{BinaryOperator}
+use Rattle.program_trees.specs.declared.operators.BinaryOperator.TheVariants as binary
+use Rattle.program_trees.specs.declared.operators.Operands.{Operands}
+use Rattle.program_trees.specs.declared.operators.Cast.{Cast}
+use Rattle.program_trees.specs.declared.operators.Cast.TheVariants.{WordToWord, WordToBool, BoolToWord, BoolToBool}
+use Rattle.program_trees.specs.Shapes.{shape_of}
 use Rattle.language_model.specs.Effects.{World, GivenInput, Effect, ◌>>=◌, done, test, words_each, gate, planned}
 use Rattle.language_model.specs.Values.{Secrecy, Plain, Private, Value, plain, hidden, never_stored, size, visible_words, is_true, ring_for, elements_of}
 use Rattle.language_model.specs.Words as W
@@ -281,7 +281,7 @@ module _ (N : Numbers) where
 
     pub published_naming : (w : World) (text : List ℕ) → Naming N (row.published w text v) (Any {A = Unit {0}})
     published_naming w text =
-        naming_bind (plain_charge (size v)) (λ _ _. naming_bind (handed_naming w v.secrecy) (λ _ _. emit_naming (event.Publish text (elements_of v))))
+        naming_bind (plain_charge (size v)) (λ _ _. naming_bind (handed_naming w v.secrecy) (λ _ _. emit_naming (row.publication v.secrecy text (elements_of v))))
 
   module _ (x y : Value) (a : Names N x) (b : Names N y) where
     both_naming : {f : ℕ → ℕ → Effect ℕ} (shape : Shape) (words : List ℕ) → ((u v : ℕ) → N u → N v → Naming N (f u v) N)

@@ -15,7 +15,7 @@ use Rattle.protocol_model.specs.Runs.{Tapes}
 use Rattle.bytecode.specs.Raw.{RawCode}
 use Rattle.tape_file.specs.Tapes.{FourTapes}
 use Rattle.value_file.specs.declared.inputs.Entry.{Entry}
-use Rattle.typed_tree.specs.Programs.{TypedProgramTree}
+use Rattle.program_trees.specs.TypedPrograms.{TypedProgramTree}
 use Rattle.language_model.specs.Effects.{World}
 use Rattle.language_model.specs.Reports.{Report, Offered}
 use Rattle.verified_code.specs.Settled.{settled}

@@ -8,7 +8,7 @@ use Rattle.protocol_model.specs.Network.{Accepted, Delivery, order_of}
 use Rattle.protocol_model.specs.Runs.{nodes_of}
 use Rattle.value_file.specs.declared.inputs.Entry.{Entry}
 use Rattle.tape_file.specs.Tapes.{FourTapes}
-use Rattle.typed_tree.specs.Programs.{TypedProgramTree}
+use Rattle.program_trees.specs.TypedPrograms.{TypedProgramTree}
 use Rattle.language_model.specs.Effects.{RunStop, Ended, Short}
 use Rattle.language_model.specs.Reports.{Report}
 use Rattle.view_text.specs.View.{View}

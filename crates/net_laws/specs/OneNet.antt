@@ -7,7 +7,7 @@ use Rattle.protocol_model.specs.Network.{Accepted, Delivery}
 use Rattle.value_file.specs.declared.inputs.Entry.{Entry}
 use Rattle.value_file.specs.Public.{part_of}
 use Rattle.tape_file.specs.Tapes.{FourTapes}
-use Rattle.typed_tree.specs.Programs.{TypedProgramTree}
+use Rattle.program_trees.specs.TypedPrograms.{TypedProgramTree}
 use Rattle.view_text.specs.View.{View}
 use Rattle.program_run.specs.Accepted.{IsAccepted}
 use Rattle.program_views.specs.Views.{lengths_of, run_on, view_of}

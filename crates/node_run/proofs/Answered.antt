@@ -11,10 +11,11 @@ use Rattle.miner_core.specs.declared.answer.Lost.{Lost}
 use Rattle.miner_core.specs.declared.answer.Lost.TheVariants as lost
 use Rattle.miner_core.specs.Drawing.{left_for, Draws}
 use Rattle.miner_core.specs.Story.{Story}
+use Rattle.miner_core.specs.declared.kept.Kept.TheVariants.{All}
 use Rattle.miner_core.specs.Streams.{StreamState, ForEachTape, with_tape, has_lost}
 use Rattle.miner_core.proofs.Sources.{drew_more, rose_on}
 use Rattle.wire.specs.declared.fields.Hello.{Hello}
-use Rattle.made_miner.specs.Made.{IsMadeOf, hello_of, made_story, undealt}
+use Rattle.node_run.specs.Made.{IsMadeOf, hello_of, made_story, undealt}
 use Rattle.miner_node.specs.declared.node_err.NodeErr.{NodeErr}
 use Rattle.miner_node.specs.declared.node_err.NodeErr.TheVariants as stop
 use Rattle.miner_node.specs.declared.node_err.ServeErr.{ServeErr}
@@ -107,9 +108,10 @@ module _ (i : Number) (own : OwnPart) (hello : Hello) (m : StreamState) (s t : T
       ap (λ (v : Story). record v { tape = tape; lost = has_lost m.lost }) h.story
       ∙ ap (λ l. record (made_story own.code own.share tape own.budget) { lost = has_lost l }) h.going
 
-  pub ready_so : IsReady i m t
-  ready_so =
+  pub ready_so : m.past ≡ All → IsReady i m t
+  ready_so kept =
       record {
+        kept = kept;
         going = h.going;
         previous = ap (λ (v : Story). v.from_previous) h.story;
         next = ap (λ (v : Story). v.from_next) h.story;

@@ -9,7 +9,7 @@ use Rattle.served_bytes.specs.Front.{Front, Whole, Malformed, Truncated}
 use Rattle.verified_code.specs.Settled.{settled}
 use Rattle.view_model.specs.Dealing.{private_shares}
 use Rattle.own_code.specs.OwnCode.{Ended}
-use Rattle.made_miner.proofs.Idling.{idles_at_once}
+use Rattle.node_run.proofs.Idling.{idles_at_once}
 use Rattle.miner_core.specs.Story.{Story, strand_in}
 use Rattle.wire.specs.declared.fields.Hello.{Hello}
 use Rattle.wire.specs.declared.fields.Field.{Field}
@@ -22,7 +22,7 @@ use Rattle.miner_node.specs.Serving.{hello_from, compared, at_hello, heard, then
 use Rattle.miner_node.specs.Answers.{IsStop}
 use Rattle.miner_node.specs.Serves.{HasStopped}
 use Rattle.miner_node.proofs.Faulting.{fault_so}
-use Rattle.made_miner.specs.Made.{ended_first, first_story, run_code, share_world, unless_undealt}
+use Rattle.node_run.specs.Made.{ended_first, first_story, run_code, share_world, unless_undealt}
 use Rattle.node_run.specs.Nodes.{Own, own_hello, HasStoppedOf}
 
 -- ---- NO RUN ENDS BY A HELLO

@@ -1,3 +1,5 @@
 pub mod Told
 pub mod Nodes
 pub mod Views
+pub mod Idle
+pub mod Made

@@ -26,7 +26,7 @@ use Rattle.miner_node.specs.declared.node_err.ServeErr.TheVariants.{Node, TapeFa
 use Rattle.miner_node.specs.Peers.{Sends}
 use Rattle.miner_node.specs.Serving.{Finished, Serving, bytes_on, serving}
 use Rattle.miner_node.specs.Answers.{IsStop}
-use Rattle.made_miner.specs.Made.{hello_of, strand_of}
+use Rattle.node_run.specs.Made.{hello_of, strand_of}
 use Rattle.node_run.specs.declared.running.NodeText.{NodeText}
 
 -- what a miner has: its code and the digest of the file in which it stands, its share file, its own tape, and the budget of the run

@@ -1,11 +1,12 @@
 // A miner that joins its peers.
 ghost use Rattle.std.specs.Prelude.{◌≡◌, ◌≤◌};
 ghost use Rattle.proto_core.specs.Parties.{count_of};
+ghost use Rattle.miner_core.specs.Miners.{held};
 ghost use Rattle.miner_node.specs.Faults.{IsLater};
 ghost use Rattle.miner_node.specs.Tapes.{IsReady, Serves};
 
-use miner_core::StreamMiner;
-use miner_node::{NodeErr, ServeErr, ServedStream, serve_from};
+use miner_core::Miner;
+use miner_node::{NodeErr, ServeErr, Served, serve_from};
 use outside::{Links, TapeSource};
 use proto_core::Party;
 use std::alloc::Global;
@@ -15,18 +16,18 @@ use wire::Hello;
 /// can't be joined is a fault of the links.
 pub(crate) fn serve_joined<P: Party, L: Links, T: TapeSource>(
     alloc: Global,
-    miner: StreamMiner<P>,
+    miner: Miner<P>,
     hello: &Hello,
     port: u16,
     links: &mut L,
     tapes: &mut T,
-) -> Result<ServedStream<P>, ServeErr>
-    requires ready { IsReady P.me miner (T.state tapes.old) }
+) -> Result<Served<P>, ServeErr>
+    requires ready { IsReady P.me (held miner) (T.state tapes.old) }
     requires sender { hello.now.sender ≡ count_of P.me }
     requires port_from { 1 ≤ port }
     requires port_to { port ≤ 65533 }
-    ensures serves { Serves P.me hello.now (L.state links.old) (L.state links.new) (T.state tapes.old) (T.state tapes.new) miner result
-        (λ s. s.miner) (λ s. s.ending) }
+    ensures serves { Serves P.me hello.now (L.state links.old) (L.state links.new) (T.state tapes.old) (T.state tapes.new) (held miner) result
+        (λ s. held s.miner) (λ s. s.ending) }
     ensures later { IsLater (L.state links.old) (L.state links.new) }
 {
     match links.connect(P::number().as_u8(), port) {

@@ -1,8 +1,10 @@
 // One miner's part of a run.
 ghost use Rattle.std.specs.Prelude.{◌≡◌, ◌≤◌, IfOk};
 ghost use Rattle.input_share.specs.Reading.{AreWritable};
-ghost use Rattle.made_miner.specs.Made.{IsMadeOf, hello_of, undealt};
+ghost use Rattle.node_run.specs.Made.{IsMadeOf, hello_of, undealt};
+ghost use Rattle.miner_core.specs.declared.kept.Kept.TheVariants as kept;
 ghost use Rattle.miner_core.specs.Drawing.{Draws};
+ghost use Rattle.miner_core.specs.Miners.{held};
 ghost use Rattle.miner_core.specs.Streams.{ForEachTape};
 ghost use Rattle.miner_node.specs.Faults.{IsLater};
 ghost use Rattle.node_run.specs.Nodes.{HasTold, RunsFrom, unbegun};
@@ -10,10 +12,10 @@ ghost use Rattle.node_run.specs.Views.{own_seen};
 
 use crate::joining::serve_joined;
 use crate::text::{end_of, text_of};
+use crate::{Made, hello, miner};
 use input_share::ShareFile;
-use made_miner::{Made, hello, miner};
-use miner_core::{Lost, StreamMiner};
-use miner_node::{NodeErr, ServeErr, ServedStream};
+use miner_core::{Lost, Miner};
+use miner_node::{NodeErr, ServeErr, Served};
 use outside::{Links, TapeSource};
 use proto_core::Party;
 use sc_text::{End, Ending};
@@ -39,7 +41,7 @@ pub struct NodeText {
 // A miner that has not joined its peers, with its hello.
 struct Begun<P: Party> {
     hello: Hello,
-    miner: StreamMiner<P>,
+    miner: Miner<P>,
     undealt: Option<Ending>,
 }
 
@@ -51,7 +53,8 @@ fn begin<P: Party, T: TapeSource>(
 ) -> Result<Begun<P>, Lost>
     requires { AreWritable own.share.entries }
     ensures hello { IfOk result (λ begun. begun.hello ≡ hello_of P.me own.digest own.share own.budget) }
-    ensures miner { IfOk result (λ begun. IsMadeOf P.me own.code own.share own.budget (T.state tapes.old) (T.state tapes.new) begun.miner) }
+    ensures miner { IfOk result (λ begun. IsMadeOf P.me own.code own.share own.budget (T.state tapes.old) (T.state tapes.new) (held begun.miner)) }
+    ensures past { IfOk result (λ begun. begun.miner.past ≡ kept.All) }
     ensures undealt { IfOk result (λ begun. begun.undealt ≡ undealt own.share) }
     ensures draws { Draws P.me (T.state tapes.old) (T.state tapes.new) result }
 {
@@ -84,11 +87,12 @@ fn unbegun(lost: Lost) -> ServeErr
 fn text_served<P: Party>(
     alloc: Global,
     undealt: Option<Ending>,
-    served: ServedStream<P>,
+    served: Served<P>,
 ) -> Result<NodeText, AllocError>
-    ensures { IfOk result (λ told. ForEachTape served.miner (λ s. HasTold P.me undealt s served.ending told)) }
+    requires { served.miner.past ≡ kept.All }
+    ensures { IfOk result (λ told. ForEachTape (held served.miner) (λ s. HasTold P.me undealt s served.ending told)) }
 {
-    let ServedStream { miner, ending } = served;
+    let Served { miner, ending } = served;
     let end = end_of(undealt, &miner, ending);
     let text = text_of(alloc, &miner, end)?;
     Ok(NodeText { text, end })

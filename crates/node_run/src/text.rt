@@ -1,24 +1,20 @@
 // How a miner's part of a run has ended, and its text.
 ghost use Rattle.std.specs.Prelude.{◌≡◌, None, IfOk, IfSome, IfNone};
+ghost use Rattle.miner_core.specs.Miners.{ForEachStory};
 ghost use Rattle.miner_core.specs.Story.{cost_in, node};
-ghost use Rattle.miner_core.specs.Streams.{ForEachTape};
 ghost use Rattle.node_run.specs.Nodes.{node_text};
 
 use crate::telling::told_text;
-use miner_core::StreamMiner;
+use miner_core::Miner;
 use proto_core::Party;
 use sc_text::{End, Ending};
 use std::alloc::{AllocError, Global};
 
 /// How the run has ended: before it began, or as the miner's run.
-pub(crate) fn end_of<P: Party>(
-    undealt: Option<Ending>,
-    miner: &StreamMiner<P>,
-    ending: Ending,
-) -> End
+pub(crate) fn end_of<P: Party>(undealt: Option<Ending>, miner: &Miner<P>, ending: Ending) -> End
     ensures undealt { IfSome undealt (λ how. result ≡ record { how = how; cost = 0 }) }
     ensures ended { IfNone undealt (result.how ≡ ending) }
-    ensures cost { IfNone undealt (ForEachTape miner.now (λ s. result.cost ≡ cost_in P.me s)) }
+    ensures cost { IfNone undealt (ForEachStory P.me miner.now (λ s. result.cost ≡ cost_in P.me s)) }
 {
     match undealt {
         Some(how) => End { how, cost: 0 },
@@ -32,10 +28,10 @@ pub(crate) fn end_of<P: Party>(
 /// The text of a miner whose run has ended so.
 pub(crate) fn text_of<P: Party>(
     alloc: Global,
-    miner: &StreamMiner<P>,
+    miner: &Miner<P>,
     end: End,
 ) -> Result<Vec<u8>, AllocError>
-    ensures { IfOk result (λ text. ForEachTape miner.now (λ s. text.items ≡ node_text (node P.me s).acts end)) }
+    ensures { IfOk result (λ text. ForEachStory P.me miner.now (λ s. text.items ≡ node_text (node P.me s).acts end)) }
 {
     told_text(alloc, miner.notices(), end)
 }

@@ -1,7 +1,7 @@
 -- The protocol that opens a value: the three miners share it anew, each sends its new share to both others, and each
 -- adds up all three.
 use Rattle.std.specs.Prelude.{◌≡◌, ℕ, if◌then◌else◌, List, [], ◌∷◌}
-use Rattle.share_ring.specs.Ring.{Ring}
+use Rattle.proto_core.specs.Ring.{Ring}
 use Rattle.proto_core.specs.declared.party.Number.{Number}
 use Rattle.proto_core.specs.declared.party.Number.TheVariants.{One, Two, Three}
 use Rattle.proto_core.specs.Parties.{next_of, previous_of, to_next, to_previous, from_previous, from_next, sender_of, is_forward, is_same}

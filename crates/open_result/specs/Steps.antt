@@ -1,7 +1,7 @@
 -- What a miner that opens holds, and what each of its steps gives. A state is the miner's share and its mask; once the
 -- previous miner's mask came, its new share, and the previous miner's once that came.
 use Rattle.std.specs.Prelude.{◌≡◌, ℕ, List, length}
-use Rattle.share_ring.specs.Ring.{Ring}
+use Rattle.proto_core.specs.Ring.{Ring}
 use Rattle.proto_core.specs.declared.party.Number.{Number}
 use Rattle.proto_core.specs.Strand.{Strand}
 use Rattle.proto_core.specs.Resharing.{reshared, sum_of_three}

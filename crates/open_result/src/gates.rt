@@ -4,8 +4,7 @@ ghost use Rattle.reshare.specs.ResharingLaws.{reshare-lawful};
 ghost use Rattle.open_result.specs.Opening.{open_protocol, Opens};
 ghost use Rattle.open_result.specs.OpeningLaws.{open-lawful};
 
-use proto_core::Interactive;
-use share_ring::ShareRing;
+use proto_core::{Interactive, ShareRing};
 use std::marker::PhantomData;
 
 /// The gate that opens a value shared in a ring to the three miners.

@@ -2,9 +2,8 @@ ghost use Rattle.std.specs.Prelude.{◌≡◌, ◌≤◌, ◌↔◌, ℕ, List, 
 ghost use Rattle.proto_core.specs.Refusals.{WrongLength};
 ghost use Rattle.open_result.specs.Steps.{Masks, Keeps, Sums};
 
-use proto_core::{Block, Msg, Party, Refused, sum_of_shares};
+use proto_core::{Block, Msg, Party, Refused, ShareRing, sum_of_shares};
 use reshare::take_mask;
-use share_ring::ShareRing;
 use std::marker::{Model, PhantomData};
 
 /// The previous miner's mask is awaited.

@@ -2,9 +2,8 @@ ghost use Rattle.std.specs.Prelude.{◌≡◌, ◌≤◌, ◌↔◌, length, IfO
 ghost use Rattle.proto_core.specs.Refusals.{WrongLength};
 ghost use Rattle.reshare.specs.Steps.{Reshared};
 
-use proto_core::{Block, Msg, Party, Refused};
+use proto_core::{Block, Msg, Party, Refused, ShareRing};
 use reshare::{Reshare, Sent};
-use share_ring::ShareRing;
 use std::marker::Model;
 
 /// One party's part in handing a block to the client: the miners share it anew, and each hands its new share over.

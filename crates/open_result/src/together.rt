@@ -4,8 +4,7 @@ ghost use Rattle.proto_core.specs.Joints.{joint_of};
 ghost use Rattle.open_result.specs.Parts.{IsPart};
 
 use crate::open::Open;
-use proto_core::{Block, Msg, P1, P2, P3};
-use share_ring::ShareRing;
+use proto_core::{Block, Msg, P1, P2, P3, ShareRing};
 
 /// What one miner sent, in order, and the words that it opened.
 #[derive(Drop)]

@@ -1,7 +1,7 @@
 -- A program that is there is accepted as the crates of code and runs ask, so its code means what it does.
 use Rattle.std.proofs.Common.{ℕ, List}
 use Rattle.outside.specs.Files.{Contents}
-use Rattle.typed_tree.specs.Programs.{TypedProgramTree}
+use Rattle.program_trees.specs.TypedPrograms.{TypedProgramTree}
 use Rattle.well_typed.specs.Sources.{IsWellWritten}
 use Rattle.well_written.proofs.Grammar.{well_written}
 use Rattle.program_commands.proofs.Spelled.{placed_where_spelled}

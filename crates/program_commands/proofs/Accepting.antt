@@ -4,8 +4,8 @@ use Rattle.outside.specs.Files.{Contents}
 use Rattle.command_frame.specs.declared.status.Status.TheVariants as statuses
 use Rattle.command_frame.specs.Answer.{Answer, Cause, missing}
 use Rattle.command_frame.specs.Status.{can_refuse}
-use Rattle.secrec_ast.specs.Programs.{ProgramTree}
-use Rattle.typed_tree.specs.Programs.{TypedProgramTree}
+use Rattle.program_trees.specs.Programs.{ProgramTree}
+use Rattle.program_trees.specs.TypedPrograms.{TypedProgramTree}
 use Rattle.reached_instances.specs.declared.limit_err.LimitErr.{LimitErr}
 use Rattle.program_commands.specs.Judging.{Sized, IsSized, Finding, FoundAt, its_program}
 use Rattle.program_commands.specs.Programs.{program_at, small_enough, too_large, tree_at}

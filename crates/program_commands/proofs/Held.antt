@@ -3,9 +3,9 @@ use Rattle.std.proofs.Common.{◌≡◌, ℕ, List, [], Some, Ok, Err, refl, sub
 use Rattle.outside.specs.Files.{Contents, file_at}
 use Rattle.command_frame.specs.declared.status.Status.{Status}
 use Rattle.command_frame.specs.Answer.{Cause, bytes_at}
-use Rattle.secrec_ast.specs.Programs.{ProgramTree}
+use Rattle.program_trees.specs.Programs.{ProgramTree}
 use Rattle.front_end.specs.Judgement.{Judged, IsJudged}
-use Rattle.typed_tree.specs.Programs.{TypedProgramTree}
+use Rattle.program_trees.specs.TypedPrograms.{TypedProgramTree}
 use Rattle.reached_instances.specs.Instances.{Instance}
 use Rattle.reached_instances.specs.Reached.{IsReachedList}
 use Rattle.program_commands.specs.Judging.{JudgedAt, Finding, FoundAt, its_program}

@@ -20,7 +20,7 @@ use Rattle.secrec_lexer.specs.Signs.{single_sign, longer_sign, keyword}
 use Rattle.secrec_lexer.specs.Pieces.{comment, word_value, number, word, text, longest, sign, first}
 use Rattle.secrec_lexer.specs.Places.{place_at}
 use Rattle.secrec_lexer.specs.Lexis.{Lexes, ended, blank, lexeme, HasTokens}
-use Rattle.program_run.specs.Sources.{IsPlace}
+use Rattle.program_run.specs.WrittenSources.{IsPlace}
 
 -- a string is a name
 abbrev pub IsText : TokenKind → Type 0

@@ -4,7 +4,7 @@ use Rattle.std.proofs.lemmas.List.{length-map}
 use Rattle.outside.specs.Files.{Contents, FilesState}
 use Rattle.command_frame.specs.Answer.{Answer, Effect}
 use Rattle.command_words.specs.Ask.{CompileAsk}
-use Rattle.typed_tree.specs.Programs.{TypedProgramTree}
+use Rattle.program_trees.specs.TypedPrograms.{TypedProgramTree}
 use Rattle.bytecode.specs.Raw.{RawCode}
 use Rattle.program_run.specs.RawCodes.{raw_code_of_program}
 use Rattle.reached_instances.specs.Instances.{Instance}

@@ -7,7 +7,7 @@ use Rattle.command_frame.specs.declared.status.Status.TheVariants as statuses
 use Rattle.command_frame.specs.Answer.{Answer, Cause, bytes_at, missing, ◌>>=◌}
 use Rattle.command_frame.specs.Status.{is_end, can_refuse}
 use Rattle.command_words.specs.Ask.{Order, Source, file, in_turn, scheduled, seeded, shuffled}
-use Rattle.secrec_ast.specs.Programs.{ProgramTree}
+use Rattle.program_trees.specs.Programs.{ProgramTree}
 use Rattle.front_end.specs.declared.program_fault.ProgramFault.{ProgramFault}
 use Rattle.front_end.specs.Judgement.{Judged, IsJudged}
 use Rattle.sc_text.specs.declared.end.Ending.{Ending}

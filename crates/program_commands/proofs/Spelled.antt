@@ -6,18 +6,18 @@ use Rattle.secrec_lexer.specs.declared.token.TokenKind.{TokenKind}
 use Rattle.secrec_lexer.specs.declared.token.TokenKind.TheVariants as kinds
 use Rattle.secrec_lexer.specs.declared.token.Token.{Token}
 use Rattle.secrec_lexer.specs.declared.sign.Sign.TheVariants as signs
-use Rattle.secrec_ast.specs.Tree.{Tree, Trees, number, truth, variable, call, index, parentheses, negation, cast, binary, declassify, argument, publish}
-use Rattle.secrec_ast.specs.declared.expression.Operator.{Operator}
-use Rattle.secrec_ast.specs.declared.statement.Identifier.{Identifier}
-use Rattle.secrec_ast.specs.Heights.{place_of}
-use Rattle.secrec_ast.specs.Tree as Tree'
-use Rattle.secrec_ast.specs.Statements.{DeclarationTree, TargetTree, AssignmentTree, StartTree, starts_with_nothing, starts_with_declaration}
-use Rattle.secrec_ast.specs.Statements.{starts_with_assignment, StepTree, steps_by_nothing, steps_by_assignment, steps_by_expression, StatementTree}
-use Rattle.secrec_ast.specs.Statements.{block, empty}
-use Rattle.secrec_ast.specs.Statements.{branch, choice, while_loop, do_loop, for_loop, breaks, continues, returns, assertion, declaration, assignment}
-use Rattle.secrec_ast.specs.Statements.{evaluation, StatementTrees}
-use Rattle.secrec_ast.specs.Statements as Statements'
-use Rattle.secrec_ast.specs.Programs.{FunctionTree, ItemTree, imports, kind, domain, defines, ProgramTree}
+use Rattle.program_trees.specs.Tree.{Tree, Trees, number, truth, variable, call, index, parentheses, negation, cast, binary, declassify, argument, publish}
+use Rattle.program_trees.specs.declared.expression.Operator.{Operator}
+use Rattle.program_trees.specs.declared.statement.Identifier.{Identifier}
+use Rattle.program_trees.specs.Heights.{place_of}
+use Rattle.program_trees.specs.Tree as Tree'
+use Rattle.program_trees.specs.Statements.{DeclarationTree, TargetTree, AssignmentTree, StartTree, starts_with_nothing, starts_with_declaration}
+use Rattle.program_trees.specs.Statements.{starts_with_assignment, StepTree, steps_by_nothing, steps_by_assignment, steps_by_expression, StatementTree}
+use Rattle.program_trees.specs.Statements.{block, empty}
+use Rattle.program_trees.specs.Statements.{branch, choice, while_loop, do_loop, for_loop, breaks, continues, returns, assertion, declaration, assignment}
+use Rattle.program_trees.specs.Statements.{evaluation, StatementTrees}
+use Rattle.program_trees.specs.Statements as Statements'
+use Rattle.program_trees.specs.Programs.{FunctionTree, ItemTree, imports, kind, domain, defines, ProgramTree}
 use Rattle.domain_types.specs.Declarations.{functions_of}
 use Rattle.expression_parser.specs.Phrases.{Phrase, sign_at, sign, one_at, one, ◌then◌}
 use Rattle.expression_parser.specs.Grammar.{IsExpression, AreArguments, AreMore, IsDataType, loosest, unary, level, sign_of}
@@ -25,8 +25,8 @@ use Rattle.secrec_parser.specs.Sugar.{held_in, updated}
 use Rattle.secrec_parser.specs.Grammar.{identifier, parenthesised, optional, AreAll, BeginsAt, IsType, initialiser, IsDeclaration, bracketed}
 use Rattle.secrec_parser.specs.Grammar.{IsTarget, compound, IsAssigned, IsAssignment, IsStart, IsStep, heading, IsStatement, AreStatements, IsTemplate}
 use Rattle.secrec_parser.specs.Grammar.{IsResult, AreParameters, IsBlock, IsFunction, IsItem}
-use Rattle.program_run.specs.Sources.{IsPlace, IsPlaced, ArePlaced, IsPlacedIf, DeclaresPlaced, AssignsPlaced, StartsPlaced, StepsPlaced, StandsPlaced}
-use Rattle.program_run.specs.Sources.{StandPlaced, AreAllPlaced}
+use Rattle.program_run.specs.WrittenSources.{IsPlace, IsPlaced, ArePlaced, IsPlacedIf, DeclaresPlaced, AssignsPlaced, StartsPlaced, StepsPlaced, StandsPlaced}
+use Rattle.program_run.specs.WrittenSources.{StandPlaced, AreAllPlaced}
 use Rattle.program_commands.specs.PlacedText.{IsPlacedWhereSpelled}
 use Rattle.program_commands.proofs.Lexed.{AreSaid, said_parts, said_lexed}
 

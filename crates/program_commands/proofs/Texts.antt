@@ -4,7 +4,7 @@ use Rattle.outside.specs.Files.{Contents}
 use Rattle.command_frame.specs.declared.status.Status.TheVariants as statuses
 use Rattle.command_frame.specs.Answer.{Answer, Effect, ◌>>=◌}
 use Rattle.command_frame.specs.Status.{can_refuse}
-use Rattle.typed_tree.specs.Programs.{TypedProgramTree}
+use Rattle.program_trees.specs.TypedPrograms.{TypedProgramTree}
 use Rattle.program_commands.specs.Held.{ProgramRefused}
 use Rattle.program_commands.specs.Judging.{Finding, FoundAt, its_program}
 use Rattle.program_commands.specs.Programs.{program_at}

@@ -12,7 +12,7 @@ use Rattle.language_model.specs.Effects.{World}
 use Rattle.language_model.specs.Reports.{evaluated}
 use Rattle.program_run.specs.RawCodes.{raw_code_of_program}
 use Rattle.reached_instances.specs.Instances.{Instance}
-use Rattle.typed_tree.specs.Programs.{TypedProgramTree}
+use Rattle.program_trees.specs.TypedPrograms.{TypedProgramTree}
 use Rattle.verified_code.specs.Settled.{settled}
 use Rattle.verified_code.specs.Verified.{IsVerified}
 use Rattle.program_commands.specs.Judging.{Finding}

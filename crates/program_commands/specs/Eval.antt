@@ -8,7 +8,7 @@ use Rattle.sc_text.specs.declared.elements.Element.{Element}
 use Rattle.sc_text.specs.declared.elements.Element.TheVariants.{Word}
 use Rattle.sc_text.specs.Elements.{elements_text}
 use Rattle.sc_text.specs.Event.{run_text}
-use Rattle.typed_tree.specs.Programs.{TypedProgramTree}
+use Rattle.program_trees.specs.TypedPrograms.{TypedProgramTree}
 use Rattle.value_file.specs.declared.inputs.Entry.{Entry}
 use Rattle.language_model.specs.Effects.{RunStop, Ended, Short}
 use Rattle.language_model.specs.Reports.{Report, eval}

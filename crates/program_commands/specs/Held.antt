@@ -1,13 +1,13 @@
 -- Files that can be checked, compiled, evaluated and dealt, and files that are refused.
 use Rattle.std.specs.Prelude.{◌≡◌, ◌⊎◌, ◌<◌, ℕ, List, length, Option, Some, Ok, Err}
 use Rattle.outside.specs.Files.{Contents, file_at}
-use Rattle.secrec_ast.specs.Programs.{ProgramTree}
+use Rattle.program_trees.specs.Programs.{ProgramTree}
 use Rattle.front_end.specs.declared.program_fault.ProgramFault.{ProgramFault}
 use Rattle.front_end.specs.Judgement.{IsProgramText, IsRefusedText}
 use Rattle.command_frame.specs.declared.status.Status.{Status}
 use Rattle.command_frame.specs.declared.status.Status.TheVariants.{Input, Program, Tape, TapeFile}
 use Rattle.command_words.specs.Ask.{Ask, EvalAsk, DealAsk, eval, need}
-use Rattle.typed_tree.specs.Programs.{TypedProgramTree}
+use Rattle.program_trees.specs.TypedPrograms.{TypedProgramTree}
 use Rattle.input_share.specs.Dealing.{need_of}
 use Rattle.name_resolution.specs.Functions.{typed_of}
 use Rattle.reached_instances.specs.declared.limit_err.LimitErr.{LimitErr}

@@ -1,7 +1,7 @@
 -- What the program that a command reads is: its judgement, and when there is one.
 use Rattle.std.specs.Prelude.{◌≡◌, ℕ, List, true, Some, Result, Ok, Err}
-use Rattle.secrec_ast.specs.Programs.{ProgramTree}
-use Rattle.typed_tree.specs.Programs.{TypedProgramTree}
+use Rattle.program_trees.specs.Programs.{ProgramTree}
+use Rattle.program_trees.specs.TypedPrograms.{TypedProgramTree}
 use Rattle.name_resolution.specs.Functions.{typed_of}
 use Rattle.reached_instances.specs.declared.limit_err.LimitErr.{LimitErr}
 use Rattle.reached_instances.specs.Limits.{IsVerdict, IsWithinLimits}

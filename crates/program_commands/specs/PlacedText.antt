@@ -2,9 +2,9 @@
 use Rattle.std.specs.Prelude.{ℕ, List}
 use Rattle.secrec_lexer.specs.declared.token.Token.{Token}
 use Rattle.secrec_lexer.specs.Lexis.{HasTokens}
-use Rattle.secrec_ast.specs.Programs.{ProgramTree}
+use Rattle.program_trees.specs.Programs.{ProgramTree}
 use Rattle.secrec_parser.specs.Grammar.{IsProgram}
-use Rattle.program_run.specs.Sources.{IsPlacedProgram}
+use Rattle.program_run.specs.WrittenSources.{IsPlacedProgram}
 
 -- its lines have 32 bits, since no text is longer than 2^20 bytes, and its inputs and results have names
 abbrev pub IsPlacedWhereSpelled : List ℕ → ProgramTree → Type 0

@@ -3,12 +3,12 @@ use Rattle.std.specs.Prelude.{ℕ, List, Result, Ok, Err}
 use Rattle.outside.specs.Files.{Contents}
 use Rattle.sc_text.specs.declared.fault.Fault.TheVariants as faults
 use Rattle.sc_text.specs.Fault.{fault_line}
-use Rattle.secrec_ast.specs.Programs.{ProgramTree}
+use Rattle.program_trees.specs.Programs.{ProgramTree}
 use Rattle.front_end.specs.declared.program_fault.ProgramFault.{ProgramFault}
 use Rattle.front_end.specs.Judgement.{Judged}
 use Rattle.command_frame.specs.declared.status.Status.TheVariants.{Program}
 use Rattle.command_frame.specs.Answer.{Cause, ◌>>=◌, bytes_at}
-use Rattle.typed_tree.specs.Programs.{TypedProgramTree}
+use Rattle.program_trees.specs.TypedPrograms.{TypedProgramTree}
 use Rattle.reached_instances.specs.declared.limit_err.LimitErr.{LimitErr}
 use Rattle.reached_instances.specs.LimitRefusals.{fault_said}
 use Rattle.program_commands.specs.Judging.{Finding, Sized}

@@ -1,11 +1,11 @@
 // Programs, by their texts and by paths.
 ghost use Rattle.std.specs.Prelude.{◌≡◌, ◌∷◌, [], true, IfOk, IfErr};
-ghost use Rattle.secrec_ast.specs.Programs.{program_tree};
+ghost use Rattle.program_trees.specs.Programs.{program_tree};
 ghost use Rattle.domain_types.specs.ProgramTypes as types;
-ghost use Rattle.typed_tree.specs.Programs.{typed_program_tree};
-ghost use Rattle.typed_tree.specs.Sound.{IsSound};
+ghost use Rattle.program_trees.specs.TypedPrograms.{typed_program_tree};
+ghost use Rattle.program_trees.specs.Sound.{IsSound};
 ghost use Rattle.well_typed.specs.Sources.{IsWellWritten};
-ghost use Rattle.program_run.specs.Sources.{IsPlacedProgram};
+ghost use Rattle.program_run.specs.WrittenSources.{IsPlacedProgram};
 ghost use Rattle.program_run.specs.Accepted.{IsAccepted};
 ghost use Rattle.front_end.specs.Judgement.{Judged, IsJudged};
 ghost use Rattle.command_frame.specs.Reads.{OnlyRead, Gives, StopNames, StopsReading};
@@ -18,11 +18,10 @@ use crate::readers::refusal_of;
 use command_frame::{Status, Stop, read_file};
 use front_end::{ProgramErr, ProgramFault, read_program};
 use outside::Files;
+use program_trees::{Program, TypedProgram};
 use program_typing::checked_tree;
 use reached_instances::{LimitErr, check_limits};
-use secrec_ast::Program;
 use std::alloc::Global;
-use typed_tree::TypedProgram;
 
 // Why a program is refused.
 #[tactic(auto, unfolding(crate::specs::Programs::bad_program))]

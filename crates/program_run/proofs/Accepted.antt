@@ -1,5 +1,5 @@
 -- Accepted programs that can be run are accepted as the crates of views take them.
-use Rattle.typed_tree.specs.Programs.{TypedProgramTree}
+use Rattle.program_trees.specs.TypedPrograms.{TypedProgramTree}
 use Rattle.code_inputs.specs.Accepted.{IsAcceptedProgram}
 use Rattle.program_run.specs.Accepted.{IsAccepted}
 

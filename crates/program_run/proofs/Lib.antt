@@ -2,4 +2,4 @@ pub mod Accepted
 pub mod Offering
 pub mod Shared
 pub mod Told
-pub use Rattle.writable_code.proofs.Verified
+pub use Rattle.written_code.proofs.Verified

@@ -11,7 +11,7 @@ use Rattle.value_file.specs.declared.value.Value.TheVariants.{Number, Truth, Num
 use Rattle.value_file.specs.Values.{count_of, type_of}
 use Rattle.input_share.specs.Dealing.{draws_for, draws_of, need_of}
 use Rattle.input_share.specs.Values.{bit_word, elements_of}
-use Rattle.typed_tree.specs.Shapes.{shape_of}
+use Rattle.program_trees.specs.Shapes.{shape_of}
 use Rattle.language_model.specs.Effects.{Clear}
 use Rattle.language_model.specs.Evaluation.{either}
 use Rattle.language_model.specs.Reports.{words_dealt, dealing, world_of}

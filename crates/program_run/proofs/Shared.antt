@@ -3,8 +3,8 @@ use Rattle.std.proofs.Common.{◌≡◌, ◌≤◌, ℕ, List, []}
 use Rattle.std.proofs.Common.{length, true, refl, sym, ◌∙◌, ap, subst, arith}
 use Rattle.std.specs.Prelude.{slice_get, nat_le}
 use Rattle.std.proofs.lemmas.Bool.Decides.{nat_tests}
-use Rattle.secrec_ast.specs.Programs.{ProgramTree}
-use Rattle.typed_tree.specs.Programs.{TypedProgramTree}
+use Rattle.program_trees.specs.Programs.{ProgramTree}
+use Rattle.program_trees.specs.TypedPrograms.{TypedProgramTree}
 use Rattle.reached_instances.specs.Instances.{Instance}
 use Rattle.proto_core.specs.declared.party.Number.{Number}
 use Rattle.proto_core.specs.declared.party.Number.TheVariants.{One, Two, Three}
@@ -20,11 +20,11 @@ use Rattle.verified_code.specs.Steps.{Function}
 use Rattle.lowering.specs.Meaning.{mean}
 use Rattle.verified_code.proofs.Sound.{verified_is_sound}
 use Rattle.lowering.proofs.Settled.{sound_forward}
-use Rattle.writable_code.proofs.Reaching.{accepted_well_typed}
-use Rattle.writable_code.specs.RawCodes.{raw_code_of_program}
-use Rattle.writable_code.proofs.Limits.{within_small}
-use Rattle.writable_code.proofs.RegistersOfPrograms.{small_numbered}
-use Rattle.writable_code.proofs.Verified.{code_right, well_typed_verified, accepted_runs}
+use Rattle.written_code.proofs.Reaching.{accepted_well_typed}
+use Rattle.written_code.specs.RawCodes.{raw_code_of_program}
+use Rattle.written_code.proofs.Limits.{within_small}
+use Rattle.written_code.proofs.RegistersOfPrograms.{small_numbered}
+use Rattle.written_code.proofs.Verified.{code_right, well_typed_verified, accepted_runs}
 use Rattle.code_runs.specs.Dealt.{Dealt, drawn_by}
 use Rattle.code_inputs.specs.TapeMaps.{miners_of}
 use Rattle.code_inputs.specs.Inputs.{AreSound, Suffice, dealt_of}

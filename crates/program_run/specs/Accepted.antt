@@ -1,10 +1,10 @@
 -- The typed tree of an accepted program that is small enough to be run.
 use Rattle.std.specs.Prelude.{◌≡◌, Some}
-use Rattle.secrec_ast.specs.Programs.{ProgramTree}
+use Rattle.program_trees.specs.Programs.{ProgramTree}
 use Rattle.domain_types.specs.ProgramTypes as types
 use Rattle.code_inputs.specs.Sources.{IsWellWritten}
-use Rattle.writable_code.specs.Sources.{IsPlacedProgram}
-use Rattle.typed_tree.specs.Programs.{TypedProgramTree}
+use Rattle.written_code.specs.WrittenSources.{IsPlacedProgram}
+use Rattle.program_trees.specs.TypedPrograms.{TypedProgramTree}
 use Rattle.name_resolution.specs.Functions.{typed_of}
 use Rattle.reached_instances.specs.Limits.{IsWithinLimits}
 

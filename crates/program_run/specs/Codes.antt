@@ -1,10 +1,10 @@
 -- The code of a program, and code that three miners may run.
 use Rattle.std.specs.Prelude.{◌≡◌, ℕ, List}
 use Rattle.bytecode.specs.Raw.{RawCode}
-use Rattle.writable_code.specs.RawCodes.{raw_code_of_program}
+use Rattle.written_code.specs.RawCodes.{raw_code_of_program}
 use Rattle.reached_instances.specs.Instances.{Instance}
 use Rattle.reached_instances.specs.Reached.{IsReachedList}
-use Rattle.typed_tree.specs.Programs.{TypedProgramTree}
+use Rattle.program_trees.specs.TypedPrograms.{TypedProgramTree}
 use Rattle.language_model.specs.Reports.{Report}
 use Rattle.value_file.specs.declared.inputs.Entry.{Entry}
 use Rattle.tape_file.specs.Tapes.{FourTapes}

@@ -5,8 +5,8 @@ pub mod Miners
 pub mod Reports
 pub use Rattle.code_inputs.specs.Inputs
 pub use Rattle.code_inputs.specs.Laws
-pub use Rattle.writable_code.specs.RawCodes
+pub use Rattle.written_code.specs.RawCodes
 pub use Rattle.code_runs.specs.Telling
 pub use Rattle.clear_eval.specs.Offers
 pub use Rattle.lowering.specs.Meaning
-pub use Rattle.writable_code.specs.Sources
+pub use Rattle.written_code.specs.WrittenSources

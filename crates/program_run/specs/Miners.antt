@@ -2,12 +2,12 @@
 use Rattle.std.specs.Prelude.{ℕ, List}
 use Rattle.tape_file.specs.Tapes.{FourTapes}
 use Rattle.value_file.specs.declared.inputs.Entry.{Entry}
-use Rattle.typed_tree.specs.Programs.{TypedProgramTree}
+use Rattle.program_trees.specs.TypedPrograms.{TypedProgramTree}
 use Rattle.reached_instances.specs.Instances.{Instance}
 use Rattle.reached_instances.specs.Reached.{IsReachedList}
 use Rattle.clear_eval.specs.Offers.{offered}
 use Rattle.verified_code.specs.Settled.{settled}
-use Rattle.writable_code.specs.RawCodes.{raw_code_of_program}
+use Rattle.written_code.specs.RawCodes.{raw_code_of_program}
 use Rattle.code_inputs.specs.TapeMaps.{miners_of}
 use Rattle.code_inputs.specs.Inputs.{dealt_of}
 use Rattle.code_runs.specs.Runs.{RunAsReported}

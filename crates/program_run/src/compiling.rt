@@ -1,13 +1,13 @@
 // The code of a program.
 ghost use Rattle.std.specs.Prelude.{IfOk};
-ghost use Rattle.typed_tree.specs.Programs.{typed_program_tree};
+ghost use Rattle.program_trees.specs.TypedPrograms.{typed_program_tree};
 ghost use Rattle.program_run.specs.Accepted.{IsAccepted};
 ghost use Rattle.program_run.specs.Codes.{IsCodeOf};
 
 use lowering::{LowerErr, lower};
+use program_trees::TypedProgram;
 use reached_instances::reached_instances;
 use std::alloc::{AllocError, Global};
-use typed_tree::TypedProgram;
 use verified_code::{Verified, verify};
 
 /// The code of a program, verified: a function for each instance that `main` reaches, in their order.

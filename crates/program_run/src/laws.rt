@@ -2,7 +2,7 @@
 ghost use Rattle.std.specs.Prelude.{ℕ, List};
 ghost use Rattle.tape_file.specs.Tapes.{FourTapes};
 ghost use Rattle.value_file.specs.declared.inputs.Entry.{Entry};
-ghost use Rattle.typed_tree.specs.Programs.{TypedProgramTree};
+ghost use Rattle.program_trees.specs.TypedPrograms.{TypedProgramTree};
 ghost use Rattle.program_run.specs.Miners.{RunsWhereAccepted};
 
 /// Law: three miners, each with its shares of a file's inputs and its tape alone, run the code of an accepted program as its evaluation

@@ -2,9 +2,9 @@
 use Rattle.std.proofs.Common.{◌≡◌, ℕ, ◌⊎◌, inl, inr, List, [], ◌∷◌, ◌++◌, subst}
 use Rattle.std.proofs.lemmas.List.{append_assoc}
 use Rattle.sc_text.specs.Lists.{Among}
-use Rattle.secrec_ast.specs.Statements.{StatementTree, block, empty, branch, choice, while_loop, do_loop, for_loop, breaks, continues, returns}
-use Rattle.secrec_ast.specs.Statements.{assertion, declaration, assignment, evaluation, StatementTrees}
-use Rattle.secrec_ast.specs.Statements as Statements'
+use Rattle.program_trees.specs.Statements.{StatementTree, block, empty, branch, choice, while_loop, do_loop, for_loop, breaks, continues, returns}
+use Rattle.program_trees.specs.Statements.{assertion, declaration, assignment, evaluation, StatementTrees}
+use Rattle.program_trees.specs.Statements as Statements'
 use Rattle.program_typing.proofs.TreesOfValues.{names_in}
 use Rattle.program_typing.proofs.TreesOfStatements.{names_in_optional, names_in_declaration, names_in_assignment, names_in_start, names_in_step}
 use Rattle.program_typing.proofs.TreesOfStatements.{names_by, names_by_all}

@@ -4,8 +4,8 @@ use Rattle.std.proofs.Common.{cond, is_some}
 use Rattle.std.specs.Prelude.{codes, bytes_eq, option_map, ◌&&◌, ◌||◌}
 use Rattle.std.specs.List.{slice_get}
 use Rattle.std.proofs.lemmas.Bool.{and_parts}
-use Rattle.secrec_ast.specs.declared.function.DomainVariable.{DomainVariable}
-use Rattle.secrec_ast.specs.Programs.{FunctionTree, ItemTree, imports, kind, domain, defines, ProgramTree}
+use Rattle.program_trees.specs.declared.function.DomainVariable.{DomainVariable}
+use Rattle.program_trees.specs.Programs.{FunctionTree, ItemTree, imports, kind, domain, defines, ProgramTree}
 use Rattle.domain_types.specs.declared.value_type.Protection.{Protection}
 use Rattle.domain_types.specs.Declarations.{Declared, declared_by, functions_of, number_in, defined, built_in_named, function_named, callee_or_function, callee}
 use Rattle.domain_types.specs.Scopes.{nothing_known}
@@ -18,7 +18,7 @@ use Rattle.domain_types.specs.Types.{is_without}
 use Rattle.domain_types.specs.ProgramTypes.{is_one_of, is_void, is_main, has_main}
 use Rattle.domain_types.specs.Typing.{AreItems, IsTypedProgram}
 use Rattle.domain_types.proofs.Names.{behind, number_in-append}
-use Rattle.typed_tree.specs.Programs.{TypedFunctionTree}
+use Rattle.program_trees.specs.TypedPrograms.{TypedFunctionTree}
 use Rattle.name_resolution.specs.Order.{reached}
 use Rattle.name_resolution.specs.Values.{of_both, and_more}
 use Rattle.name_resolution.specs.Functions.{typed_function, typed_functions, with_functions, program_of}

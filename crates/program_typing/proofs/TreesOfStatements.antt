@@ -1,20 +1,20 @@
 -- A statement that is typed has a typed tree: a step from a place where the same variables are known to another such place.
 use Rattle.std.proofs.Common.{◌≡◌, ℕ, List, [], ◌∷◌, ◌++◌, ◌⊎◌, inl, inr, length, refl, ap, ◌∙◌, Option, Some, None, true}
 use Rattle.std.specs.Prelude.{option_map, IsTrue}
-use Rattle.secrec_ast.specs.declared.expression.DataType.{DataType}
-use Rattle.secrec_ast.specs.declared.expression.DataType.TheVariants.{Uint64}
-use Rattle.secrec_ast.specs.declared.expression.DataType.TheVariants as datatype
-use Rattle.secrec_ast.specs.declared.statement.Identifier.{Identifier}
-use Rattle.secrec_ast.specs.declared.statement.DeclaredType.{DeclaredType}
-use Rattle.secrec_ast.specs.declared.function.DomainVariable.{DomainVariable}
-use Rattle.secrec_ast.specs.declared.function.ResultType.{ResultType}
-use Rattle.secrec_ast.specs.declared.function.ResultType.TheVariants as result
-use Rattle.secrec_ast.specs.Tree.{Tree, number, truth, variable, call, index, parentheses, negation, cast, binary, declassify, argument, publish}
-use Rattle.secrec_ast.specs.Statements.{DeclarationTree, TargetTree, AssignmentTree, StartTree, starts_with_nothing, starts_with_declaration}
-use Rattle.secrec_ast.specs.Statements.{starts_with_assignment, StepTree, steps_by_nothing, steps_by_assignment, steps_by_expression, StatementTree}
-use Rattle.secrec_ast.specs.Statements.{block, empty, branch, choice, while_loop, do_loop, for_loop, breaks, continues, returns, assertion}
-use Rattle.secrec_ast.specs.Statements.{declaration, assignment, evaluation, StatementTrees}
-use Rattle.secrec_ast.specs.Statements as Statements'
+use Rattle.program_trees.specs.declared.expression.DataType.{DataType}
+use Rattle.program_trees.specs.declared.expression.DataType.TheVariants.{Uint64}
+use Rattle.program_trees.specs.declared.expression.DataType.TheVariants as datatype
+use Rattle.program_trees.specs.declared.statement.Identifier.{Identifier}
+use Rattle.program_trees.specs.declared.statement.DeclaredType.{DeclaredType}
+use Rattle.program_trees.specs.declared.function.DomainVariable.{DomainVariable}
+use Rattle.program_trees.specs.declared.function.ResultType.{ResultType}
+use Rattle.program_trees.specs.declared.function.ResultType.TheVariants as result
+use Rattle.program_trees.specs.Tree.{Tree, number, truth, variable, call, index, parentheses, negation, cast, binary, declassify, argument, publish}
+use Rattle.program_trees.specs.Statements.{DeclarationTree, TargetTree, AssignmentTree, StartTree, starts_with_nothing, starts_with_declaration}
+use Rattle.program_trees.specs.Statements.{starts_with_assignment, StepTree, steps_by_nothing, steps_by_assignment, steps_by_expression, StatementTree}
+use Rattle.program_trees.specs.Statements.{block, empty, branch, choice, while_loop, do_loop, for_loop, breaks, continues, returns, assertion}
+use Rattle.program_trees.specs.Statements.{declaration, assignment, evaluation, StatementTrees}
+use Rattle.program_trees.specs.Statements as Statements'
 use Rattle.domain_types.specs.declared.value_type.ValueType.{ValueType}
 use Rattle.domain_types.specs.declared.value_type.ExpressionType.{ExpressionType}
 use Rattle.domain_types.specs.declared.value_type.ExpressionType.TheVariants.{Value}
@@ -26,11 +26,11 @@ use Rattle.domain_types.specs.ExpressionTypes.{cast_type, declassified}
 use Rattle.domain_types.specs.StatementTypes.{is_argument, variable_declared, after, after_all, after_start}
 use Rattle.domain_types.specs.Typing.{HasType, HasFitting, HasPublicScalar, IsInitial, IsDeclaration, IsElement, IsAssignment, IsStart, IsStep}
 use Rattle.domain_types.specs.Typing.{IsOptionalCondition, IsReturn, IsTyped, AreTyped}
-use Rattle.typed_tree.specs.declared.kinds.Slot.{Slot}
-use Rattle.typed_tree.specs.Tree.{TypedTree, truth_node}
-use Rattle.typed_tree.specs.Statements.{TypedStatementTree, none, also, empty_statement, block_statement, if_statement, loop_statement, do_statement}
-use Rattle.typed_tree.specs.Statements.{break_statement, continue_statement, return_statement, assert_statement, store_statement, default_statement}
-use Rattle.typed_tree.specs.Statements.{fill_statement, input_statement, element_statement, publish_statement, evaluate_statement}
+use Rattle.program_trees.specs.declared.kinds.Slot.{Slot}
+use Rattle.program_trees.specs.TypedTree.{TypedTree, truth_node}
+use Rattle.program_trees.specs.TypedStatements.{TypedStatementTree, none, also, empty_statement, block_statement, if_statement, loop_statement, do_statement}
+use Rattle.program_trees.specs.TypedStatements.{break_statement, continue_statement, return_statement, assert_statement, store_statement, default_statement}
+use Rattle.program_trees.specs.TypedStatements.{fill_statement, input_statement, element_statement, publish_statement, evaluate_statement}
 use Rattle.name_resolution.specs.Scopes.{FunctionScope, known_of, declaring, entering, behind_block}
 use Rattle.name_resolution.specs.Functions.{slot_written}
 use Rattle.name_resolution.specs.Values.{TypedCall, tree_of_value}

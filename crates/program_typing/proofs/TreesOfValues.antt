@@ -3,18 +3,18 @@ use Rattle.std.proofs.Common.{◌≡◌, ℕ, List, [], ◌∷◌, ◌++◌, inl
 use Rattle.std.proofs.Common.{eq-eqb, arith}
 use Rattle.std.specs.Prelude.{map, bytes_eq, option_map, option_and_then, ◌||◌}
 use Rattle.sc_text.specs.declared.span.Span.{Span}
-use Rattle.secrec_ast.specs.declared.expression.DataType.{DataType}
-use Rattle.secrec_ast.specs.declared.expression.DataType.TheVariants.{Uint64}
-use Rattle.secrec_ast.specs.declared.expression.DataType.TheVariants as datatype
-use Rattle.secrec_ast.specs.declared.expression.Operator.{Operator}
-use Rattle.secrec_ast.specs.declared.expression.Operator.TheVariants.{Add, Subtract, Multiply, Divide, Remainder, Equal, NotEqual, Less, LessOrEqual}
-use Rattle.secrec_ast.specs.declared.expression.Operator.TheVariants.{Greater, GreaterOrEqual, And, Or, Xor, AndAlso, OrElse}
-use Rattle.secrec_ast.specs.declared.function.Parameter.{Parameter}
-use Rattle.secrec_ast.specs.declared.function.ResultType.{ResultType}
-use Rattle.secrec_ast.specs.declared.function.ResultType.TheVariants as returned
-use Rattle.secrec_ast.specs.Tree.{Tree, Trees, number, truth, variable, call, index, parentheses, negation, cast, binary, declassify, argument, publish}
-use Rattle.secrec_ast.specs.Tree as Tree'
-use Rattle.secrec_ast.specs.Programs.{FunctionTree}
+use Rattle.program_trees.specs.declared.expression.DataType.{DataType}
+use Rattle.program_trees.specs.declared.expression.DataType.TheVariants.{Uint64}
+use Rattle.program_trees.specs.declared.expression.DataType.TheVariants as datatype
+use Rattle.program_trees.specs.declared.expression.Operator.{Operator}
+use Rattle.program_trees.specs.declared.expression.Operator.TheVariants.{Add, Subtract, Multiply, Divide, Remainder, Equal, NotEqual, Less, LessOrEqual}
+use Rattle.program_trees.specs.declared.expression.Operator.TheVariants.{Greater, GreaterOrEqual, And, Or, Xor, AndAlso, OrElse}
+use Rattle.program_trees.specs.declared.function.Parameter.{Parameter}
+use Rattle.program_trees.specs.declared.function.ResultType.{ResultType}
+use Rattle.program_trees.specs.declared.function.ResultType.TheVariants as returned
+use Rattle.program_trees.specs.Tree.{Tree, Trees, number, truth, variable, call, index, parentheses, negation, cast, binary, declassify, argument, publish}
+use Rattle.program_trees.specs.Tree as Tree'
+use Rattle.program_trees.specs.Programs.{FunctionTree}
 use Rattle.domain_types.specs.declared.value_type.Argument.{Argument}
 use Rattle.domain_types.specs.declared.value_type.Protection.{Protection}
 use Rattle.domain_types.specs.declared.value_type.ValueType.{ValueType}
@@ -30,12 +30,12 @@ use Rattle.domain_types.specs.ExpressionTypes.{within, variable_type, result_typ
 use Rattle.sc_text.specs.Lists.{Among}
 use Rattle.domain_types.specs.Typing.{OperatesOn, IsBuiltInCall, ParametersTake, IsCall, HasType, HaveTypes}
 use Rattle.sc_text.proofs.Lists.{among_left, among_right}
-use Rattle.typed_tree.specs.declared.operators.WordOperator.TheVariants as word
-use Rattle.typed_tree.specs.declared.operators.BoolOperator.TheVariants as truth_of
-use Rattle.typed_tree.specs.declared.operators.BinaryOperator.{BinaryOperator}
-use Rattle.typed_tree.specs.declared.operators.BinaryOperator.TheVariants.{Words, Bools}
-use Rattle.typed_tree.specs.Tree.{word_node, truth_node, call_node, size_node, cat_node, sum_node, bits_node, element_node, typed_trees_of}
-use Rattle.typed_tree.specs.Operators.{operator_on, element_made}
+use Rattle.program_trees.specs.declared.operators.WordOperator.TheVariants as word
+use Rattle.program_trees.specs.declared.operators.BoolOperator.TheVariants as truth_of
+use Rattle.program_trees.specs.declared.operators.BinaryOperator.{BinaryOperator}
+use Rattle.program_trees.specs.declared.operators.BinaryOperator.TheVariants.{Words, Bools}
+use Rattle.program_trees.specs.TypedTree.{word_node, truth_node, call_node, size_node, cat_node, sum_node, bits_node, element_node, typed_trees_of}
+use Rattle.program_trees.specs.Operators.{operator_on, element_made}
 use Rattle.name_resolution.specs.Scopes.{Variable, Scope, variable_in, variable_named, shape_written}
 use Rattle.name_resolution.specs.Values.{TypedValue, TypedCall, made, of_both, variable_value, element_value, negated, cast_value, declassified_value}
 use Rattle.name_resolution.specs.Values.{operation_made, operation, gives_value, with_shape, value_given, shape_returned, tree_of_value}

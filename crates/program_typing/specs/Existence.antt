@@ -1,7 +1,7 @@
 -- Which programs have a typed tree.
 use Rattle.std.specs.Prelude.{◌≡◌, Some}
-use Rattle.secrec_ast.specs.Programs.{ProgramTree}
-use Rattle.typed_tree.specs.Programs.{TypedProgramTree}
+use Rattle.program_trees.specs.Programs.{ProgramTree}
+use Rattle.program_trees.specs.TypedPrograms.{TypedProgramTree}
 use Rattle.name_resolution.specs.Functions.{typed_of}
 
 -- each name in it means something, and each operator is one for its operands

@@ -1,5 +1,5 @@
 // What is true of typed trees, whatever the program.
-ghost use Rattle.secrec_ast.specs.Programs.{ProgramTree};
+ghost use Rattle.program_trees.specs.Programs.{ProgramTree};
 ghost use Rattle.domain_types.specs.Typing.{IsTypedProgram};
 ghost use Rattle.program_typing.specs.Existence.{HasTree};
 

@@ -1,17 +1,16 @@
 // The checker, and then the tree.
 ghost use Rattle.std.specs.Prelude.{◌≡◌, Some, IfOk};
-ghost use Rattle.secrec_ast.specs.Programs.{program_tree};
+ghost use Rattle.program_trees.specs.Programs.{program_tree};
 ghost use Rattle.domain_types.specs.ProgramTypes.{IsAccepted};
-ghost use Rattle.typed_tree.specs.Programs.{typed_program_tree};
-ghost use Rattle.typed_tree.specs.Sound.{IsSound};
+ghost use Rattle.program_trees.specs.TypedPrograms.{typed_program_tree};
+ghost use Rattle.program_trees.specs.Sound.{IsSound};
 ghost use Rattle.name_resolution.specs.Functions.{typed_of};
 ghost use Rattle.program_typing.specs.Answer.{IsTypedAnswer};
 
 use domain_types::{TypeErr, check};
 use name_resolution::{ResolveErr, resolve};
-use secrec_ast::Program;
+use program_trees::{Program, TypedProgram};
 use std::alloc::{AllocError, Global};
-use typed_tree::TypedProgram;
 
 /// The typed tree of a program that was checked: the functions that `main` reaches, in the order in which they are first called,
 /// with each slot and each call one that is there. There always is one, so it is missing only where memory runs short.

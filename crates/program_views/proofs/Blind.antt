@@ -3,12 +3,12 @@ use Rattle.std.proofs.Common.{◌≡◌, ℕ, List, [], ◌∷◌, ◌++◌, map
 use Rattle.sc_text.specs.declared.elements.Element.{Element}
 use Rattle.sc_text.specs.declared.end.Ending.{Ending}
 use Rattle.sc_text.specs.declared.event.Event.{Event}
-use Rattle.sc_text.specs.declared.event.Event.TheVariants.{Open, Publish}
+use Rattle.sc_text.specs.declared.event.Event.TheVariants.{Open, Publish, Hand}
 use Rattle.proto_core.specs.declared.party.Number.{Number}
 use Rattle.proto_core.proofs.Beginnings.{append-none}
 use Rattle.value_file.specs.declared.inputs.Entry.{Entry}
 use Rattle.value_file.specs.Public.{part_of}
-use Rattle.typed_tree.specs.Programs.{TypedProgramTree}
+use Rattle.program_trees.specs.TypedPrograms.{TypedProgramTree}
 use Rattle.language_model.specs.Effects.{Answers, GivenInput, RunStop, Ended, Short}
 use Rattle.language_model.specs.Reports.{Report, Offered, world_of, evaluated, public_part}
 use Rattle.blind_evaluation.specs.Courses.{LikeEvents, TakeSameCourse, IsEnded}
@@ -46,8 +46,13 @@ same_openings (e ∷ es) [] h = absurd h
 same_openings (Open elements ∷ es) (Open others ∷ fs) h =
     ap (λ (x : List Element). x ∷ openings es) h.0 ∙ ap (λ xs. others ∷ xs) (same_openings es fs h.1)
 same_openings (Publish text elements ∷ es) (Publish text' others ∷ fs) h = same_openings es fs h.1
+same_openings (Hand text elements ∷ es) (Hand text' others ∷ fs) h = same_openings es fs h.1
 same_openings (Open elements ∷ es) (Publish text others ∷ fs) h = absurd h.0
+same_openings (Open elements ∷ es) (Hand text others ∷ fs) h = absurd h.0
 same_openings (Publish text elements ∷ es) (Open others ∷ fs) h = absurd h.0
+same_openings (Publish text elements ∷ es) (Hand text' others ∷ fs) h = absurd h.0
+same_openings (Hand text elements ∷ es) (Open others ∷ fs) h = absurd h.0
+same_openings (Hand text elements ∷ es) (Publish text' others ∷ fs) h = absurd h.0
 
 module _ (i : Number) (seen : Seen) where
   abbrev shown : Ending → List (List Element) → (cost : ℕ) → Option View

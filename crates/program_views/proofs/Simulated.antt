@@ -7,8 +7,8 @@ use Rattle.protocol_model.specs.Gates.{needed}
 use Rattle.protocol_model.specs.Network.{Delivery}
 use Rattle.gates.specs.Counts.{Miner, Miner1, Miner2, Miner3}
 use Rattle.shared_gates.specs.Model.{miner_of}
-use Rattle.secrec_ast.specs.Programs.{ProgramTree}
-use Rattle.typed_tree.specs.Programs.{TypedProgramTree}
+use Rattle.program_trees.specs.Programs.{ProgramTree}
+use Rattle.program_trees.specs.TypedPrograms.{TypedProgramTree}
 use Rattle.reached_instances.specs.Instances.{Instance}
 use Rattle.value_file.specs.declared.inputs.Entry.{Entry}
 use Rattle.value_file.specs.Public.{part_of}

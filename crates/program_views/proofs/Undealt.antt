@@ -1,7 +1,7 @@
 -- Where dealing ended the run there is nothing but its end.
 use Rattle.std.proofs.Common.{◌≡◌, ℕ, Bool, false, if◌then◌else◌, List, [], length, ap, ◌∙◌}
 use Rattle.std.specs.Prelude.{nat_le}
-use Rattle.typed_tree.specs.Programs.{TypedProgramTree}
+use Rattle.program_trees.specs.TypedPrograms.{TypedProgramTree}
 use Rattle.value_file.specs.declared.inputs.Entry.{Entry}
 use Rattle.tape_file.specs.Tapes.{FourTapes}
 use Rattle.language_model.specs.Effects.{World, Clear, words_each}

@@ -1,6 +1,6 @@
 -- A miner's view of a program's run, and that the simulator makes it.
 use Rattle.std.specs.Prelude.{◌≡◌, ℕ, List, ◌++◌, take, Some}
-use Rattle.typed_tree.specs.Programs.{TypedProgramTree}
+use Rattle.program_trees.specs.TypedPrograms.{TypedProgramTree}
 use Rattle.proto_core.specs.declared.party.Number.{Number}
 use Rattle.protocol_model.specs.Network.{Delivery}
 use Rattle.shared_gates.specs.Model.{miner_of}

@@ -5,7 +5,7 @@ use Rattle.protocol_model.specs.Network.{Delivery}
 use Rattle.value_file.specs.declared.inputs.Entry.{Entry}
 use Rattle.value_file.specs.Public.{part_of}
 use Rattle.tape_file.specs.Tapes.{FourTapes}
-use Rattle.typed_tree.specs.Programs.{TypedProgramTree}
+use Rattle.program_trees.specs.TypedPrograms.{TypedProgramTree}
 use Rattle.view_model.specs.TapeMaps.{miners_of, to_simulated, from_simulated, AreTapes, SameLengths}
 use Rattle.program_views.specs.Views.{lengths_of, run_on, view_of}
 

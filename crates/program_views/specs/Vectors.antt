@@ -4,7 +4,7 @@ use Rattle.sc_text.specs.declared.elements.Element.TheVariants.{Word}
 use Rattle.sc_text.specs.declared.end.Ending.{Ending}
 use Rattle.sc_text.specs.declared.end.Ending.TheVariants.{Done, Tape}
 use Rattle.sc_text.specs.declared.end.TapeOwner.TheVariants as owner
-use Rattle.secrec_ast.specs.declared.expression.DataType.TheVariants.{Uint64}
+use Rattle.program_trees.specs.declared.expression.DataType.TheVariants.{Uint64}
 use Rattle.proto_core.specs.declared.party.Number.{Number}
 use Rattle.proto_core.specs.declared.party.Number.TheVariants.{One, Three}
 use Rattle.proto_core.specs.declared.link.Link.TheVariants.{Link13, Link23}
@@ -14,16 +14,16 @@ use Rattle.protocol_model.specs.Network.{Default, Listed, EmptyLink}
 use Rattle.multiply.specs.Products.{cross}
 use Rattle.value_file.specs.Public.{part_of}
 use Rattle.tape_file.specs.Tapes.{FourTapes}
-use Rattle.typed_tree.specs.declared.kinds.Slot.{Slot}
-use Rattle.typed_tree.specs.declared.kinds.SlotDomain.TheVariants as domain
-use Rattle.typed_tree.specs.declared.function.Returned.TheVariants.{Nothing}
-use Rattle.typed_tree.specs.declared.operators.WordOperator.TheVariants.{Add}
-use Rattle.typed_tree.specs.declared.operators.BinaryOperator.TheVariants.{Words}
-use Rattle.typed_tree.specs.declared.operators.Operands.TheVariants.{Scalars}
-use Rattle.typed_tree.specs.Tree.{slot_node, binary_node, declassify_node}
-use Rattle.typed_tree.specs.Statements.{typed_statements_of, input_statement, publish_statement}
-use Rattle.typed_tree.specs.Programs.{TypedProgramTree}
-use Rattle.typed_tree.specs.Shapes.{shape_of}
+use Rattle.program_trees.specs.declared.kinds.Slot.{Slot}
+use Rattle.program_trees.specs.declared.kinds.SlotDomain.TheVariants as domain
+use Rattle.program_trees.specs.declared.typed_function.Returned.TheVariants.{Nothing}
+use Rattle.program_trees.specs.declared.operators.WordOperator.TheVariants.{Add}
+use Rattle.program_trees.specs.declared.operators.BinaryOperator.TheVariants.{Words}
+use Rattle.program_trees.specs.declared.operators.Operands.TheVariants.{Scalars}
+use Rattle.program_trees.specs.TypedTree.{slot_node, binary_node, declassify_node}
+use Rattle.program_trees.specs.TypedStatements.{typed_statements_of, input_statement, publish_statement}
+use Rattle.program_trees.specs.TypedPrograms.{TypedProgramTree}
+use Rattle.program_trees.specs.Shapes.{shape_of}
 use Rattle.language_model.specs.Evaluation.{value, arguments, turns, repeats, execute, execute_all, call_at}
 use Rattle.view_text.specs.View.{View}
 use Rattle.view_model.specs.TapeMaps.{to_simulated, from_simulated}

@@ -2,7 +2,7 @@
 use Rattle.std.specs.Prelude.{ℕ, ◌+◌, Bool, nat_le, if◌then◌else◌, List, [], ◌∷◌, length, map, Option, Some, None}
 use Rattle.sc_text.specs.declared.elements.Element.{Element}
 use Rattle.sc_text.specs.declared.event.Event.{Event}
-use Rattle.sc_text.specs.declared.event.Event.TheVariants.{Open, Publish}
+use Rattle.sc_text.specs.declared.event.Event.TheVariants.{Open, Publish, Hand}
 use Rattle.proto_core.specs.declared.party.Number.{Number}
 use Rattle.proto_core.specs.Script.{Move}
 use Rattle.protocol_model.specs.Gates.{gates_script}
@@ -15,7 +15,7 @@ use Rattle.input_share.specs.declared.entry.Part.TheVariants as part
 use Rattle.input_share.specs.declared.entry.ShareEntry.{ShareEntry}
 use Rattle.tape_file.specs.Tapes.{FourTapes}
 pub use Rattle.tape_file.specs.Tapes.{lengths_of}
-use Rattle.typed_tree.specs.Programs.{TypedProgramTree}
+use Rattle.program_trees.specs.TypedPrograms.{TypedProgramTree}
 use Rattle.language_model.specs.Effects.{Answers, RunStop, Ended, Short}
 use Rattle.language_model.specs.Reports.{Report, world_of, eval, evaluated}
 use Rattle.clear_eval.specs.Offers.{offered, offered_part}
@@ -53,6 +53,7 @@ abbrev pub openings : List Event → List (List Element)
 openings [] = []
 openings (Open elements ∷ events) = elements ∷ openings events
 openings (Publish text elements ∷ events) = openings events
+openings (Hand text elements ∷ events) = openings events
 
 abbrev pub nothing_seen : Seen
 nothing_seen = record { inputs = []; drew = []; got = [] }

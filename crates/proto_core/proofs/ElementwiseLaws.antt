@@ -1,6 +1,6 @@
 -- Sums and differences element by element: their lengths, and how they are a share masked anew.
 use Rattle.std.proofs.Common.{◌≡◌, ℕ, List, length, sym, ◌∙◌, ap}
-use Rattle.share_ring.specs.Ring.{Ring, RingLaws}
+use Rattle.proto_core.specs.Ring.{Ring, RingLaws}
 use Rattle.proto_core.specs.Lists.{at, AreWords}
 use Rattle.proto_core.specs.Resharing.{reshared}
 use Rattle.proto_core.specs.Elementwise.{plus, minus, zeros}

@@ -1,3 +1,4 @@
+pub mod Sums
 pub mod Each
 pub mod Numbers
 pub mod Edits

@@ -1,7 +1,7 @@
 -- What resharing keeps, in any ring.
 use Rattle.std.proofs.Common.{◌≡◌, ℕ, ◌<◌, List, length, ◌∙◌, ap}
-use Rattle.share_ring.specs.Ring.{Ring, RingLaws}
-use Rattle.share_ring.proofs.Sums.{masks_cancel, sub-sub, left_of_three, add-left_comm}
+use Rattle.proto_core.specs.Ring.{Ring, RingLaws}
+use Rattle.proto_core.proofs.Sums.{masks_cancel, sub-sub, left_of_three, add-left_comm}
 use Rattle.proto_core.specs.Lists.{at, each, AreWords}
 use Rattle.proto_core.proofs.Each.{length-each, at-each, each-ext, each-is, same_words, AreWords-each}
 use Rattle.proto_core.specs.Resharing.{reshared, sum_of_three}

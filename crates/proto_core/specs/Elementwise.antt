@@ -1,6 +1,6 @@
 -- Sums and differences of words in a ring, element by element.
 use Rattle.std.specs.Prelude.{ℕ, List}
-use Rattle.share_ring.specs.Ring.{Ring}
+use Rattle.proto_core.specs.Ring.{Ring}
 use Rattle.proto_core.specs.Lists.{at, each}
 
 unfoldable pub plus : Ring → ℕ → (x y : List ℕ) → List ℕ

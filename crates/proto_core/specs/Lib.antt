@@ -1,3 +1,8 @@
+pub mod Ring
+pub mod Rings
+pub mod RingsKeepLaws
+pub mod RingVectors
+pub mod Words
 pub mod Parties
 pub mod Lists
 pub mod Strand

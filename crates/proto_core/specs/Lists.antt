@@ -1,7 +1,7 @@
 -- Lists of words by index: a protocol's equation gives the word at each index.
 use Rattle.std.specs.Prelude.{ℕ, ◌+◌, ◌*◌, List, map, slice_index}
 use Rattle.std.specs.List.{range_with_len}
-pub use Rattle.share_ring.specs.Words.{AreWords}
+pub use Rattle.proto_core.specs.Words.{AreWords}
 
 -- the word at an index, and 0 past the end
 abbrev pub at : List ℕ → ℕ → ℕ

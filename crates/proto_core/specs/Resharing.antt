@@ -1,6 +1,6 @@
 -- A share masked with words that add up to nothing over the three miners.
 use Rattle.std.specs.Prelude.{ℕ, List}
-use Rattle.share_ring.specs.Ring.{Ring}
+use Rattle.proto_core.specs.Ring.{Ring}
 use Rattle.proto_core.specs.declared.party.Number.{Number}
 use Rattle.proto_core.specs.Parties.{previous_of}
 use Rattle.proto_core.specs.Lists.{at, each}

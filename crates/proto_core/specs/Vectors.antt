@@ -1,6 +1,6 @@
 -- Worked values of the definitions on lists.
 use Rattle.std.specs.Prelude.{◌≡◌, [], ◌∷◌, refl}
-use Rattle.share_ring.specs.Rings.{add_ring, xor_ring}
+use Rattle.proto_core.specs.Rings.{add_ring, xor_ring}
 use Rattle.proto_core.specs.Lists.{each, part}
 use Rattle.proto_core.specs.MessageLists.{messages_of}
 use Rattle.proto_core.specs.Resharing.{reshared, sum_of_three}

@@ -2,7 +2,7 @@ ghost use Rattle.std.specs.Prelude.{◌≡◌, ◌≤◌, length};
 ghost use Rattle.proto_core.specs.Elementwise.{plus, minus, zeros};
 
 use crate::block::Block;
-use share_ring::ShareRing;
+use crate::ring::ShareRing;
 
 /// The ring's sum of two blocks, element by element.
 #[tactic(auto, using(crate::proofs::Each::each_steps), unfolding(crate::specs::Elementwise::plus))]

@@ -1,4 +1,5 @@
-//! What protocols between three miners are made of: parties, links, shares, blocks, messages, and what a protocol is.
+//! What protocols between three miners are made of: the rings in which values are shared, parties, links, shares, blocks,
+//! messages, and what a protocol is.
 #![tactic(auto)]
 
 mod block;
@@ -11,6 +12,7 @@ mod msg;
 mod party;
 mod refused;
 mod resharing;
+mod ring;
 mod schedule;
 mod share;
 
@@ -24,5 +26,8 @@ pub use msg::{Msg, check_bits};
 pub use party::{Number, P1, P2, P3, Party};
 pub use refused::{BadMessage, Refused};
 pub use resharing::{reshare, sum_of_shares};
+pub use ring::{
+    AddRing, ShareRing, XorRing, add_ring_is_a_ring, share_ring_is_a_ring, xor_ring_is_a_ring,
+};
 pub use schedule::Schedule;
 pub use share::Share;

@@ -83,6 +83,15 @@ impl Messages {
         }
     }
 
+    /// Lets go all messages. The room that they took is kept for others.
+    #[tactic(auto, using(crate::proofs::MessageListsLemmas::messages_of_none))]
+    pub fn clear(&mut self)
+        ensures { self.new ≡ [] }
+    {
+        self.words.clear();
+        self.ends.clear();
+    }
+
     /// How many messages.
     #[tactic(auto, using(crate::proofs::MessageListsLemmas::counted))]
     pub fn len(&self) -> usize

@@ -2,7 +2,7 @@ ghost use Rattle.std.specs.Prelude.{◌≡◌, length};
 ghost use Rattle.proto_core.specs.Resharing.{reshared, sum_of_three};
 
 use crate::block::Block;
-use share_ring::ShareRing;
+use crate::ring::ShareRing;
 
 /// A share masked anew: `u` with the party's own mask added and the previous party's mask taken away.
 #[tactic(auto, using(crate::proofs::Each::each_steps), unfolding(crate::specs::Resharing::reshared))]

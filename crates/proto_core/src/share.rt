@@ -1,6 +1,6 @@
 ghost use Rattle.std.specs.Prelude.{◌≡◌, ℕ};
 
-use share_ring::ShareRing;
+use crate::ring::ShareRing;
 use std::marker::{Model, PhantomData};
 
 /// One party's share of a value in a ring.

@@ -1,6 +1,7 @@
 pub mod Sizes
 pub mod Scripts
 pub mod GateRuns
+pub mod Walks
 pub mod GateViews
 pub mod Counting
 pub mod NetCounts

@@ -1,11 +1,10 @@
 // Links, miners, blocks, messages and lists of them.
 use crate::lines::{add_words, line};
 use proto_core::{
-    Block, Link, Messages, Msg, P1, P2, P3, Party, Schedule, Share, add_blocks, check_bits,
-    reshare, subtract_blocks, sum_of_shares, zero_block,
+    AddRing, Block, Link, Messages, Msg, P1, P2, P3, Party, Schedule, Share, ShareRing, XorRing,
+    add_blocks, check_bits, reshare, subtract_blocks, sum_of_shares, zero_block,
 };
 use row_files::Lines;
-use share_ring::{AddRing, ShareRing, XorRing};
 use std::alloc::{AllocError, Global};
 
 const NAMES: [&str; 10] = ["12", "13", "21", "23", "31", "32", "11", "14", "2 ", "123"];

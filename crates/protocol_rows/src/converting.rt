@@ -1,9 +1,8 @@
 // Bits that become numbers.
 use crate::lines::{add_cause, add_words, line};
-use proto_core::{Block, Msg, P2};
+use proto_core::{Block, Msg, P2, XorRing};
 use row_files::Lines;
 use share_convert::{Conv, Conversion, First, Operand, convert_together};
-use share_ring::XorRing;
 
 // What is sent on the links 12, 13, 23, 32 and 31, and the shares.
 fn tell_made(lines: &mut Lines, made: &Conversion) {

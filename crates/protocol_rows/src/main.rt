@@ -1,5 +1,5 @@
-//! Rows of single protocols, gates, plans, joint runs and single miners, as lines: messages, shares, values and refusals, which are
-//! compared with those that were worked out by hand.
+//! Rows of single protocols, gates, plans, joint runs and single miners, as lines: messages, shares, values and refusals; and what kernels make
+//! of lists of words of some lengths in both rings, and truth values packed into words. They are compared with those that were worked out by hand.
 //!
 //! Each case is a line, made of what the calls answer. A line costs no proof: the file `stdout` says what must be printed.
 #![tactic(auto)]
@@ -9,6 +9,7 @@ mod converting;
 mod gate_lists;
 mod gate_plans;
 mod joint_runs;
+mod kernels;
 mod lines;
 mod miners;
 mod multiplying;
@@ -40,6 +41,7 @@ fn told(alloc: Global) -> Result<String, AllocError> {
     gate_plans::tell(alloc, &mut lines);
     joint_runs::tell(alloc, &mut lines);
     miners::tell(alloc, &mut lines);
+    kernels::tell(alloc, &mut lines);
     lines.whole()
 }
 

@@ -1,17 +1,17 @@
 // Single miners at work on code: the link that each waits for, what it answers to messages, and what it refuses.
-ghost use Rattle.std.specs.Prelude.{◌≡◌};
+ghost use Rattle.std.specs.Prelude.{◌≡◌, IfSome};
+ghost use Rattle.miner_core.specs.declared.kept.Kept.TheVariants as kept;
 ghost use Rattle.proto_core.specs.Parties.{receiver_of};
 
 use crate::lines::add_cause;
 use bytecode::decode;
 use gates::{Values, Words};
-use miner_core::{End, Miner, MinerErr, Step, Task};
+use miner_core::{End, Miner, MinerErr, NoTapes, Step, Task};
+use program_trees::{DataType, Shape};
 use proto_core::{Link, Msg, P1, P2, Party};
 use row_files::Lines;
 use sc_text::Name;
-use secrec_ast::DataType;
 use std::alloc::Global;
-use typed_tree::Shape;
 use value_steps::{GivenInput, Lengths};
 use verified_code::{Verified, verify};
 
@@ -82,8 +82,10 @@ fn dealt(alloc: Global, source: Source) -> Option<Values> {
     Some(dealt)
 }
 
-// A miner at its first wait, on a tape of five zeros.
-fn miner<P: Party>(alloc: Global, source: Source) -> Option<Miner<P>> {
+// A miner at its first wait that keeps all, on a tape of five zeros.
+fn miner<P: Party>(alloc: Global, source: Source) -> Option<Miner<P>>
+    ensures { IfSome result (λ m. m.past ≡ kept.All) }
+{
     let tape = vec![in alloc; 0, 0, 0, 0, 0].ok()?;
     let dealt = dealt(alloc, source)?;
     let task = Task {
@@ -96,7 +98,7 @@ fn miner<P: Party>(alloc: Global, source: Source) -> Option<Miner<P>> {
             third: 5,
         },
     };
-    Miner::new(alloc, task, dealt, tape, 1000).ok()
+    Miner::whole(alloc, task, dealt, tape, 1000).ok()
 }
 
 // Where a miner stands, or why a message leads nowhere.
@@ -111,19 +113,22 @@ fn tell_step(lines: &mut Lines, step: Result<Step, MinerErr>) {
             add_cause(lines, cause);
             lines.add(";")
         }
-        Err(MinerErr::Memory) => lines.run_short(),
+        Err(MinerErr::Lost(_)) => lines.run_short(),
     }
 }
 
 fn tell_delivery<P: Party>(lines: &mut Lines, miner: &mut Miner<P>, link: Link, message: &Msg)
     requires { receiver_of link ≡ P.me }
+    ensures { miner.new.past ≡ miner.old.past }
 {
-    let step = miner.deliver(link, message);
+    let step = miner.deliver(link, message, &mut NoTapes);
     tell_step(lines, step);
 }
 
 // What a miner has sent and opened.
-fn tell_done<P: Party>(alloc: Global, lines: &mut Lines, miner: &Miner<P>) {
+fn tell_done<P: Party>(alloc: Global, lines: &mut Lines, miner: &Miner<P>)
+    requires { miner.now.past ≡ kept.All }
+{
     match miner.opened(alloc) {
         Ok(opened) => write!(
             lines,
@@ -137,7 +142,9 @@ fn tell_done<P: Party>(alloc: Global, lines: &mut Lines, miner: &Miner<P>) {
 }
 
 // A message that is too long stays the oldest, and nothing more is sent.
-fn tell_long(alloc: Global, lines: &mut Lines, miner: &mut Miner<P1>) {
+fn tell_long(alloc: Global, lines: &mut Lines, miner: &mut Miner<P1>)
+    requires { miner.old.past ≡ kept.All }
+{
     lines.add("a long message:");
     tell_step(lines, miner.stands());
     tell_delivery(lines, miner, Link::Link31, &Msg::from_words(&[0, 0]));
@@ -147,7 +154,9 @@ fn tell_long(alloc: Global, lines: &mut Lines, miner: &mut Miner<P1>) {
 }
 
 // The second message is not yet awaited, and is kept. After the end no message is awaited.
-fn tell_end(alloc: Global, lines: &mut Lines, miner: &mut Miner<P1>) {
+fn tell_end(alloc: Global, lines: &mut Lines, miner: &mut Miner<P1>)
+    requires { miner.old.past ≡ kept.All }
+{
     lines.add("a run to its end:");
     tell_delivery(lines, miner, Link::Link31, &Msg::from_words(&[0]));
     tell_delivery(lines, miner, Link::Link21, &Msg::from_words(&[0]));
@@ -158,7 +167,9 @@ fn tell_end(alloc: Global, lines: &mut Lines, miner: &mut Miner<P1>) {
 }
 
 // The second word has to be a bit.
-fn tell_no_bit(alloc: Global, lines: &mut Lines, miner: &mut Miner<P2>) {
+fn tell_no_bit(alloc: Global, lines: &mut Lines, miner: &mut Miner<P2>)
+    requires { miner.old.past ≡ kept.All }
+{
     lines.add("no bit:");
     tell_step(lines, miner.stands());
     tell_delivery(lines, miner, Link::Link12, &Msg::from_words(&[10, 2, 0]));

@@ -2,9 +2,8 @@
 use crate::lines::{add_cause, add_words, line};
 use lane_kernel::LaneRing;
 use multiply::{Mul, Operands, Part, multiply_together};
-use proto_core::{Block, Msg, P1, P2, P3};
+use proto_core::{AddRing, Block, Msg, P1, P2, P3, XorRing};
 use row_files::Lines;
-use share_ring::{AddRing, XorRing};
 
 const TOP: u64 = 18_446_744_073_709_551_615;
 

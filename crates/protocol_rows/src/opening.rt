@@ -1,9 +1,8 @@
 // Values that are opened, and results that are handed over.
 use crate::lines::{add_cause, add_words, line};
 use open_result::{Open, Part, Result3, open_together};
-use proto_core::{Block, Msg, P1, P3};
+use proto_core::{AddRing, Block, Msg, P1, P3, ShareRing, XorRing};
 use row_files::Lines;
-use share_ring::{AddRing, ShareRing, XorRing};
 
 const TOP: u64 = 18_446_744_073_709_551_615;
 

@@ -1,9 +1,8 @@
 // New shares of an old value.
 use crate::lines::{add_cause, add_words, line};
-use proto_core::{Block, Msg, P1, P2, P3};
+use proto_core::{AddRing, Block, Msg, P1, P2, P3, ShareRing, XorRing};
 use reshare::{Part, Reshare, reshare_together};
 use row_files::Lines;
-use share_ring::{AddRing, ShareRing, XorRing};
 
 const TOP: u64 = 18_446_744_073_709_551_615;
 

@@ -1,7 +1,7 @@
 // Both rings, by their bound.
 use crate::lines::line;
+use proto_core::{AddRing, ShareRing, XorRing};
 use row_files::Lines;
-use share_ring::{AddRing, ShareRing, XorRing};
 
 const TOP: u64 = 18_446_744_073_709_551_615;
 

@@ -1,8 +1,7 @@
 // Numbers that are split into two words.
 use crate::lines::{add_cause, add_words, line};
-use proto_core::{Block, Msg, P2, P3};
+use proto_core::{AddRing, Block, Msg, P2, P3, XorRing};
 use row_files::Lines;
-use share_ring::{AddRing, XorRing};
 use split_share::{Split, Splitting, Waiting, split_together};
 
 const TOP: u64 = 18_446_744_073_709_551_615;

@@ -3,8 +3,8 @@ use Rattle.std.proofs.Common.{◌≡◌, ℕ, ◌<◌, ◌≤◌, List, length, 
 use Rattle.std.specs.Prelude.{map, option_map}
 use Rattle.std.specs.List.{slice_get}
 use Rattle.std.proofs.lemmas.Option.{slice_get-map, slice_get_read, slice_get_past}
-use Rattle.typed_tree.specs.declared.function.TypedFunction.{TypedFunction}
-use Rattle.typed_tree.specs.Programs.{typed_function_tree}
+use Rattle.program_trees.specs.declared.typed_function.TypedFunction.{TypedFunction}
+use Rattle.program_trees.specs.TypedPrograms.{typed_function_tree}
 
 pub the_function : (fs : List TypedFunction) (k : ℕ) (f : TypedFunction) → k < length fs → f ≡ get_or fs k f
     → slice_get (map typed_function_tree fs) k ≡ Some (typed_function_tree f)

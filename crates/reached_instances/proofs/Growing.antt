@@ -2,8 +2,8 @@
 use Rattle.std.proofs.Common.{◌≡◌, List, [], ◌∷◌, ◌++◌, refl, sym, ap, ◌∙◌, append_assoc, append-nil}
 use Rattle.std.specs.Prelude.{map}
 use Rattle.std.proofs.lemmas.List.{map-append}
-use Rattle.typed_tree.specs.Tree.{TypedTree, typed_trees_of}
-use Rattle.typed_tree.specs.Statements.{TypedStatementTree, typed_statements_of}
+use Rattle.program_trees.specs.TypedTree.{TypedTree, typed_trees_of}
+use Rattle.program_trees.specs.TypedStatements.{TypedStatementTree, typed_statements_of}
 use Rattle.reached_instances.specs.Domains.{Setting, domain, domains}
 use Rattle.reached_instances.specs.Instances.{Instance}
 use Rattle.reached_instances.specs.Calls.{calls, calls_of_all, typed_statement_calls, typed_statements_calls}

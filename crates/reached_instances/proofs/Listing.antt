@@ -6,8 +6,8 @@ use Rattle.std.specs.Cmp.Lexicographic.{pointwise}
 use Rattle.std.specs.List.{flat_map}
 use Rattle.std.proofs.lemmas.Bool.{eqb-true, and_parts, or_parts, both_ways}
 use Rattle.std.proofs.lemmas.Slice.Eq.{slice_eq-Decides}
-use Rattle.secrec_ast.specs.Lists.{Among}
-use Rattle.secrec_ast.proofs.Lists.{among_left, among_right, among_parts}
+use Rattle.program_trees.specs.Lists.{Among}
+use Rattle.program_trees.proofs.Lists.{among_left, among_right, among_parts}
 use Rattle.reached_instances.specs.declared.instance.BoundDomain.{BoundDomain}
 use Rattle.reached_instances.specs.declared.instance.BoundDomain.TheVariants.{Public, Private}
 use Rattle.reached_instances.specs.Instances.{Instance, same_domain, same_instance, is_listed, listing}

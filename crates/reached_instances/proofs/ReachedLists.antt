@@ -7,9 +7,9 @@ use Rattle.std.proofs.lemmas.Bool.{cases_lt}
 use Rattle.std.proofs.lemmas.List.{take-append-drop, take-append-le, take_all}
 use Rattle.std.proofs.lemmas.List.Concat.{flat_map-append}
 use Rattle.std.proofs.lemmas.Option.{same_Some}
-use Rattle.secrec_ast.specs.Lists.{Among}
-use Rattle.secrec_ast.proofs.Lists.{among_left, among_right}
-use Rattle.typed_tree.specs.Programs.{TypedFunctionTree, TypedProgramTree}
+use Rattle.program_trees.specs.Lists.{Among}
+use Rattle.program_trees.proofs.Lists.{among_left, among_right}
+use Rattle.program_trees.specs.TypedPrograms.{TypedFunctionTree, TypedProgramTree}
 use Rattle.reached_instances.specs.Instances.{Instance, listing, firsts}
 use Rattle.reached_instances.specs.Calls.{called, called_by, main_of}
 use Rattle.reached_instances.specs.Reached.{IsReached, begins, follows, IsReachedList}

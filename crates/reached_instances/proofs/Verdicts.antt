@@ -1,6 +1,6 @@
 -- A program has one list of reached instances, and so one verdict.
 use Rattle.std.proofs.Common.{◌≡◌, List, Option, Some, Err, sym, ap, ◌∙◌}
-use Rattle.typed_tree.specs.Programs.{TypedProgramTree}
+use Rattle.program_trees.specs.TypedPrograms.{TypedProgramTree}
 use Rattle.reached_instances.specs.Instances.{Instance}
 use Rattle.reached_instances.specs.Reached.{IsReachedList}
 use Rattle.reached_instances.proofs.ReachedLists.{is_the_only_list}

@@ -1,14 +1,14 @@
 -- The instances that a piece of a function calls, in the order in which it is read.
 use Rattle.std.specs.Prelude.{ℕ, List, [], ◌∷◌, ◌++◌, Option, Some, None}
 use Rattle.std.specs.List.{slice_get}
-use Rattle.typed_tree.specs.Tree.{TypedTree, TypedTrees, call_node, size_node, cat_node, sum_node, bits_node}
-use Rattle.typed_tree.specs.Tree.{element_node, not_node, cast_node, binary_node, cut_node, declassify_node}
-use Rattle.typed_tree.specs.Tree as Tree'
-use Rattle.typed_tree.specs.Statements.{TypedStatementTree, TypedStatementTrees, block_statement, if_statement, loop_statement, do_statement}
-use Rattle.typed_tree.specs.Statements.{return_statement, assert_statement, store_statement}
-use Rattle.typed_tree.specs.Statements.{fill_statement, element_statement, publish_statement, evaluate_statement}
-use Rattle.typed_tree.specs.Statements as Statements'
-use Rattle.typed_tree.specs.Programs.{TypedFunctionTree, TypedProgramTree}
+use Rattle.program_trees.specs.TypedTree.{TypedTree, TypedTrees, call_node, size_node, cat_node, sum_node, bits_node}
+use Rattle.program_trees.specs.TypedTree.{element_node, not_node, cast_node, binary_node, cut_node, declassify_node}
+use Rattle.program_trees.specs.TypedTree as Tree'
+use Rattle.program_trees.specs.TypedStatements.{TypedStatementTree, TypedStatementTrees, block_statement, if_statement, loop_statement, do_statement}
+use Rattle.program_trees.specs.TypedStatements.{return_statement, assert_statement, store_statement}
+use Rattle.program_trees.specs.TypedStatements.{fill_statement, element_statement, publish_statement, evaluate_statement}
+use Rattle.program_trees.specs.TypedStatements as Statements'
+use Rattle.program_trees.specs.TypedPrograms.{TypedFunctionTree, TypedProgramTree}
 use Rattle.reached_instances.specs.declared.instance.BoundDomain.{BoundDomain}
 use Rattle.reached_instances.specs.Domains.{binding_of, Setting, domains}
 use Rattle.reached_instances.specs.Instances.{Instance}

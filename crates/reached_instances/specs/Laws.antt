@@ -1,7 +1,7 @@
 -- What every list of reached instances is.
 use Rattle.std.specs.Prelude.{◌≡◌, List, [], ◌∷◌, ◌++◌}
-use Rattle.secrec_ast.specs.Lists.{Among}
-use Rattle.typed_tree.specs.Programs.{TypedProgramTree}
+use Rattle.program_trees.specs.Lists.{Among}
+use Rattle.program_trees.specs.TypedPrograms.{TypedProgramTree}
 use Rattle.reached_instances.specs.Instances.{Instance}
 use Rattle.reached_instances.specs.Calls.{main_of}
 use Rattle.reached_instances.specs.Reached.{IsReached, IsReachedList}

@@ -1,6 +1,6 @@
 -- What `check_limits` answers.
 use Rattle.std.specs.Prelude.{◌≡◌, Option, Some, None, Result, Ok, Err}
-use Rattle.typed_tree.specs.Programs.{TypedProgramTree}
+use Rattle.program_trees.specs.TypedPrograms.{TypedProgramTree}
 use Rattle.reached_instances.specs.declared.limit_err.LimitErr.{LimitErr}
 use Rattle.reached_instances.specs.declared.limit_err.LimitErr.TheVariants.{TooManyInstances, ProgramTooLarge, FunctionTooLarge, Memory}
 use Rattle.reached_instances.specs.Limits.{IsVerdict}

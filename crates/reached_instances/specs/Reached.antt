@@ -1,8 +1,8 @@
 -- The instances that a program reaches, in the order in which they are first called.
 use Rattle.std.specs.Prelude.{◌≡◌, List, ◌++◌, length, Some}
 use Rattle.std.specs.List.{slice_get, flat_map}
-use Rattle.secrec_ast.specs.Lists.{Among}
-use Rattle.typed_tree.specs.Programs.{TypedFunctionTree, TypedProgramTree}
+use Rattle.program_trees.specs.Lists.{Among}
+use Rattle.program_trees.specs.TypedPrograms.{TypedFunctionTree, TypedProgramTree}
 use Rattle.reached_instances.specs.Instances.{Instance, firsts}
 use Rattle.reached_instances.specs.Calls.{called_by, main_of}
 

@@ -1,6 +1,6 @@
 -- What the structs of this crate stand for.
 use Rattle.std.specs.Prelude.{List, map}
-use Rattle.typed_tree.specs.Programs.{typed_function_tree}
+use Rattle.program_trees.specs.TypedPrograms.{typed_function_tree}
 use Rattle.reached_instances.specs.declared.instance.Instance as kept
 use Rattle.reached_instances.specs.declared.setting.Setting as kept_setting
 use Rattle.reached_instances.specs.Domains.{Setting}

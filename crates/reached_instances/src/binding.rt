@@ -1,12 +1,12 @@
 // What a call binds the domain variables of its function to.
 ghost use Rattle.std.specs.Prelude.{◌≡◌, IfOk};
-ghost use Rattle.typed_tree.specs.Programs.{typed_function_tree};
+ghost use Rattle.program_trees.specs.TypedPrograms.{typed_function_tree};
 ghost use Rattle.reached_instances.specs.Domains.{is_variable, bound_to, binding_of};
 
 use crate::instance::BoundDomain;
 use crate::setting::joined_domain;
+use program_trees::{Slot, SlotDomain, TypedFunction};
 use std::alloc::{AllocError, Global};
-use typed_tree::{Slot, SlotDomain, TypedFunction};
 
 // Whether a domain variable is what is written.
 fn is_variable(variable: usize, domain: SlotDomain) -> bool

@@ -1,8 +1,8 @@
 // The instances that expressions call, and who may see what they give.
 ghost use Rattle.std.specs.Prelude.{◌≡◌, ◌++◌, IfOk, map};
 ghost use Rattle.std.specs.List.{slice_get};
-ghost use Rattle.typed_tree.specs.Tree.{typed_tree, typed_trees_of};
-ghost use Rattle.typed_tree.specs.Programs.{typed_function_tree};
+ghost use Rattle.program_trees.specs.TypedTree.{typed_tree, typed_trees_of};
+ghost use Rattle.program_trees.specs.TypedPrograms.{typed_function_tree};
 ghost use Rattle.reached_instances.specs.Domains.{call_domain, domain, domains};
 ghost use Rattle.reached_instances.specs.Calls.{called, calls, calls_of_all};
 ghost use Rattle.reached_instances.specs.Views.{setting, instances_seen};
@@ -10,8 +10,8 @@ ghost use Rattle.reached_instances.specs.Views.{setting, instances_seen};
 use crate::binding::binding_of;
 use crate::instance::{BoundDomain, Instance};
 use crate::setting::{Setting, given_domain, joined_domain, slot_domain};
+use program_trees::{TypedExpression, TypedFunction};
 use std::alloc::{AllocError, Global};
-use typed_tree::{TypedExpression, TypedFunction};
 
 /// Notes the instance that a call names; who may see what it gives back.
 pub fn call(

@@ -1,5 +1,5 @@
 // What is true of lists of reached instances, whatever the program.
-ghost use Rattle.typed_tree.specs.Programs.{TypedProgramTree};
+ghost use Rattle.program_trees.specs.TypedPrograms.{TypedProgramTree};
 ghost use Rattle.reached_instances.specs.Laws.{BeginsWithMain, HasEachOnce, HasEachReached, IsTheOnlyList};
 
 /// A program has at most one list of reached instances; it begins with `main`, has each instance once, and has all that are

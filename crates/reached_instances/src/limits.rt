@@ -1,6 +1,6 @@
 // Whether a program is small enough.
 ghost use Rattle.std.specs.Prelude.{◌≡◌, Option};
-ghost use Rattle.typed_tree.specs.Programs.{typed_program_tree};
+ghost use Rattle.program_trees.specs.TypedPrograms.{typed_program_tree};
 ghost use Rattle.reached_instances.specs.Views.{instances_seen};
 ghost use Rattle.reached_instances.specs.declared.limit_err.LimitErr.{LimitErr};
 ghost use Rattle.reached_instances.specs.Limits.{refusal, IsVerdict};
@@ -11,8 +11,8 @@ use crate::limit_err::LimitErr;
 use crate::reaching::reached_instances;
 use crate::sizes::{first_too_large, total_size};
 use crate::templates::template_count;
+use program_trees::TypedProgram;
 use std::alloc::Global;
-use typed_tree::TypedProgram;
 
 // The most instances of templates.
 const MOST_INSTANCES: u64 = 1_024;

@@ -1,6 +1,6 @@
 // The list of the reached instances.
 ghost use Rattle.std.specs.Prelude.{◌≡◌, All, IfOk};
-ghost use Rattle.typed_tree.specs.Programs.{typed_program_tree};
+ghost use Rattle.program_trees.specs.TypedPrograms.{typed_program_tree};
 ghost use Rattle.reached_instances.specs.Calls.{main_of};
 ghost use Rattle.reached_instances.specs.Reached.{IsReachedList, IsBound};
 ghost use Rattle.reached_instances.specs.Views.{instances_seen};
@@ -9,8 +9,8 @@ use crate::expressions::call;
 use crate::instance::Instance;
 use crate::list::ReachedInstances;
 use crate::statements::called_by;
+use program_trees::TypedProgram;
 use std::alloc::{AllocError, Global};
-use typed_tree::TypedProgram;
 
 // `main`, if it is there.
 fn main_of(alloc: Global, program: &TypedProgram) -> Result<Vec<Instance>, AllocError>

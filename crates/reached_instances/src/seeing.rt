@@ -1,16 +1,16 @@
 // Who may see what expressions give.
 ghost use Rattle.std.specs.Prelude.{◌≡◌, IfOk, map};
 ghost use Rattle.std.specs.List.{slice_get};
-ghost use Rattle.typed_tree.specs.Tree.{typed_tree, typed_trees_of};
-ghost use Rattle.typed_tree.specs.Programs.{typed_function_tree};
+ghost use Rattle.program_trees.specs.TypedTree.{typed_tree, typed_trees_of};
+ghost use Rattle.program_trees.specs.TypedPrograms.{typed_function_tree};
 ghost use Rattle.reached_instances.specs.Domains.{call_domain, domain, domains};
 ghost use Rattle.reached_instances.specs.Views.{setting};
 
 use crate::binding::binding_of;
 use crate::instance::BoundDomain;
 use crate::setting::{Setting, given_domain, joined_domain, slot_domain};
+use program_trees::{TypedExpression, TypedFunction};
 use std::alloc::{AllocError, Global};
-use typed_tree::{TypedExpression, TypedFunction};
 
 /// Who may see what a call of the function with this number gives back, by its arguments' domains.
 ///

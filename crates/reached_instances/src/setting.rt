@@ -4,8 +4,7 @@ ghost use Rattle.reached_instances.specs.Domains.{domain_under, slot_domain, slo
 ghost use Rattle.reached_instances.specs.Views.{setting};
 
 use crate::instance::BoundDomain;
-use secrec_ast::DataType;
-use typed_tree::{Returned, Shape, Slot, SlotDomain, TypedFunction};
+use program_trees::{DataType, Returned, Shape, Slot, SlotDomain, TypedFunction};
 
 /// Where an expression stands: in a function of these that has these slots, whose domain variables are so bound.
 #[derive(Clone, Copy)]

@@ -1,13 +1,13 @@
 // How large the instances of a program are.
 ghost use Rattle.std.specs.Prelude.{◌≡◌, min, nat_lt, sum};
 ghost use Rattle.std.specs.List.{find};
-ghost use Rattle.typed_tree.specs.Programs.{typed_program_tree};
+ghost use Rattle.program_trees.specs.TypedPrograms.{typed_program_tree};
 ghost use Rattle.reached_instances.specs.Instances.{instance_seen};
 ghost use Rattle.reached_instances.specs.Views.{instances_seen};
 ghost use Rattle.reached_instances.specs.Limits.{size_of, sizes};
 
 use crate::instance::Instance;
-use typed_tree::TypedProgram;
+use program_trees::TypedProgram;
 
 // The most that one function may have.
 const LARGEST_FUNCTION: u64 = 4_095;

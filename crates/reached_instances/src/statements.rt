@@ -1,8 +1,8 @@
 // The instances that statements call.
 ghost use Rattle.std.specs.Prelude.{◌≡◌, ◌++◌, IfOk, map};
-ghost use Rattle.typed_tree.specs.Tree.{typed_tree};
-ghost use Rattle.typed_tree.specs.Statements.{typed_statement, typed_statements_of, optional_tree};
-ghost use Rattle.typed_tree.specs.Programs.{typed_program_tree};
+ghost use Rattle.program_trees.specs.TypedTree.{typed_tree};
+ghost use Rattle.program_trees.specs.TypedStatements.{typed_statement, typed_statements_of, optional_tree};
+ghost use Rattle.program_trees.specs.TypedPrograms.{typed_program_tree};
 ghost use Rattle.reached_instances.specs.Calls.{calls, optional_calls, typed_statement_calls, typed_statements_calls, called_by};
 ghost use Rattle.reached_instances.specs.Instances.{instance_seen};
 ghost use Rattle.reached_instances.specs.Views.{setting, instances_seen};
@@ -10,8 +10,8 @@ ghost use Rattle.reached_instances.specs.Views.{setting, instances_seen};
 use crate::expressions::expression;
 use crate::instance::Instance;
 use crate::setting::Setting;
+use program_trees::{TypedExpression, TypedProgram, TypedStatement};
 use std::alloc::{AllocError, Global};
-use typed_tree::{TypedExpression, TypedProgram, TypedStatement};
 
 // Notes the instances that an expression calls.
 fn evaluation(

@@ -1,12 +1,12 @@
 // Instances of templates.
 ghost use Rattle.std.specs.Prelude.{◌≡◌, count_by};
-ghost use Rattle.typed_tree.specs.Programs.{typed_program_tree};
+ghost use Rattle.program_trees.specs.TypedPrograms.{typed_program_tree};
 ghost use Rattle.reached_instances.specs.Instances.{instance_seen};
 ghost use Rattle.reached_instances.specs.Templates.{is_of_template};
 ghost use Rattle.reached_instances.specs.Views.{instances_seen};
 
 use crate::instance::Instance;
-use typed_tree::TypedProgram;
+use program_trees::TypedProgram;
 
 // Whether the function of an instance has a domain variable.
 fn is_of_template(program: &TypedProgram, instance: &Instance) -> bool

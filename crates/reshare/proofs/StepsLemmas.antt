@@ -1,6 +1,6 @@
 -- The steps of the code are those of a miner's part.
 use Rattle.std.proofs.Common.{◌≡◌, ℕ, List, [], ◌∷◌, length, refl, sym, ◌∙◌, ap}
-use Rattle.share_ring.specs.Ring.{Ring, RingLaws}
+use Rattle.proto_core.specs.Ring.{Ring, RingLaws}
 use Rattle.proto_core.specs.declared.party.Number.{Number}
 use Rattle.proto_core.specs.Parties.{to_next, from_previous}
 use Rattle.proto_core.specs.declared.party.Number.TheVariants.{One, Two, Three}

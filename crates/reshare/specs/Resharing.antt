@@ -1,7 +1,7 @@
 -- The protocol that shares a value anew: each miner passes its mask to the next one, adds it to its share, and takes
 -- the previous miner's mask away. The masks add up to nothing, so the value stays, and no share is as before.
 use Rattle.std.specs.Prelude.{◌≡◌, ℕ, if◌then◌else◌, List, [], ◌∷◌}
-use Rattle.share_ring.specs.Ring.{Ring}
+use Rattle.proto_core.specs.Ring.{Ring}
 use Rattle.proto_core.specs.declared.party.Number.{Number}
 use Rattle.proto_core.specs.declared.party.Number.TheVariants.{One, Two, Three}
 use Rattle.proto_core.specs.Parties.{previous_of, to_next, from_previous, sender_of, is_forward}

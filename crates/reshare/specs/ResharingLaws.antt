@@ -1,6 +1,6 @@
 -- Resharing is right, and what a miner receives are words that another drew.
 use Rattle.std.proofs.Common.{◌≡◌, ℕ, List, [], ◌∷◌, map, length, refl, ap, subst}
-use Rattle.share_ring.specs.Ring.{Ring, RingLaws}
+use Rattle.proto_core.specs.Ring.{Ring, RingLaws}
 use Rattle.proto_core.specs.declared.party.Number.{Number}
 use Rattle.proto_core.specs.declared.party.Number.TheVariants.{One, Two, Three}
 use Rattle.proto_core.specs.declared.link.Link.{Link}

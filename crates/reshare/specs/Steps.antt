@@ -1,6 +1,6 @@
 -- What a miner that reshares holds, and what each of its steps gives.
 use Rattle.std.specs.Prelude.{◌≡◌, ℕ, List, [], ◌∷◌, length}
-use Rattle.share_ring.specs.Ring.{Ring}
+use Rattle.proto_core.specs.Ring.{Ring}
 use Rattle.proto_core.specs.declared.party.Number.{Number}
 use Rattle.proto_core.specs.Strand.{Strand, Ends}
 use Rattle.proto_core.specs.Resharing.{reshared}

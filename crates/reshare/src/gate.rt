@@ -2,8 +2,7 @@ ghost use Rattle.proto_core.specs.Protocol.{Lawful};
 ghost use Rattle.reshare.specs.Resharing.{reshare_protocol, Reshares};
 ghost use Rattle.reshare.specs.ResharingLaws.{reshare-lawful};
 
-use proto_core::Interactive;
-use share_ring::ShareRing;
+use proto_core::{Interactive, ShareRing};
 use std::marker::PhantomData;
 
 /// The gate that shares a value anew in a ring.

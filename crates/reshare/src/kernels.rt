@@ -2,7 +2,7 @@
 ghost use Rattle.std.specs.Prelude.{◌≡◌, length};
 ghost use Rattle.proto_core.specs.Resharing.{reshared, sum_of_three};
 
-use share_ring::ShareRing;
+use proto_core::ShareRing;
 
 /// Adds the party's own mask to each word of the share, and takes the previous party's away.
 pub(crate) fn add_masks<R: ShareRing>(share: &mut [u64], mask: &[u64], got: &[u64])

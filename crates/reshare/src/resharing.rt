@@ -3,8 +3,7 @@ ghost use Rattle.proto_core.specs.Refusals.{WrongLength};
 ghost use Rattle.proto_core.specs.declared.refused.BadMessage.TheVariants.{BadLength};
 ghost use Rattle.reshare.specs.Steps.{Reshared};
 
-use proto_core::{BadMessage, Block, Msg, Party, Refused};
-use share_ring::ShareRing;
+use proto_core::{BadMessage, Block, Msg, Party, Refused, ShareRing};
 use std::marker::{Model, PhantomData};
 
 /// The previous miner's mask is awaited.

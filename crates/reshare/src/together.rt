@@ -5,8 +5,7 @@ ghost use Rattle.proto_core.specs.Joints.{joint_of};
 ghost use Rattle.reshare.specs.Parts.{IsPart};
 
 use crate::resharing::Reshare;
-use proto_core::{Block, Msg, P1, P2, P3};
-use share_ring::ShareRing;
+use proto_core::{Block, Msg, P1, P2, P3, ShareRing};
 
 /// What one miner sent, and its new share.
 #[derive(Drop)]

@@ -2,7 +2,7 @@ ghost use Rattle.std.specs.Prelude.{◌≡◌, ◌≤◌, length, IfOk};
 ghost use Rattle.proto_core.specs.Resharing.{reshared, sum_of_three};
 
 use crate::kernels::{add_masks, add_two};
-use share_ring::ShareRing;
+use proto_core::ShareRing;
 use std::alloc::{AllocError, Global};
 use std::marker::Model;
 

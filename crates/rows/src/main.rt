@@ -1,10 +1,14 @@
 //! Rows of the program: reads row files, calls the program as each row says over files, streams, links and children in memory, and
-//! prints how what comes out differs from what the row says. `rows.md` says what a row file is.
+//! prints how what comes out differs from what the row says. `rows.md` says what a row file is. Of the files named after the word
+//! `failing` each call of each object of a row fails once: `faults.md` says what must come then, and how the calls are counted.
 #![tactic(auto)]
 
 mod calling;
+mod failing;
+mod failing_files;
 
 use crate::calling::call;
+use crate::failing_files::try_failing;
 use anyhow::{Result, bail};
 use row_files::{Refused, Row, Tally, Wrong, judge, read_rows};
 use std::alloc::Global;
@@ -85,9 +89,10 @@ fn refuse(rt: &impl Print, path: &str, refused: Refused) -> Result<bool> {
 }
 
 // Whether a file has rows, and none of them differs.
-fn try_file(rt: &(impl Print + Files + AllocGlobal), path: &str) -> Result<bool> {
+fn try_file(rt: &(impl Print + Files + AllocGlobal), path: &str, failing: bool) -> Result<bool> {
     let bytes = fs::read(rt, path)?;
     match read_rows(rt.alloc(), &bytes) {
+        Ok(rows) if failing => try_failing(rt, path, rows),
         Ok(rows) => try_rows(rt, path, rows),
         Err(refused) => refuse(rt, path, refused),
     }
@@ -96,9 +101,14 @@ fn try_file(rt: &(impl Print + Files + AllocGlobal), path: &str) -> Result<bool>
 fn main(rt: HostRuntime) -> Result<ExitCode> {
     let mut files = 0u64;
     let mut good = true;
-    for path in env::args(&rt)?.skip(1) {
+    let mut failing = false;
+    for word in env::args(&rt)?.skip(1) {
+        if word.as_str() == "failing" {
+            failing = true;
+            continue;
+        }
         files = files.saturating_add(1);
-        let is_good = try_file(&rt, path.as_str())?;
+        let is_good = try_file(&rt, word.as_str(), failing)?;
         good = good && is_good;
     }
     if good && files != 0 {

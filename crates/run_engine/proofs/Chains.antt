@@ -11,7 +11,7 @@ use Rattle.proto_core.specs.declared.party.Number.{Number}
 use Rattle.proto_core.specs.declared.party.Number.TheVariants.{One, Two, Three}
 use Rattle.proto_core.specs.Lists.{AreWords}
 use Rattle.protocol_model.specs.Network.{Delivery}
-use Rattle.typed_tree.specs.Programs.{TypedProgramTree}
+use Rattle.program_trees.specs.TypedPrograms.{TypedProgramTree}
 use Rattle.tape_file.specs.Format.{answer_unless, fault_of, lengths_fault, read_of, tape_bytes, tapes_at, word_at, words_at}
 use Rattle.tape_file.specs.Tapes.{AreShort, FourTapes, IsWord, lengths_of}
 use Rattle.tape_file.proofs.Laws as tape_laws

@@ -3,7 +3,7 @@ use Rattle.std.proofs.Common.{◌≡◌, ℕ, List, Some, Ok, Err, subst, sym, i
 use Rattle.command_frame.specs.declared.status.Status.{Status}
 use Rattle.command_frame.specs.Answer.{Answer}
 use Rattle.command_words.specs.Ask.{EvalAsk, eval, need, words_of}
-use Rattle.typed_tree.specs.Programs.{TypedProgramTree}
+use Rattle.program_trees.specs.TypedPrograms.{TypedProgramTree}
 use Rattle.value_file.specs.declared.inputs.Entry.{Entry}
 use Rattle.language_model.specs.Reports.{Report}
 use Rattle.program_commands.specs.Eval.{evaluation_of, eval_text, need_text, report_effect, report_for}

@@ -6,7 +6,7 @@ use Rattle.command_frame.specs.Answer.{Answer}
 use Rattle.command_frame.specs.Status.{can_refuse}
 use Rattle.command_words.specs.Ask.{GatherAsk, gather, words_of}
 use Rattle.input_share.specs.ShareFile.{MinerFile}
-use Rattle.gathered_shares.specs.Gathering.{gathered}
+use Rattle.gather_command.specs.Gathering.{gathered}
 use Rattle.gather_command.specs.Gather.{gather_effect, gather_of}
 use Rattle.gather_command.specs.Held.{GatherEffect, GatherRefused, HoldsShares}
 use Rattle.gather_command.proofs.Refusals.{gather_answer, gather_refused, gather_refused_by}

@@ -20,7 +20,7 @@ use Rattle.language_model.proofs.TapesDecide.{enough_words}
 use Rattle.program_commands.specs.Reports.{eval_with, lengths_of}
 use Rattle.protocol_model.specs.Network.{Accepted}
 use Rattle.tape_file.specs.Tapes.{FourTapes}
-use Rattle.typed_tree.specs.Programs.{TypedProgramTree}
+use Rattle.program_trees.specs.TypedPrograms.{TypedProgramTree}
 use Rattle.value_file.specs.declared.inputs.Entry.{Entry}
 use Rattle.run_engine.specs.Headline.{EndsByBudgetAndTapes, EndsSomewhere, Given, IsGiven, PrintsEvaluation, RefusesSchedule, ScheduleRefused}
 use Rattle.run_engine.specs.Headline.{WritesViewsAndLinks, is_whole, net_given, not_a_schedule, not_complete, refused_line}

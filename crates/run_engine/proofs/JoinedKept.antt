@@ -6,8 +6,8 @@ use Rattle.command_frame.specs.Answer.{Answer, Effect}
 use Rattle.command_frame.specs.Moments.{AreTold, Moment, Sources}
 use Rattle.command_frame.specs.Status.{is_end}
 use Rattle.command_words.specs.Ask.{JoinAsk, MinerAsk, join, miner, words_of}
-use Rattle.join_command.specs.Held.{JoinEffect, JoinRefused, no_text, unlike_texts}
-use Rattle.join_command.specs.Join.{join_of, text_path}
+use Rattle.trio_command.specs.Held.{JoinEffect, JoinRefused, no_text, unlike_texts}
+use Rattle.trio_command.specs.Join.{join_of, text_path}
 use Rattle.miner_command.specs.Held.{MinerEffect, MinerRefused}
 use Rattle.miner_command.specs.Miner.{miner_of}
 use Rattle.program_commands.proofs.Judged.{found_nothing}

@@ -16,8 +16,8 @@ use Rattle.trio.specs.Answers.{and_then, join_of, join_second, join_third, named
 use Rattle.trio.specs.Joining.{Difference, Joined, joined_of}
 use Rattle.trio.specs.declared.join_err.JoinErr.{JoinErr}
 use Rattle.trio.specs.declared.join_err.JoinErr.TheVariants as join_err
-use Rattle.join_command.specs.Held.{HoldTexts, HoldsText, TogetherAre}
-use Rattle.join_command.specs.Join.{bad_text, join_cause, joined_effect, texts_differ, texts_joined}
+use Rattle.trio_command.specs.Held.{HoldTexts, HoldsText, TogetherAre}
+use Rattle.trio_command.specs.Join.{bad_text, join_cause, joined_effect, texts_differ, texts_joined}
 use Rattle.run_engine.specs.TrioPromises.{TextsRefused, bad_text as no_text, texts_differ as unlike_texts}
 use Rattle.std.specs.Prelude.{[]}
 use Rattle.run_engine.specs.Promises.{is_refusal}

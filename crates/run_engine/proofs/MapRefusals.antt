@@ -7,7 +7,7 @@ use Rattle.command_frame.specs.Status.{can_refuse}
 use Rattle.command_words.specs.Ask.{MapAsk, map_tape, words_of}
 use Rattle.tape_file.specs.Format.{read_of as tapes_read_of}
 use Rattle.tape_file.specs.Tapes.{FourTapes}
-use Rattle.typed_tree.specs.Programs.{TypedProgramTree}
+use Rattle.program_trees.specs.TypedPrograms.{TypedProgramTree}
 use Rattle.value_file.specs.declared.inputs.Entry.{Entry}
 use Rattle.value_file.specs.Input.{read_of as inputs_read_of}
 use Rattle.program_commands.specs.Judging.{Finding, FoundAt, its_program}

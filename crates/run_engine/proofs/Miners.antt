@@ -3,7 +3,7 @@ use Rattle.std.proofs.Common.{◌≡◌, ◌∙◌, ℕ, List}
 use Rattle.outside.specs.Files.{Contents}
 use Rattle.command_words.specs.Ask.{RunAsk}
 use Rattle.tape_file.specs.Tapes.{FourTapes}
-use Rattle.typed_tree.specs.Programs.{TypedProgramTree}
+use Rattle.program_trees.specs.TypedPrograms.{TypedProgramTree}
 use Rattle.value_file.specs.declared.inputs.Entry.{Entry}
 use Rattle.protocol_model.specs.Network.{Accepted, Delivery}
 use Rattle.program_commands.specs.Dealt.{CanBeDealt}

@@ -9,7 +9,7 @@ use Rattle.protocol_model.specs.Network.{Accepted, Answer as NetAnswer, Delivery
 use Rattle.schedule_file.specs.Reading.{links_of}
 use Rattle.tape_file.specs.Format.{read_of as tapes_read_of}
 use Rattle.tape_file.specs.Tapes.{FourTapes}
-use Rattle.typed_tree.specs.Programs.{TypedProgramTree}
+use Rattle.program_trees.specs.TypedPrograms.{TypedProgramTree}
 use Rattle.value_file.specs.declared.inputs.Entry.{Entry}
 use Rattle.value_file.specs.Input.{read_of as inputs_read_of}
 use Rattle.program_commands.specs.Eval.{end_of}

@@ -12,7 +12,7 @@ use Rattle.protocol_model.specs.Network.{Delivery}
 use Rattle.schedule_file.specs.Reading.{links_of}
 use Rattle.tape_file.specs.Format.{read_of as tapes_read_of}
 use Rattle.tape_file.specs.Tapes.{FourTapes}
-use Rattle.typed_tree.specs.Programs.{TypedProgramTree}
+use Rattle.program_trees.specs.TypedPrograms.{TypedProgramTree}
 use Rattle.value_file.specs.declared.public.PublicEntry.{PublicEntry}
 use Rattle.value_file.specs.PublicFile.{read_public_of}
 use Rattle.view_reader.specs.Opened.{opened_of}

@@ -6,7 +6,7 @@ use Rattle.command_frame.specs.Status.{can_refuse}
 use Rattle.command_words.specs.Ask.{CompileAsk, check, compile, words_of}
 use Rattle.reached_instances.specs.Instances.{Instance}
 use Rattle.reached_instances.specs.Reached.{IsReachedList}
-use Rattle.typed_tree.specs.Programs.{TypedProgramTree}
+use Rattle.program_trees.specs.TypedPrograms.{TypedProgramTree}
 use Rattle.program_commands.specs.Check.{check_effect, check_of}
 use Rattle.program_commands.specs.Compile.{compile_effect, compile_of}
 use Rattle.program_commands.specs.Held.{HoldsTyped, ProgramRefused}

@@ -28,8 +28,8 @@ use Rattle.program_commands.specs.Reading.{bad_input, bad_tape, inputs_at, read_
 use Rattle.program_commands.specs.Held.{HoldsTyped, bad_text as bad_program_text, too_large}
 use Rattle.program_commands.specs.Deal.{deal_writes}
 use Rattle.front_end.specs.Judgement.{Judged}
-use Rattle.secrec_ast.specs.Programs.{ProgramTree}
-use Rattle.join_command.specs.Join.{bad_text as text_refused, join_cause, joined_effect, texts_differ as texts_apart, texts_joined}
+use Rattle.program_trees.specs.Programs.{ProgramTree}
+use Rattle.trio_command.specs.Join.{bad_text as text_refused, join_cause, joined_effect, texts_differ as texts_apart, texts_joined}
 use Rattle.trio.specs.Answers.{join_of as all_joined}
 use Rattle.trio.specs.Joining.{Joined}
 use Rattle.trio.specs.declared.join_err.JoinErr.{JoinErr}
@@ -51,7 +51,7 @@ use Rattle.trio_command.specs.Launching.{AreStatuses}
 use Rattle.trio_command.specs.Trio.{Prepared, answer_of_miners, bad_status, children_ended, code_writes, compile_part, course_of, dealt}
 use Rattle.trio_command.specs.Trio.{preparation}
 use Rattle.trio_command.specs.Trio.{prepared_of, prepared_paths, trio_of, undealt, undealt_effect, words_for}
-use Rattle.typed_tree.specs.Programs.{TypedProgramTree}
+use Rattle.program_trees.specs.TypedPrograms.{TypedProgramTree}
 use Rattle.value_file.specs.declared.inputs.Entry.{Entry}
 use Rattle.value_file.specs.Input.{read_of as inputs_read_of}
 use Rattle.run_engine.specs.Moves.{Moves}

@@ -4,7 +4,7 @@ use Rattle.std.proofs.Common.{ℕ, List, sym, ◌∙◌}
 use Rattle.outside.specs.Files.{Contents}
 use Rattle.command_words.specs.Ask.{MapAsk, SimulateAsk, TwinAsk}
 use Rattle.tape_file.specs.Tapes.{FourTapes}
-use Rattle.typed_tree.specs.Programs.{TypedProgramTree}
+use Rattle.program_trees.specs.TypedPrograms.{TypedProgramTree}
 use Rattle.value_file.specs.declared.inputs.Entry.{Entry}
 use Rattle.value_file.specs.Public.{part_of}
 use Rattle.miner_commands.specs.Premises.{HaveWords}

@@ -15,7 +15,7 @@ use Rattle.command_words.specs.Ask.{JoinAsk, MinerAsk, TrioAsk, join, miner, tri
 use Rattle.program_commands.specs.Eval.{eval_text, need_text}
 use Rattle.program_commands.specs.Held.{DealRefused, EvalRefused, ProgramRefused}
 use Rattle.gather_command.specs.Held.{GatherEffect, GatherRefused}
-use Rattle.join_command.specs.Held.{JoinEffect, JoinRefused}
+use Rattle.trio_command.specs.Held.{JoinEffect, JoinRefused}
 use Rattle.miner_command.specs.Held.{MinerEffect, MinerRefused}
 use Rattle.proto_core.specs.declared.party.Number.{Number}
 use Rattle.trio_command.specs.Deciding.{trio_reach}

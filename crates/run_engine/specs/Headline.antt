@@ -22,7 +22,7 @@ use Rattle.miner_commands.specs.Deliveries.{delivered_of, net_of}
 use Rattle.program_views.specs.Views.{view_of}
 use Rattle.view_text.specs.View.{View}
 use Rattle.tape_file.specs.Tapes.{FourTapes}
-use Rattle.typed_tree.specs.Programs.{TypedProgramTree}
+use Rattle.program_trees.specs.TypedPrograms.{TypedProgramTree}
 use Rattle.value_file.specs.declared.inputs.Entry.{Entry}
 use Rattle.program_commands.specs.Eval.{end_status, eval_text}
 use Rattle.miner_commands.specs.CodeViews.{SeesItsView}

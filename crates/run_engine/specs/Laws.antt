@@ -8,10 +8,10 @@ use Rattle.proto_core.specs.declared.party.Number.{Number}
 use Rattle.command_words.specs.Ask.{CompileAsk, GatherAsk, MapAsk, MinerAsk, SimulateAsk, TwinAsk, compile, gather, map_tape, simulate, twin, words_of}
 use Rattle.protocol_model.specs.Network.{Delivery}
 use Rattle.tape_file.specs.Tapes.{FourTapes}
-use Rattle.typed_tree.specs.Programs.{TypedProgramTree}
+use Rattle.program_trees.specs.TypedPrograms.{TypedProgramTree}
 use Rattle.value_file.specs.declared.inputs.Entry.{Entry}
 use Rattle.gather_command.specs.Held.{HoldsDealt, WritesOneDealing}
-use Rattle.gathered_shares.specs.Owners.{Lengths, Owner}
+use Rattle.gather_command.specs.Owners.{Lengths, Owner}
 use Rattle.honest_miners.specs.Laws.{ThreeServedMiners}
 use Rattle.honest_miners.specs.Miners.{WritesWithHonestPeers}
 use Rattle.honest_miners.specs.Three.{ThreeMinersAnswer}

@@ -14,7 +14,7 @@ use Rattle.protocol_model.specs.Network.{Accepted, Delivery}
 use Rattle.input_share.specs.Dealing.{need_of}
 use Rattle.language_model.specs.Reports.{Report}
 use Rattle.tape_file.specs.Tapes.{FourTapes}
-use Rattle.typed_tree.specs.Programs.{TypedProgramTree}
+use Rattle.program_trees.specs.TypedPrograms.{TypedProgramTree}
 use Rattle.value_file.specs.declared.inputs.Entry.{Entry}
 use Rattle.program_commands.specs.Check.{check_effect}
 use Rattle.program_commands.specs.Compile.{compile_effect}

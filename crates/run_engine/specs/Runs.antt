@@ -7,7 +7,7 @@ use Rattle.command_words.specs.Ask.{RunAsk, file, scheduled}
 use Rattle.miner_commands.specs.Deliveries.{net_of}
 use Rattle.protocol_model.specs.Network.{Accepted, Answer, Delivery, EmptyLink, Stalled}
 use Rattle.schedule_file.specs.Reading.{links_of}
-use Rattle.typed_tree.specs.Programs.{TypedProgramTree}
+use Rattle.program_trees.specs.TypedPrograms.{TypedProgramTree}
 use Rattle.tape_file.specs.Format.{read_of as tapes_read_of}
 use Rattle.tape_file.specs.Tapes.{FourTapes}
 use Rattle.value_file.specs.declared.inputs.Entry.{Entry}

@@ -12,8 +12,8 @@ use Rattle.command_frame.specs.Status.{is_end, of_texts}
 use Rattle.command_frame.specs.Whole.{ChildrenRose, HasFailed}
 use Rattle.command_words.specs.Ask.{TrioAsk}
 use Rattle.input_share.specs.Dealing.{need_of}
-use Rattle.join_command.specs.Held.{HoldTexts, HoldsBadText, TogetherAre}
-use Rattle.join_command.specs.Join.{joined_effect}
+use Rattle.trio_command.specs.Held.{HoldTexts, HoldsBadText, TogetherAre}
+use Rattle.trio_command.specs.Join.{joined_effect}
 use Rattle.miner_text.specs.declared.line.MinerLine.{MinerLine}
 use Rattle.program_commands.specs.Compile.{compile_effect}
 use Rattle.program_commands.specs.Deal.{deal_writes}
@@ -28,7 +28,7 @@ use Rattle.trio.specs.Joining.{Difference, Joined, joined_of}
 use Rattle.trio.specs.Words.{out_path}
 use Rattle.trio_command.specs.Deciding.{trio_reach}
 use Rattle.trio_command.specs.Trio.{compile_part, undealt_effect, words_for}
-use Rattle.typed_tree.specs.Programs.{TypedProgramTree}
+use Rattle.program_trees.specs.TypedPrograms.{TypedProgramTree}
 use Rattle.value_file.specs.declared.inputs.Entry.{Entry}
 use Rattle.value_file.specs.declared.read_err.ReadErr.{ReadErr}
 use Rattle.value_file.specs.Input.{read_of as inputs_read_of}

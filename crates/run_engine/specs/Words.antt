@@ -13,7 +13,7 @@ use Rattle.program_commands.specs.Deal.{deal_of, deal_paths, written_paths}
 use Rattle.program_commands.specs.Eval.{evaluation_of, eval_paths, eval_text, need_text}
 use Rattle.program_commands.specs.Judging.{Finding, FoundAt, Question, nothing, its_program}
 use Rattle.gather_command.specs.Gather.{gather_of, gather_paths, gathered_paths}
-use Rattle.join_command.specs.Join.{join_of, join_paths}
+use Rattle.trio_command.specs.Join.{join_of, join_paths}
 use Rattle.miner_command.specs.Files.{miner_paths, text_paths}
 use Rattle.miner_command.specs.Miner.{miner_of}
 use Rattle.trio_command.specs.Deciding.{trio_reach}

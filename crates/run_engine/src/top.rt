@@ -12,14 +12,13 @@ ghost use Rattle.run_engine.specs.Words.{reach_miners, reach_of, start_programs}
 use command_frame::{Plan, Status, Stop, ended_status, finish_plan, say};
 use command_words::{Command, WordsErr, read};
 use gather_command::plan_gather;
-use join_command::plan_join;
 use miner_command::plan_miner;
 use miner_commands::{plan_load, plan_run};
 use outside::{Files, Links, Sink, Spawner};
 use program_commands::{plan_check, plan_compile, plan_deal, plan_eval, plan_need};
 use std::alloc::Global;
 use tape_commands::{plan_map, plan_simulate, plan_twin};
-use trio_command::plan_trio;
+use trio_command::{plan_join, plan_trio};
 
 // Does all that a command does before its effect: it reads files, sends and reads what goes to peers and comes from them, or writes files
 // and starts other programs, and says what is to be done.

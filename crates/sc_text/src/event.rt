@@ -9,15 +9,17 @@ use std::fmt;
 pub enum Event {
     /// A private value was opened.
     Open(Elements),
-    /// A value was published under a name.
+    /// A public value was published under a name.
     Publish(Name, Elements),
+    /// A private value was handed to the client under a name. Its line is that of a publication.
+    Hand(Name, Elements),
 }
 
 // Written out, so that an early exit calls this once.
 impl Drop for Event {
     fn drop(self) {
         match self {
-            Event::Open(_) | Event::Publish(_, _) => {}
+            Event::Open(_) | Event::Publish(_, _) | Event::Hand(_, _) => {}
         }
     }
 }
@@ -33,6 +35,10 @@ impl fmt::Display for Event {
             Event::Publish(name, published) => {
                 let name = name.as_str();
                 writeln!(f, "publish {name}{published}")
+            }
+            Event::Hand(name, handed) => {
+                let name = name.as_str();
+                writeln!(f, "publish {name}{handed}")
             }
         }
     }

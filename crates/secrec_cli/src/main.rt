@@ -1,6 +1,11 @@
 //! The program `secrec`: the real objects, and the top call.
 #![tactic(auto)]
 
+ghost use Rattle.std.specs.Prelude.{◌≡◌};
+ghost use Rattle.std.specs.Process.{exit_status};
+ghost use Rattle.command_frame.specs.Status.{code_of};
+ghost use Rattle.command_frame.specs.Stops.{status_of};
+
 use command_frame::{Status, Stop, ended_status, say};
 use outside::Sink;
 use real_objects::{RealFiles, RealLinks, RealSink, RealSpawner, open_streams};
@@ -26,7 +31,9 @@ fn words(rt: &HostRuntime, alloc: Global) -> Result<Vec<String>, Stop> {
 }
 
 // Says why nothing is done. A fault of the error stream changes nothing else.
-fn refuse<E: Sink>(err: &mut E, stop: Stop) -> Status {
+fn refuse<E: Sink>(err: &mut E, stop: Stop) -> Status
+    ensures { result ≡ status_of stop }
+{
     let ended = Err(stop);
     let _ = say(err, &ended);
     ended_status(&ended)
@@ -49,6 +56,13 @@ fn obey<E: Sink>(rt: &HostRuntime, alloc: Global, words: &[String], err: &mut E)
     )
 }
 
+// What the process ends with: the number of the status.
+fn exit_code(status: Status) -> ExitCode
+    ensures { exit_status result ≡ code_of status }
+{
+    ExitCode::from(status.code())
+}
+
 fn main(rt: HostRuntime) -> ExitCode {
     open_streams(&rt);
     let alloc = rt.alloc();
@@ -57,5 +71,5 @@ fn main(rt: HostRuntime) -> ExitCode {
         Ok(words) => obey(&rt, alloc, &words, &mut err),
         Err(stop) => refuse(&mut err, stop),
     };
-    ExitCode::from(status.code())
+    exit_code(status)
 }

@@ -11,12 +11,12 @@ use Rattle.secrec_lexer.specs.declared.token.TokenKind.{TokenKind}
 use Rattle.secrec_lexer.specs.declared.token.TokenKind.TheVariants as kinds
 use Rattle.secrec_lexer.specs.declared.token.Token.{Token}
 use Rattle.secrec_lexer.specs.Tokens.{is_sign, IsEnded}
-use Rattle.secrec_ast.specs.declared.expression.Operator.{Operator}
-use Rattle.secrec_ast.specs.declared.expression.Operator.TheVariants as operators
-use Rattle.secrec_ast.specs.declared.statement.Identifier.{Identifier}
-use Rattle.secrec_ast.specs.Tree.{Tree, number, variable, index}
-use Rattle.secrec_ast.specs.Statements.{TargetTree, AssignmentTree, target_of}
-use Rattle.secrec_ast.specs.Heights.{height, optional_height, target_height, assignment_height}
+use Rattle.program_trees.specs.declared.expression.Operator.{Operator}
+use Rattle.program_trees.specs.declared.expression.Operator.TheVariants as operators
+use Rattle.program_trees.specs.declared.statement.Identifier.{Identifier}
+use Rattle.program_trees.specs.Tree.{Tree, number, variable, index}
+use Rattle.program_trees.specs.Statements.{TargetTree, AssignmentTree, target_of}
+use Rattle.program_trees.specs.Heights.{height, optional_height, target_height, assignment_height}
 use Rattle.expression_parser.specs.declared.problem.ParseProblem.TheVariants.{TooHigh}
 use Rattle.expression_parser.specs.Phrases.{Phrase, token, nothing, one_at, sign, ◌then◌}
 use Rattle.expression_parser.specs.Grammar.{IsExpression, loosest}

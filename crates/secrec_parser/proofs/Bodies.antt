@@ -6,11 +6,11 @@ use Rattle.secrec_lexer.specs.declared.sign.Sign.TheVariants as signs
 use Rattle.secrec_lexer.specs.declared.token.TokenKind.TheVariants as kinds
 use Rattle.secrec_lexer.specs.declared.token.Token.{Token}
 use Rattle.secrec_lexer.specs.Tokens.{IsEnded}
-use Rattle.secrec_ast.specs.Tree.{Tree}
-use Rattle.secrec_ast.specs.Statements.{starts_with_nothing, steps_by_nothing, StatementTree, StatementTrees, statements_of, block, empty, while_loop}
-use Rattle.secrec_ast.specs.Statements.{do_loop, for_loop}
-use Rattle.secrec_ast.specs.Statements as statements
-use Rattle.secrec_ast.specs.Heights.{statement_heights}
+use Rattle.program_trees.specs.Tree.{Tree}
+use Rattle.program_trees.specs.Statements.{starts_with_nothing, steps_by_nothing, StatementTree, StatementTrees, statements_of, block, empty, while_loop}
+use Rattle.program_trees.specs.Statements.{do_loop, for_loop}
+use Rattle.program_trees.specs.Statements as statements
+use Rattle.program_trees.specs.Heights.{statement_heights}
 use Rattle.expression_parser.specs.Phrases.{Phrase, sign_at, sign, ◌then◌}
 use Rattle.expression_parser.specs.Steps.{◌>>=◌}
 use Rattle.expression_parser.proofs.Reading.{Reads, Stops}

@@ -10,11 +10,11 @@ use Rattle.secrec_lexer.specs.declared.token.TokenKind.{TokenKind}
 use Rattle.secrec_lexer.specs.declared.token.TokenKind.TheVariants as kinds
 use Rattle.secrec_lexer.specs.declared.token.Token.{Token}
 use Rattle.secrec_lexer.specs.Tokens.{is_sign, IsEnded}
-use Rattle.secrec_ast.specs.declared.statement.Identifier.{Identifier}
-use Rattle.secrec_ast.specs.declared.statement.DeclaredType.{DeclaredType}
-use Rattle.secrec_ast.specs.Tree.{Tree}
-use Rattle.secrec_ast.specs.Statements.{DeclarationTree}
-use Rattle.secrec_ast.specs.Heights.{height, optional_height, declaration_height}
+use Rattle.program_trees.specs.declared.statement.Identifier.{Identifier}
+use Rattle.program_trees.specs.declared.statement.DeclaredType.{DeclaredType}
+use Rattle.program_trees.specs.Tree.{Tree}
+use Rattle.program_trees.specs.Statements.{DeclarationTree}
+use Rattle.program_trees.specs.Heights.{height, optional_height, declaration_height}
 use Rattle.expression_parser.specs.declared.problem.ParseProblem.TheVariants.{TooHigh}
 use Rattle.expression_parser.specs.Phrases.{Phrase, token, sign, ◌then◌}
 use Rattle.expression_parser.specs.Grammar.{IsExpression, loosest}

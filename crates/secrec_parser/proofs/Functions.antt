@@ -10,18 +10,18 @@ use Rattle.secrec_lexer.specs.declared.token.TokenKind.{TokenKind}
 use Rattle.secrec_lexer.specs.declared.token.TokenKind.TheVariants as kinds
 use Rattle.secrec_lexer.specs.declared.token.Token.{Token}
 use Rattle.secrec_lexer.specs.Tokens.{is_sign, IsEnded}
-use Rattle.secrec_ast.specs.declared.statement.Identifier.{Identifier}
-use Rattle.secrec_ast.specs.declared.expression.DataType.TheVariants as types
-use Rattle.secrec_ast.specs.declared.statement.Domain.TheVariants as domains
-use Rattle.secrec_ast.specs.declared.statement.DeclaredType.{DeclaredType}
-use Rattle.secrec_ast.specs.declared.function.DomainVariable.{DomainVariable}
-use Rattle.secrec_ast.specs.declared.function.Parameter.{Parameter}
-use Rattle.secrec_ast.specs.declared.function.ResultType.{ResultType}
-use Rattle.secrec_ast.specs.declared.function.ResultType.TheVariants as results
-use Rattle.secrec_ast.specs.Statements.{StatementTree, StatementTrees, statements_of}
-use Rattle.secrec_ast.specs.Statements as statements
-use Rattle.secrec_ast.specs.Programs.{BlockTree, FunctionTree}
-use Rattle.secrec_ast.specs.Heights.{statement_heights, function_height}
+use Rattle.program_trees.specs.declared.statement.Identifier.{Identifier}
+use Rattle.program_trees.specs.declared.expression.DataType.TheVariants as types
+use Rattle.program_trees.specs.declared.statement.Domain.TheVariants as domains
+use Rattle.program_trees.specs.declared.statement.DeclaredType.{DeclaredType}
+use Rattle.program_trees.specs.declared.function.DomainVariable.{DomainVariable}
+use Rattle.program_trees.specs.declared.function.Parameter.{Parameter}
+use Rattle.program_trees.specs.declared.function.ResultType.{ResultType}
+use Rattle.program_trees.specs.declared.function.ResultType.TheVariants as results
+use Rattle.program_trees.specs.Statements.{StatementTree, StatementTrees, statements_of}
+use Rattle.program_trees.specs.Statements as statements
+use Rattle.program_trees.specs.Programs.{BlockTree, FunctionTree}
+use Rattle.program_trees.specs.Heights.{statement_heights, function_height}
 use Rattle.expression_parser.specs.Phrases.{Phrase, token, sign_at, sign, ◌then◌}
 use Rattle.expression_parser.specs.Steps.{Outcome, ◌>>=◌, expect}
 use Rattle.expression_parser.specs.Steps as expressions

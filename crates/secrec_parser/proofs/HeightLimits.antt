@@ -8,8 +8,8 @@ use Rattle.secrec_lexer.specs.declared.sign.Sign.TheVariants as signs
 use Rattle.secrec_lexer.specs.declared.token.TokenKind.TheVariants as kinds
 use Rattle.secrec_lexer.specs.declared.token.Token.{Token}
 use Rattle.secrec_lexer.specs.Tokens.{is_sign, IsEnded}
-use Rattle.secrec_ast.specs.Tree.{Tree}
-use Rattle.secrec_ast.specs.Statements.{StatementTree, branch, choice, while_loop, for_loop}
+use Rattle.program_trees.specs.Tree.{Tree}
+use Rattle.program_trees.specs.Statements.{StatementTree, branch, choice, while_loop, for_loop}
 use Rattle.expression_parser.specs.declared.problem.ParseProblem.TheVariants.{Unexpected, TooHigh}
 use Rattle.expression_parser.specs.Phrases.{Phrase}
 use Rattle.expression_parser.specs.Steps.{Outcome, ◌>>=◌, expect}

@@ -7,11 +7,11 @@ use Rattle.secrec_lexer.specs.declared.token.TokenKind.{TokenKind}
 use Rattle.secrec_lexer.specs.declared.token.TokenKind.TheVariants as kinds
 use Rattle.secrec_lexer.specs.declared.token.Token.{Token}
 use Rattle.secrec_lexer.specs.Tokens.{is_sign, IsEnded}
-use Rattle.secrec_ast.specs.declared.expression.Operator.{Operator}
-use Rattle.secrec_ast.specs.declared.expression.Operator.TheVariants as operators
-use Rattle.secrec_ast.specs.Tree.{Tree, variable, call, index, binary}
-use Rattle.secrec_ast.specs.Tree as trees
-use Rattle.secrec_ast.specs.Statements.{TargetTree, StatementTree, declaration, assignment, evaluation}
+use Rattle.program_trees.specs.declared.expression.Operator.{Operator}
+use Rattle.program_trees.specs.declared.expression.Operator.TheVariants as operators
+use Rattle.program_trees.specs.Tree.{Tree, variable, call, index, binary}
+use Rattle.program_trees.specs.Tree as trees
+use Rattle.program_trees.specs.Statements.{TargetTree, StatementTree, declaration, assignment, evaluation}
 use Rattle.expression_parser.specs.declared.problem.ParseProblem.TheVariants.{Unexpected, TooHigh}
 use Rattle.expression_parser.specs.Phrases.{token, one, sign, ◌then◌}
 use Rattle.expression_parser.specs.Grammar.{IsExpression, loosest, level, sign_of}

@@ -7,14 +7,14 @@ use Rattle.secrec_lexer.specs.declared.sign.Sign.TheVariants as signs
 use Rattle.secrec_lexer.specs.declared.token.TokenKind.{TokenKind}
 use Rattle.secrec_lexer.specs.declared.token.TokenKind.TheVariants as kinds
 use Rattle.secrec_lexer.specs.declared.token.Token.{Token}
-use Rattle.secrec_ast.specs.declared.expression.DataType.TheVariants as types
-use Rattle.secrec_ast.specs.declared.statement.Domain.TheVariants as domains
-use Rattle.secrec_ast.specs.declared.statement.DeclaredType.{DeclaredType}
-use Rattle.secrec_ast.specs.Tree.{variable}
-use Rattle.secrec_ast.specs.Statements.{DeclarationTree, StatementTree, StatementTrees, starts_with_nothing, steps_by_nothing, block, empty, branch}
-use Rattle.secrec_ast.specs.Statements.{choice, while_loop, do_loop, for_loop, breaks, continues, returns, assertion, declaration, assignment}
-use Rattle.secrec_ast.specs.Statements.{evaluation}
-use Rattle.secrec_ast.specs.Statements as statements
+use Rattle.program_trees.specs.declared.expression.DataType.TheVariants as types
+use Rattle.program_trees.specs.declared.statement.Domain.TheVariants as domains
+use Rattle.program_trees.specs.declared.statement.DeclaredType.{DeclaredType}
+use Rattle.program_trees.specs.Tree.{variable}
+use Rattle.program_trees.specs.Statements.{DeclarationTree, StatementTree, StatementTrees, starts_with_nothing, steps_by_nothing, block, empty, branch}
+use Rattle.program_trees.specs.Statements.{choice, while_loop, do_loop, for_loop, breaks, continues, returns, assertion, declaration, assignment}
+use Rattle.program_trees.specs.Statements.{evaluation}
+use Rattle.program_trees.specs.Statements as statements
 use Rattle.expression_parser.specs.Phrases.{token, sign_at}
 use Rattle.expression_parser.specs.Grammar.{loosest}
 use Rattle.expression_parser.specs.Steps as expressions

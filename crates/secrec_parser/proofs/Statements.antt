@@ -7,9 +7,9 @@ use Rattle.secrec_lexer.specs.declared.sign.Sign.TheVariants as signs
 use Rattle.secrec_lexer.specs.declared.token.TokenKind.TheVariants as kinds
 use Rattle.secrec_lexer.specs.declared.token.Token.{Token}
 use Rattle.secrec_lexer.specs.Tokens.{is_sign, is_end, IsEnded}
-use Rattle.secrec_ast.specs.Tree.{Tree}
-use Rattle.secrec_ast.specs.Statements.{DeclarationTree, StatementTree, empty, branch, choice, breaks, continues, returns, assertion, declaration}
-use Rattle.secrec_ast.specs.Heights.{statement_height}
+use Rattle.program_trees.specs.Tree.{Tree}
+use Rattle.program_trees.specs.Statements.{DeclarationTree, StatementTree, empty, branch, choice, breaks, continues, returns, assertion, declaration}
+use Rattle.program_trees.specs.Heights.{statement_height}
 use Rattle.expression_parser.specs.Phrases.{Phrase, token, nothing, one_at, one, sign_at, sign, ◌then◌}
 use Rattle.expression_parser.specs.Steps.{Outcome, ◌>>=◌, expect}
 use Rattle.expression_parser.proofs.Reading.{Good, Reads, Stops, cons_head, reads_as}

@@ -1,9 +1,9 @@
 -- An expression as a target is as high as it was.
 use Rattle.std.proofs.Common.{◌≡◌, ℕ, ◌+◌, Option, Some, None, refl, sym, ap, ◌∙◌, arith}
 use Rattle.std.specs.Prelude.{max}
-use Rattle.secrec_ast.specs.Tree.{Tree, variable, index}
-use Rattle.secrec_ast.specs.Statements.{TargetTree, element_target, target_of}
-use Rattle.secrec_ast.specs.Heights.{height, target_height}
+use Rattle.program_trees.specs.Tree.{Tree, variable, index}
+use Rattle.program_trees.specs.Statements.{TargetTree, element_target, target_of}
+use Rattle.program_trees.specs.Heights.{height, target_height}
 use Rattle.expression_parser.proofs.Nodes.{tall}
 
 abbrev optional_target_height : ℕ → Option TargetTree → ℕ

@@ -6,10 +6,10 @@ use Rattle.std.proofs.lemmas.Bool.{ltb-false, lt-ltb, le-ltb}
 use Rattle.secrec_lexer.specs.declared.token.Token.{Token}
 use Rattle.sc_text.specs.declared.span.Span.{Span}
 use Rattle.secrec_lexer.specs.declared.sign.Sign.TheVariants as signs
-use Rattle.secrec_ast.specs.declared.function.DomainVariable.{DomainVariable}
-use Rattle.secrec_ast.specs.Tree.{Tree}
-use Rattle.secrec_ast.specs.Statements.{TargetTree, StatementTree, branch, choice}
-use Rattle.secrec_ast.specs.Heights.{target_height}
+use Rattle.program_trees.specs.declared.function.DomainVariable.{DomainVariable}
+use Rattle.program_trees.specs.Tree.{Tree}
+use Rattle.program_trees.specs.Statements.{TargetTree, StatementTree, branch, choice}
+use Rattle.program_trees.specs.Heights.{target_height}
 use Rattle.expression_parser.specs.declared.stopped.Stopped.{Stopped}
 use Rattle.expression_parser.specs.declared.stopped.Stopped.TheVariants.{Memory, At}
 use Rattle.expression_parser.specs.Given.{Gives, Closed}

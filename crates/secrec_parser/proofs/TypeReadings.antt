@@ -9,12 +9,12 @@ use Rattle.secrec_lexer.specs.declared.token.TokenKind.{TokenKind}
 use Rattle.secrec_lexer.specs.declared.token.TokenKind.TheVariants as kinds
 use Rattle.secrec_lexer.specs.declared.token.Token.{Token}
 use Rattle.secrec_lexer.specs.Tokens.{is_sign, IsEnded}
-use Rattle.secrec_ast.specs.declared.expression.DataType.{DataType}
-use Rattle.secrec_ast.specs.declared.expression.DataType.TheVariants as types
-use Rattle.secrec_ast.specs.declared.statement.Identifier.{Identifier}
-use Rattle.secrec_ast.specs.declared.statement.Domain.{Domain}
-use Rattle.secrec_ast.specs.declared.statement.Domain.TheVariants as domains
-use Rattle.secrec_ast.specs.declared.statement.DeclaredType.{DeclaredType}
+use Rattle.program_trees.specs.declared.expression.DataType.{DataType}
+use Rattle.program_trees.specs.declared.expression.DataType.TheVariants as types
+use Rattle.program_trees.specs.declared.statement.Identifier.{Identifier}
+use Rattle.program_trees.specs.declared.statement.Domain.{Domain}
+use Rattle.program_trees.specs.declared.statement.Domain.TheVariants as domains
+use Rattle.program_trees.specs.declared.statement.DeclaredType.{DeclaredType}
 use Rattle.expression_parser.specs.declared.problem.ParseProblem.TheVariants.{Unexpected}
 use Rattle.expression_parser.specs.Phrases.{Phrase, token, one, sign, ◌then◌}
 use Rattle.expression_parser.specs.Grammar.{IsDataType}

@@ -2,8 +2,8 @@
 use Rattle.std.specs.Prelude.{◌≡◌, ℕ, List, [], ◌∷◌, Result, Ok, Err}
 use Rattle.secrec_lexer.specs.declared.token.Token.{Token}
 use Rattle.expression_parser.specs.declared.problem.ParseProblem.{ParseProblem}
-use Rattle.secrec_ast.specs.declared.program.Program.{Program}
-use Rattle.secrec_ast.specs.Programs.{ProgramTree, program_tree}
+use Rattle.program_trees.specs.declared.program.Program.{Program}
+use Rattle.program_trees.specs.Programs.{ProgramTree, program_tree}
 use Rattle.secrec_parser.specs.declared.parse_err.ParseErr.{ParseErr}
 use Rattle.secrec_parser.specs.declared.parse_err.ParseErr.TheVariants.{Memory, Refused}
 use Rattle.secrec_parser.specs.FirstFault.{IsFirstFault}

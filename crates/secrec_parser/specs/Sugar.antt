@@ -1,9 +1,9 @@
 -- What the short forms of assignments stand for.
 use Rattle.std.specs.Prelude.{Option, Some, None}
-use Rattle.secrec_ast.specs.declared.expression.Operator.{Operator}
-use Rattle.secrec_ast.specs.declared.statement.Identifier.{Identifier}
-use Rattle.secrec_ast.specs.Tree.{Tree, variable, index, binary}
-use Rattle.secrec_ast.specs.Statements.{TargetTree}
+use Rattle.program_trees.specs.declared.expression.Operator.{Operator}
+use Rattle.program_trees.specs.declared.statement.Identifier.{Identifier}
+use Rattle.program_trees.specs.Tree.{Tree, variable, index, binary}
+use Rattle.program_trees.specs.Statements.{TargetTree}
 
 abbrev pub held_in : Identifier → Option Tree → Tree
 held_in x None = variable x.place x.text

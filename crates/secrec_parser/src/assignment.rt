@@ -1,9 +1,9 @@
 // Assignments, and what may be one or an expression.
 
 ghost use Rattle.std.specs.Prelude.{◌≡◌, ◌+◌, ◌<◌, ◌≤◌, length, IfOk};
-ghost use Rattle.secrec_ast.specs.Tree.{expression};
-ghost use Rattle.secrec_ast.specs.Statements.{assignment_tree, optional, statement, step_tree, target_tree};
-ghost use Rattle.secrec_ast.specs.Heights.{height, optional_height, target_height};
+ghost use Rattle.program_trees.specs.Tree.{expression};
+ghost use Rattle.program_trees.specs.Statements.{assignment_tree, optional, statement, step_tree, target_tree};
+ghost use Rattle.program_trees.specs.Heights.{height, optional_height, target_height};
 ghost use Rattle.secrec_parser.specs.Sugar.{held, updated};
 ghost use Rattle.secrec_parser.specs.inner.Steps.{action, assigned, assignment_step, is_update, least_height, statement_of, step_of, target_index};
 ghost use Rattle.secrec_parser.specs.inner.Steps.{update_of, value_by};
@@ -12,7 +12,7 @@ ghost use Rattle.secrec_parser.specs.inner.Given.{action_tree, Takes};
 use crate::declaration::operand;
 use crate::tokens::at_sign;
 use expression_parser::{ParseProblem, Read, Stopped, expect, expression, identifier};
-use secrec_ast::{Assignment, Expression, ForStep, Operator, Statement, Target};
+use program_trees::{Assignment, Expression, ForStep, Operator, Statement, Target};
 use secrec_lexer::{Sign, Token};
 use std::alloc::{AllocError, Global};
 

@@ -1,15 +1,15 @@
 // Expressions in their places, and declarations.
 
 ghost use Rattle.std.specs.Prelude.{◌≡◌, ◌+◌, length};
-ghost use Rattle.secrec_ast.specs.Tree.{expression};
-ghost use Rattle.secrec_ast.specs.Statements.{optional, declaration_tree};
+ghost use Rattle.program_trees.specs.Tree.{expression};
+ghost use Rattle.program_trees.specs.Statements.{optional, declaration_tree};
 ghost use Rattle.secrec_parser.specs.inner.Steps.{declaration_step, initialiser, operand, parenthesised, size};
 ghost use Rattle.secrec_parser.specs.inner.Given.{Takes};
 
 use crate::tokens::at_sign;
 use crate::types::declared_type;
 use expression_parser::{ParseProblem, Read, Stopped, closed, expect, expression, identifier};
-use secrec_ast::{Declaration, Expression};
+use program_trees::{Declaration, Expression};
 use secrec_lexer::{Sign, Token};
 use std::alloc::Global;
 

@@ -1,7 +1,7 @@
 // Functions.
 
 ghost use Rattle.std.specs.Prelude.{◌≡◌, ◌+◌, [], ◌∷◌, length, map};
-ghost use Rattle.secrec_ast.specs.Programs.{block_tree, function_tree};
+ghost use Rattle.program_trees.specs.Programs.{block_tree, function_tree};
 ghost use Rattle.secrec_parser.specs.inner.Steps.{body, comma_then, constraint, domain_variable, function_step, listed, no_comma, no_more_variables};
 ghost use Rattle.secrec_parser.specs.inner.Steps.{parameter, parameter_list, parameters, result_type, template};
 ghost use Rattle.secrec_parser.specs.inner.Given.{Takes};
@@ -10,7 +10,7 @@ use crate::statement::braced;
 use crate::tokens::at_sign;
 use crate::types::declared_type;
 use expression_parser::{Read, closed, expect, identifier};
-use secrec_ast::{Block, DomainVariable, Function, Identifier, Parameter, ResultType};
+use program_trees::{Block, DomainVariable, Function, Identifier, Parameter, ResultType};
 use secrec_lexer::{Sign, Token};
 use std::alloc::Global;
 

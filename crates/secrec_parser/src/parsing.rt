@@ -1,8 +1,8 @@
 // The whole parser.
 
 ghost use Rattle.std.specs.Prelude.{◌≡◌, ◌<◌, ◌≤◌, length, IfOk};
-ghost use Rattle.secrec_ast.specs.Programs.{ProgramTree, program_tree};
-ghost use Rattle.secrec_ast.specs.Heights.{program_height};
+ghost use Rattle.program_trees.specs.Programs.{ProgramTree, program_tree};
+ghost use Rattle.program_trees.specs.Heights.{program_height};
 ghost use Rattle.secrec_parser.specs.Grammar.{IsProgram};
 ghost use Rattle.secrec_parser.specs.FirstFault.{height_limit};
 ghost use Rattle.secrec_parser.specs.Answer.{IsTree, RefusesAtFault, refusal_at};
@@ -10,7 +10,7 @@ ghost use Rattle.secrec_parser.specs.Answer.{IsTree, RefusesAtFault, refusal_at}
 use crate::parse_err::ParseErr;
 use crate::program::program;
 use expression_parser::{ParseProblem, Stopped};
-use secrec_ast::Program;
+use program_trees::Program;
 use secrec_lexer::{Token, Tokens};
 use std::alloc::Global;
 

@@ -1,7 +1,7 @@
 // Programs.
 
 ghost use Rattle.std.specs.Prelude.{◌≡◌, [], length, map};
-ghost use Rattle.secrec_ast.specs.Programs.{item_tree, program_tree};
+ghost use Rattle.program_trees.specs.Programs.{item_tree, program_tree};
 ghost use Rattle.secrec_parser.specs.inner.Steps.{at_end, domain_item, item, item_step, listed, named, program};
 ghost use Rattle.expression_parser.specs.Given.{Gives};
 ghost use Rattle.secrec_parser.specs.inner.Given.{Takes};
@@ -9,7 +9,7 @@ ghost use Rattle.secrec_parser.specs.inner.Given.{Takes};
 use crate::function::function;
 use crate::tokens::{at_end, place_at};
 use expression_parser::{ParseProblem, Read, Stopped, closed, expect, identifier};
-use secrec_ast::{Identifier, Item, Program};
+use program_trees::{Identifier, Item, Program};
 use secrec_lexer::{Sign, Token};
 use std::alloc::Global;
 

@@ -1,7 +1,7 @@
 // Statements that hold no statement, and the heading of a `for`.
 
 ghost use Rattle.std.specs.Prelude.{◌≡◌, ◌+◌, ◌<◌, ◌≤◌, length, Err};
-ghost use Rattle.secrec_ast.specs.Statements.{optional, start_tree, statement, step_tree};
+ghost use Rattle.program_trees.specs.Statements.{optional, start_tree, statement, step_tree};
 ghost use Rattle.secrec_parser.specs.inner.Steps.{action_statement, assert_step, declaration_statement, declares, do_behind, follows_name, headed};
 ghost use Rattle.secrec_parser.specs.inner.Steps.{heading, last_part, last_step, least, name_statement, only_declares, return_step, short};
 ghost use Rattle.secrec_parser.specs.inner.Steps.{start_part, start_step, test_part};
@@ -12,8 +12,8 @@ use crate::declaration::{declaration, operand, parenthesised};
 use crate::leader::{Leader, is_type};
 use crate::tokens::{at_sign, operator_of};
 use expression_parser::{ParseProblem, Read, Stopped, closed, expect};
+use program_trees::{Expression, ForStart, ForStep, Statement};
 use sc_text::Span;
-use secrec_ast::{Expression, ForStart, ForStep, Statement};
 use secrec_lexer::{Sign, Token, TokenKind};
 use std::alloc::Global;
 

@@ -1,7 +1,7 @@
 // Statements.
 
 ghost use Rattle.std.specs.Prelude.{◌≡◌, ◌+◌, ◌-◌, ◌≤◌, true, length, map};
-ghost use Rattle.secrec_ast.specs.Statements.{statement};
+ghost use Rattle.program_trees.specs.Statements.{statement};
 ghost use Rattle.secrec_parser.specs.inner.Steps.{braced, do_step, for_step, if_step, least, led, statement_at_most, while_step};
 ghost use Rattle.secrec_parser.specs.inner.Given.{Takes};
 
@@ -12,8 +12,8 @@ use crate::simple::{
 };
 use crate::tokens::at_sign;
 use expression_parser::{ParseProblem, Read, Stopped, boxed, closed, expect};
+use program_trees::Statement;
 use sc_text::Span;
-use secrec_ast::Statement;
 use secrec_lexer::{Sign, Token};
 use std::alloc::Global;
 

@@ -6,8 +6,8 @@ ghost use Rattle.expression_parser.specs.Steps.{operator_at};
 ghost use Rattle.expression_parser.specs.Given.{Gives};
 
 use expression_parser::{ParseProblem, Read, Stopped};
+use program_trees::Operator;
 use sc_text::Span;
-use secrec_ast::Operator;
 use secrec_lexer::{Sign, Token, TokenKind};
 
 /// Whether the next token is this sign.

@@ -6,7 +6,7 @@ ghost use Rattle.secrec_parser.specs.inner.Given.{Takes};
 
 use crate::tokens::{at_sign, place_at};
 use expression_parser::{ParseProblem, Read, Stopped, closed, data_type, expect};
-use secrec_ast::{DeclaredType, Domain, Identifier};
+use program_trees::{DeclaredType, Domain, Identifier};
 use secrec_lexer::{Sign, Token, TokenKind};
 use std::alloc::Global;
 

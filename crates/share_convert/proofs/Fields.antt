@@ -1,6 +1,6 @@
 -- What is made of words of a field, read where they stand.
 use Rattle.std.proofs.Common.{◌≡◌, ℕ, ◌+◌, ◌*◌, ◌<◌, List, sym, ◌∙◌, ap, arith, bit_xor}
-use Rattle.share_ring.specs.Rings.{add_ring}
+use Rattle.proto_core.specs.Rings.{add_ring}
 use Rattle.proto_core.specs.Lists.{at, each, part}
 use Rattle.proto_core.specs.Elementwise.{plus, minus, zeros}
 use Rattle.proto_core.specs.Resharing.{reshared}

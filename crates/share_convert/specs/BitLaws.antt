@@ -5,9 +5,9 @@ use Rattle.std.specs.Int.Bits.{xor_self, xor_zero_r, xor_assoc}
 use Rattle.std.proofs.lemmas.Nat.{xor_lt, mod_below}
 use Rattle.std.proofs.lemmas.Nat.Bits.{bit_at_lowest, bit_at_xor}
 use Rattle.std.proofs.lemmas.Bool.{cases_lt}
-use Rattle.share_ring.specs.Rings.{add_ring}
-use Rattle.share_ring.specs.RingsKeepLaws.{add_ring_laws}
-use Rattle.share_ring.proofs.Sums.{sub-sub}
+use Rattle.proto_core.specs.Rings.{add_ring}
+use Rattle.proto_core.specs.RingsKeepLaws.{add_ring_laws}
+use Rattle.proto_core.proofs.Sums.{sub-sub}
 use Rattle.proto_core.specs.Lists.{at, each, AreWords}
 use Rattle.proto_core.specs.Strand.{is_bit}
 use Rattle.proto_core.proofs.Each.{length-each, at-each, at-each_past, each-ext, each-is, AreWords-each}

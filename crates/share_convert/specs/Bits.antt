@@ -1,6 +1,6 @@
 -- The lowest bits of words, and words chosen by a bit, element by element.
 use Rattle.std.specs.Prelude.{ℕ, zero, suc, ◌%◌, bit_xor, List}
-use Rattle.share_ring.specs.Rings.{add_ring}
+use Rattle.proto_core.specs.Rings.{add_ring}
 use Rattle.proto_core.specs.Lists.{at, each}
 
 -- the lowest bit, 0 or 1

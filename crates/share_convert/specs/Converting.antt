@@ -1,7 +1,7 @@
 -- The protocol that turns a bit shared by xor into the number 0 or 1 shared modulo 2^64.
 use Rattle.std.specs.Prelude.{◌≡◌, ℕ, ◌*◌, bit_xor, List, [], ◌∷◌, ◌++◌}
 use Rattle.proto_core.specs.Parties.{of_three, previous_of}
-use Rattle.share_ring.specs.Rings.{add_ring}
+use Rattle.proto_core.specs.Rings.{add_ring}
 use Rattle.proto_core.specs.declared.link.Link.TheVariants.{Link12, Link13, Link21, Link23, Link31, Link32}
 use Rattle.proto_core.specs.declared.party.Number.{Number}
 use Rattle.proto_core.specs.declared.party.Number.TheVariants.{One, Two, Three}

@@ -1,7 +1,7 @@
 -- The protocol converts, and each view can be made without the others' shares.
 use Rattle.std.proofs.Common.{◌≡◌, ℕ, ◌*◌, true, List, [], ◌∷◌, ◌++◌, map, length, refl, sym, ◌∙◌, ap, subst, arith, length-append, append_assoc}
-use Rattle.share_ring.specs.Rings.{add_ring}
-use Rattle.share_ring.specs.RingsKeepLaws.{add_ring_laws}
+use Rattle.proto_core.specs.Rings.{add_ring}
+use Rattle.proto_core.specs.RingsKeepLaws.{add_ring_laws}
 use Rattle.proto_core.specs.declared.link.Link.{Link}
 use Rattle.proto_core.specs.declared.link.Link.TheVariants.{Link12, Link13, Link21, Link23, Link31, Link32}
 use Rattle.proto_core.specs.declared.party.Number.{Number}

@@ -1,6 +1,6 @@
 -- What each step of converting gives, by what a miner held before and the message that comes.
 use Rattle.std.specs.Prelude.{◌≡◌, ◌≢◌, ℕ, ◌*◌, ◌++◌, ◌⊎◌, List, [], length}
-use Rattle.share_ring.specs.Rings.{add_ring}
+use Rattle.proto_core.specs.Rings.{add_ring}
 use Rattle.proto_core.specs.declared.refused.BadMessage.{BadMessage}
 use Rattle.proto_core.specs.declared.refused.BadMessage.TheVariants.{BadLength}
 use Rattle.proto_core.specs.Elementwise.{plus, minus, zeros}

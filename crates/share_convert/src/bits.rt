@@ -2,10 +2,9 @@ ghost use Rattle.std.specs.Prelude.{◌≡◌, ◌+◌, ◌≤◌, ◌↔◌, le
 ghost use Rattle.proto_core.specs.Refusals.{AreBits, WrongBit};
 ghost use Rattle.share_convert.specs.Bits.{chosen, bits, xor_bits, bits_less, one_less_where, negative_where};
 ghost use Rattle.share_convert.specs.Steps.{HasBits, LacksBits};
-ghost use Rattle.share_ring.specs.Rings.{add_ring};
+ghost use Rattle.proto_core.specs.Rings.{add_ring};
 
-use proto_core::{BadMessage, Block, Msg};
-use share_ring::{AddRing, ShareRing, XorRing};
+use proto_core::{AddRing, BadMessage, Block, Msg, ShareRing, XorRing};
 
 /// Whether a message has `want` words of which the n from number `from` on are bits; else why not, the length first.
 pub fn check_message(msg: &Msg, want: usize, from: usize, n: usize) -> Result<(), BadMessage>

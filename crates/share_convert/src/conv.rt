@@ -5,9 +5,9 @@ ghost use Rattle.share_convert.specs.Steps.{HasBits, OneStarts, Got31, Got12, Go
 
 use crate::bits::{check_message, lowest_bits, masked_bits, negated, one_less, xored_bits};
 use proto_core::{
-    Block, Msg, P1, P2, P3, Refused, add_blocks, reshare, subtract_blocks, zero_block,
+    AddRing, Block, Msg, P1, P2, P3, Refused, XorRing, add_blocks, reshare, subtract_blocks,
+    zero_block,
 };
-use share_ring::{AddRing, XorRing};
 use std::marker::{Model, PhantomData};
 
 /// What is awaited, by what is held meanwhile: each is 1 or 0.

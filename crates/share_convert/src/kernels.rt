@@ -1,13 +1,13 @@
 // What converting makes of words, place by place.
 ghost use Rattle.std.specs.Prelude.{◌≡◌, ◌+◌, ◌*◌, ◌≤◌, [], length};
-ghost use Rattle.share_ring.specs.Rings.{add_ring};
+ghost use Rattle.proto_core.specs.Rings.{add_ring};
 ghost use Rattle.proto_core.specs.Lists.{part};
 ghost use Rattle.proto_core.specs.Elementwise.{minus};
 ghost use Rattle.share_convert.specs.Bits.{bits, xor_bits, bits_less};
 ghost use Rattle.share_convert.specs.ConvStrand.{one_share, two_share, three_share};
 
 use crate::bits::{choose, negative};
-use share_ring::{AddRing, ShareRing};
+use proto_core::{AddRing, ShareRing};
 
 /// Keeps the lowest bit of each word.
 pub(crate) fn keep_lowest(x: &mut [u64])

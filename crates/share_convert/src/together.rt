@@ -1,13 +1,12 @@
 ghost use Rattle.std.specs.Prelude.{◌≡◌, ◌*◌, length};
-ghost use Rattle.share_ring.specs.Rings.{add_ring};
+ghost use Rattle.proto_core.specs.Rings.{add_ring};
 ghost use Rattle.proto_core.specs.Resharing.{sum_of_three};
 ghost use Rattle.share_convert.specs.Bits.{xor_bits_of_three};
 ghost use Rattle.proto_core.specs.Joints.{joint_of};
 ghost use Rattle.share_convert.specs.Parts.{AreParts};
 
 use crate::conv::{Conv, First, Sent};
-use proto_core::{Block, Msg, P1, P2, P3};
-use share_ring::{AddRing, XorRing};
+use proto_core::{AddRing, Block, Msg, P1, P2, P3, XorRing};
 
 /// What one miner begins with: its shares of n bits, and its drawn words, 4n of the first miner and n of each other.
 #[derive(Drop)]

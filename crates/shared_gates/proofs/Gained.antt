@@ -1,8 +1,8 @@
 -- What the outputs of a whole gate are shares of.
 use Rattle.std.proofs.Common.{◌≡◌, ℕ, ◌%◌, ◌<◌, ◌^◌, Bool, true, false, List, [], ◌∷◌, length, map, bit_xor, refl, sym, ◌∙◌, ap, subst}
 use Rattle.std.proofs.lemmas.Nat.{xor_lt}
-use Rattle.share_ring.specs.Ring.{Ring, RingLaws}
-use Rattle.share_ring.specs.Rings.{add_ring, xor_ring}
+use Rattle.proto_core.specs.Ring.{Ring, RingLaws}
+use Rattle.proto_core.specs.Rings.{add_ring, xor_ring}
 use Rattle.proto_core.specs.declared.party.Number.{Number}
 use Rattle.proto_core.specs.declared.party.Number.TheVariants.{One, Two, Three}
 use Rattle.proto_core.specs.Lists.{at, AreWords}

@@ -6,9 +6,9 @@ use Rattle.std.proofs.lemmas.Nat.{mod_below, pow_pos}
 use Rattle.std.proofs.lemmas.List.FromFn.{length-map-range_with_len, get_or-map-range_with_len}
 use Rattle.std.proofs.lemmas.List.Concat.{flat_map-cons}
 use Rattle.std.proofs.lemmas.List.Sums.{sum_by-cons}
-use Rattle.share_ring.specs.Ring.{Ring, RingLaws}
-use Rattle.share_ring.specs.Rings.{add_ring, xor_ring}
-use Rattle.share_ring.specs.RingsKeepLaws.{add_ring_laws, xor_ring_laws}
+use Rattle.proto_core.specs.Ring.{Ring, RingLaws}
+use Rattle.proto_core.specs.Rings.{add_ring, xor_ring}
+use Rattle.proto_core.specs.RingsKeepLaws.{add_ring_laws, xor_ring_laws}
 use Rattle.proto_core.specs.declared.party.Number.{Number}
 use Rattle.proto_core.specs.declared.party.Number.TheVariants.{One, Two, Three}
 use Rattle.proto_core.specs.Lists.{at, AreWords}

@@ -1,7 +1,7 @@
 -- Sums of three in a ring: of sums, of differences and of products with one factor.
 use Rattle.std.proofs.Common.{◌≡◌, ℕ, ◌<◌, ◌^◌, sym, ◌∙◌, ap}
-use Rattle.share_ring.specs.Ring.{Ring, RingLaws}
-use Rattle.share_ring.proofs.Sums.{add-left_comm, zero-zero, cancel_right, add-mul}
+use Rattle.proto_core.specs.Ring.{Ring, RingLaws}
+use Rattle.proto_core.proofs.Sums.{add-left_comm, zero-zero, cancel_right, add-mul}
 use Rattle.shared_gates.specs.Shares.{sum_of}
 
 pub sum-same : (r : Ring) (a b c x y z : ℕ) → a ≡ x → b ≡ y → c ≡ z → sum_of r a b c ≡ sum_of r x y z

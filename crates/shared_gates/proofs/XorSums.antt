@@ -5,7 +5,7 @@ use Rattle.std.specs.Prelude.{bit_xor}
 use Rattle.std.proofs.Math.Nat.{mod-eq_of_lt, div-le_self}
 use Rattle.std.proofs.lemmas.Nat.{mod_below, pow_pos, xor_lt, xor_mod, xor_shr, xor_block}
 use Rattle.std.proofs.lemmas.Nat.Bits.{same_from_bits_below, bit_at_xor, bit_at-lt, bit_at_not}
-use Rattle.share_ring.specs.Rings.{xor_ring}
+use Rattle.proto_core.specs.Rings.{xor_ring}
 use Rattle.blocked_protocol.specs.BitLaws.{bit-xor}
 use Rattle.shared_gates.specs.Shares.{sum_of}
 

@@ -1,7 +1,7 @@
 -- Gates as the three miners run them: each interactive one is a protocol on all elements, block after block.
 use Rattle.std.specs.Prelude.{◌≡◌, ℕ, ◌+◌, ◌*◌, ◌<◌, ◌≤◌, List, [], ◌∷◌, ◌++◌, Some, None, length}
 use Rattle.proto_core.specs.Parties.{of_three}
-use Rattle.share_ring.specs.Rings.{add_ring, xor_ring}
+use Rattle.proto_core.specs.Rings.{add_ring, xor_ring}
 use Rattle.proto_core.specs.declared.party.Number.{Number}
 use Rattle.proto_core.specs.Protocol.{Protocol}
 use Rattle.protocol_model.specs.Gates.{Joined, Local}

@@ -1,6 +1,6 @@
 -- Values that three miners hold.
 use Rattle.std.specs.Prelude.{◌≡◌, ℕ, zero, suc, ◌<◌, List, [], ◌∷◌, length}
-use Rattle.share_ring.specs.Ring.{Ring}
+use Rattle.proto_core.specs.Ring.{Ring}
 use Rattle.proto_core.specs.declared.party.Number.{Number}
 use Rattle.proto_core.specs.declared.party.Number.TheVariants.{One, Two, Three}
 use Rattle.proto_core.specs.Lists.{at, AreWords}

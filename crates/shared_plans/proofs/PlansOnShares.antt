@@ -3,8 +3,8 @@ use Rattle.std.proofs.Common.{◌≡◌, ℕ, ◌+◌, ◌<◌, ◌^◌, Some, L
 use Rattle.std.specs.Prelude.{slice_get}
 use Rattle.std.proofs.lemmas.Bool.{cases_lt}
 use Rattle.std.proofs.lemmas.Bool.Decides.{nat_tests}
-use Rattle.share_ring.specs.Rings.{add_ring, xor_ring}
-use Rattle.share_ring.specs.RingsKeepLaws.{add_ring_laws}
+use Rattle.proto_core.specs.Rings.{add_ring, xor_ring}
+use Rattle.proto_core.specs.RingsKeepLaws.{add_ring_laws}
 use Rattle.proto_core.specs.declared.party.Number.{Number}
 use Rattle.protocol_model.specs.Runs.{Tapes}
 use Rattle.gates.specs.declared.gate.Gate.{Gate}

@@ -1,5 +1,5 @@
 ghost use Rattle.std.specs.Prelude.{◌≡◌, ◌<◌, ℕ, ◌+◌, List, ◌++◌, length, map};
-ghost use Rattle.share_ring.specs.Rings.{add_ring, xor_ring};
+ghost use Rattle.proto_core.specs.Rings.{add_ring, xor_ring};
 ghost use Rattle.proto_core.specs.declared.party.Number.{Number};
 ghost use Rattle.protocol_model.specs.Runs.{Tapes};
 ghost use Rattle.gates.specs.declared.ring_kind.RingKind.TheVariants.{Arithmetic};

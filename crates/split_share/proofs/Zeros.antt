@@ -1,7 +1,7 @@
 -- Words that are all zero.
 use Rattle.std.proofs.Common.{◌≡◌, ℕ, replicate, sym}
 use Rattle.std.proofs.lemmas.List.{length-replicate, get_or-replicate}
-use Rattle.share_ring.specs.Rings.{xor_ring}
+use Rattle.proto_core.specs.Rings.{xor_ring}
 use Rattle.proto_core.specs.Elementwise.{zeros}
 use Rattle.proto_core.proofs.Each.{each-is}
 

@@ -1,7 +1,7 @@
 -- The protocol that splits a number shared modulo 2^64 into two words, shared by xor, whose sum or difference it is.
 use Rattle.std.specs.Prelude.{◌≡◌, ℕ, Bool, true, false, List, [], ◌∷◌}
 use Rattle.proto_core.specs.Parties.{of_three}
-use Rattle.share_ring.specs.Rings.{add_ring, xor_ring}
+use Rattle.proto_core.specs.Rings.{add_ring, xor_ring}
 use Rattle.proto_core.specs.declared.link.Link.TheVariants.{Link12, Link13}
 use Rattle.proto_core.specs.declared.party.Number.{Number}
 use Rattle.proto_core.specs.declared.party.Number.TheVariants.{One, Two, Three}

@@ -1,6 +1,6 @@
 -- What each step of splitting gives, by what a miner holds and the message that comes.
 use Rattle.std.specs.Prelude.{◌≡◌, ℕ, false, List, length}
-use Rattle.share_ring.specs.Rings.{add_ring, xor_ring}
+use Rattle.proto_core.specs.Rings.{add_ring, xor_ring}
 use Rattle.proto_core.specs.Elementwise.{minus, zeros}
 use Rattle.split_share.specs.SplitStrand.{Held, signed_sum}
 

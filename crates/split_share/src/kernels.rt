@@ -1,11 +1,11 @@
 // What splitting makes of words, place by place.
 ghost use Rattle.std.specs.Prelude.{◌≡◌, length, IfOk};
-ghost use Rattle.share_ring.specs.Rings.{add_ring, xor_ring};
+ghost use Rattle.proto_core.specs.Rings.{add_ring, xor_ring};
 ghost use Rattle.proto_core.specs.Elementwise.{minus, zeros};
 ghost use Rattle.split_share.specs.SplitStrand.{signed_sum};
 
 use crate::split::with_sign;
-use share_ring::{AddRing, ShareRing};
+use proto_core::{AddRing, ShareRing};
 use std::alloc::{AllocError, Global};
 
 /// Takes the words of `y` away from those of `x`.

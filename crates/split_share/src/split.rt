@@ -3,8 +3,9 @@ ghost use Rattle.proto_core.specs.Refusals.{WrongLength};
 ghost use Rattle.split_share.specs.SplitStrand.{signed, signed_sum, held_of};
 ghost use Rattle.split_share.specs.Steps.{OneSplits, Got12, Got13};
 
-use proto_core::{Block, Msg, P1, P2, P3, Refused, subtract_blocks, zero_block};
-use share_ring::{AddRing, ShareRing, XorRing};
+use proto_core::{
+    AddRing, Block, Msg, P1, P2, P3, Refused, ShareRing, XorRing, subtract_blocks, zero_block,
+};
 use std::marker::{Model, PhantomData};
 
 /// The first miner has sent its messages, and awaits none.

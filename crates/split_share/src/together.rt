@@ -1,5 +1,5 @@
 ghost use Rattle.std.specs.Prelude.{◌≡◌, [], length};
-ghost use Rattle.share_ring.specs.Rings.{add_ring, xor_ring};
+ghost use Rattle.proto_core.specs.Rings.{add_ring, xor_ring};
 ghost use Rattle.proto_core.specs.declared.party.Number.TheVariants.{One, Two, Three};
 ghost use Rattle.proto_core.specs.Resharing.{sum_of_three};
 ghost use Rattle.split_share.specs.Splitting.{sum_or_difference};
@@ -7,8 +7,7 @@ ghost use Rattle.proto_core.specs.Joints.{joint_of};
 ghost use Rattle.split_share.specs.Parts.{AreSent, AreShares};
 
 use crate::split::{Sent, Split, Waiting};
-use proto_core::{Block, Msg, P1, P2, P3};
-use share_ring::{AddRing, XorRing};
+use proto_core::{AddRing, Block, Msg, P1, P2, P3, XorRing};
 
 /// The messages that went over the two links, and each miner's shares of both words.
 #[derive(Drop)]

@@ -1,5 +1,5 @@
 ghost use Rattle.std.specs.Prelude.{◌≡◌, ◌≤◌, ◌++◌, ◌∷◌, [], false, length, IfOk, OnOk};
-ghost use Rattle.share_ring.specs.Rings.{add_ring, xor_ring};
+ghost use Rattle.proto_core.specs.Rings.{add_ring, xor_ring};
 ghost use Rattle.proto_core.specs.Elementwise.{minus, zeros};
 ghost use Rattle.split_share.specs.SplitStrand.{signed_sum, held_of};
 

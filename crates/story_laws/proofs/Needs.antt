@@ -21,9 +21,9 @@ use Rattle.shared_gates.specs.LocalGates.{local_share}
 use Rattle.shared_gates.specs.Model.{AllSizesSuit, SizesSuit, run_gates, sizes_after, sizes_made}
 use Rattle.shared_gates.proofs.GatesBehind.{gates-then, sizes-then, suits-then}
 use Rattle.shared_gates.proofs.Models.{local-size}
-use Rattle.joint_run.specs.declared.exchange.Exchange.{Exchange}
-use Rattle.joint_run.specs.declared.exchange.Exchange.TheVariants.{Product, Splitting, Conversion, Opening, Resharing}
-use Rattle.joint_run.specs.Exchanges.{protocol_of}
+use Rattle.gate_exchanges.specs.declared.exchange.Exchange.{Exchange}
+use Rattle.gate_exchanges.specs.declared.exchange.Exchange.TheVariants.{Product, Splitting, Conversion, Opening, Resharing}
+use Rattle.gate_exchanges.specs.Exchanges.{protocol_of}
 use Rattle.gate_node.specs.Suiting.{suits}
 use Rattle.gate_node.specs.OwnGates.{Halted, Whole, Stuck, own_gate, own_draws, can_run, own_gates}
 use Rattle.gate_node.proofs.Always.{EndsAlways, HaveSizes, always-then, gate-sized}

@@ -1,4 +1,5 @@
 pub mod Stories
+pub mod WholeTapes
 pub mod Alike
 pub mod Drawn
 pub mod DrawnLaws

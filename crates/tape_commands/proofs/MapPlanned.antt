@@ -5,7 +5,7 @@ use Rattle.command_frame.specs.Answer.{Effect}
 use Rattle.command_words.specs.Ask.{MapAsk}
 use Rattle.clear_eval.specs.Reports.{report_seen}
 use Rattle.language_model.specs.Reports.{Report}
-use Rattle.typed_tree.specs.Programs.{TypedProgramTree}
+use Rattle.program_trees.specs.TypedPrograms.{TypedProgramTree}
 use Rattle.value_file.specs.declared.inputs.Entry.{Entry}
 use Rattle.value_file.specs.Public.{part_bytes, part_of}
 use Rattle.tape_file.specs.Format.{tape_bytes}

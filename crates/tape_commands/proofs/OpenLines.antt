@@ -3,7 +3,7 @@ use Rattle.std.proofs.Common.{◌≡◌, ◌<◌, ℕ, ◌+◌, List, [], ◌∷
 use Rattle.std.proofs.lemmas.List.{map-append, take_more}
 use Rattle.sc_text.specs.declared.elements.Element.{Element}
 use Rattle.sc_text.specs.declared.event.Event.{Event}
-use Rattle.sc_text.specs.declared.event.Event.TheVariants.{Open, Publish}
+use Rattle.sc_text.specs.declared.event.Event.TheVariants.{Open, Publish, Hand}
 use Rattle.sc_text.specs.Elements.{elements_text}
 use Rattle.sc_text.specs.Event.{event_line}
 use Rattle.view_text.specs.Text.{Opened, lines_bytes}
@@ -17,6 +17,7 @@ openings_more : (es : List Event) (e : Event) → openings (es ++ e ∷ []) ≡ 
 openings_more [] e = refl
 openings_more (Open elements ∷ es) e = ap (λ (os : List (List Element)). elements ∷ os) (openings_more es e)
 openings_more (Publish text elements ∷ es) e = openings_more es e
+openings_more (Hand text elements ∷ es) e = openings_more es e
 
 one_line_more : (os : List (List Element)) (elements : List Element)
     → opened_bytes (os ++ elements ∷ []) ≡ opened_bytes os ++ 111 ∷ 112 ∷ 101 ∷ 110 ∷ (elements_text elements ++ 10 ∷ [])
@@ -37,6 +38,12 @@ pub opening_told : (events : List Event) (k : ℕ) (d e : Event) (elements : Lis
 opening_told events k d e elements lt is opens =
     ap opened_bytes (taken_more events k d e lt is ∙ ap (λ (x : Event). openings (take k events) ++ openings (x ∷ [])) opens)
     ∙ one_line_more (openings (take k events)) elements
+
+-- only an opening opens anything
+pub none_opened : (e : Event) → ((elements : List Element) → e ≡ Open elements → ⊥) → openings (e ∷ []) ≡ []
+none_opened (Open elements) h = absurd (h elements refl)
+none_opened (Publish text elements) h = refl
+none_opened (Hand text elements) h = refl
 
 pub none_told : (events : List Event) (k : ℕ) (d e : Event) → k < length events → e ≡ get_or events k d → openings (e ∷ []) ≡ []
     → opened_bytes (openings (take (k + 1) events)) ≡ opened_bytes (openings (take k events))

@@ -5,7 +5,7 @@ use Rattle.command_frame.specs.declared.stop.Stop.{Stop}
 use Rattle.command_frame.specs.Answer.{Effect}
 use Rattle.command_frame.specs.Reads.{StopNames, Stops}
 use Rattle.command_words.specs.Ask.{TwinAsk}
-use Rattle.typed_tree.specs.Programs.{TypedProgramTree}
+use Rattle.program_trees.specs.TypedPrograms.{TypedProgramTree}
 use Rattle.value_file.specs.declared.inputs.Entry.{Entry}
 use Rattle.tape_file.specs.Format.{tape_bytes}
 use Rattle.tape_file.specs.Tapes.{FourTapes}

@@ -5,7 +5,7 @@ use Rattle.command_frame.specs.declared.status.Status.TheVariants.{Done}
 use Rattle.command_frame.specs.Answer.{Answer, Effect, ◌>>=◌}
 use Rattle.command_words.specs.Ask.{MapAsk}
 use Rattle.proto_core.specs.declared.party.Number.{Number}
-use Rattle.typed_tree.specs.Programs.{TypedProgramTree}
+use Rattle.program_trees.specs.TypedPrograms.{TypedProgramTree}
 use Rattle.value_file.specs.declared.inputs.Entry.{Entry}
 use Rattle.value_file.specs.Public.{part_bytes, part_of}
 use Rattle.tape_file.specs.Format.{tape_bytes}

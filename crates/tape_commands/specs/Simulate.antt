@@ -10,7 +10,7 @@ use Rattle.command_frame.specs.declared.stop.Stop.TheVariants as stops
 use Rattle.command_words.specs.Ask.{SimulateAsk}
 use Rattle.sc_text.specs.declared.end.Ending.{Ending}
 use Rattle.protocol_model.specs.Network.{Answer as NetAnswer, Delivery}
-use Rattle.typed_tree.specs.Programs.{TypedProgramTree}
+use Rattle.program_trees.specs.TypedPrograms.{TypedProgramTree}
 use Rattle.value_file.specs.declared.public.PublicEntry.{PublicEntry}
 use Rattle.tape_file.specs.Tapes.{FourTapes}
 use Rattle.language_model.specs.Effects.{Ended, Short, RunStop}

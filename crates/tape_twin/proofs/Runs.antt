@@ -2,7 +2,7 @@
 use Rattle.std.proofs.Common.{◌≡◌, ◌≤◌, ℕ, List, ◌++◌, All, sym, ◌∙◌, ap, subst, inl, inr, arith}
 use Rattle.proto_core.specs.declared.party.Number.{Number}
 use Rattle.gates.specs.declared.gate.Gate.{Gate}
-use Rattle.typed_tree.specs.Programs.{TypedProgramTree}
+use Rattle.program_trees.specs.TypedPrograms.{TypedProgramTree}
 use Rattle.value_file.specs.declared.inputs.Entry.{Entry}
 use Rattle.value_file.specs.declared.public.PublicEntry.{PublicEntry}
 use Rattle.value_file.specs.Input.{AreInputs}

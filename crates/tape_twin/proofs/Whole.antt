@@ -15,10 +15,10 @@ use Rattle.joint_run.specs.JointRuns as joint
 use Rattle.value_file.specs.declared.inputs.Entry.{Entry}
 use Rattle.input_share.specs.Dealing.{need_of}
 use Rattle.tape_file.specs.Tapes.{FourTapes}
-use Rattle.gate_maps.specs.declared.way.Way.{Way}
-use Rattle.gate_maps.specs.declared.way.Way.TheVariants.{ToView, FromView}
-use Rattle.gate_maps.specs.Maps.{gates_map, run_map}
-use Rattle.gate_maps.proofs.Passing.{same_for}
+use Rattle.tape_twin.specs.declared.way.Way.{Way}
+use Rattle.tape_twin.specs.declared.way.Way.TheVariants.{ToView, FromView}
+use Rattle.tape_twin.specs.Maps.{gates_map, run_map}
+use Rattle.tape_twin.proofs.Passing.{same_for}
 use Rattle.view_model.specs.Dealing.{dealt_to, private_sizes, seen_dealer}
 use Rattle.view_model.specs.TapeMaps.{miners_of, four_of, no_values, gates_dealt, to_simulated, from_simulated, Reaches, CanRun}
 use Rattle.view_model.proofs.Dealings.{seen_length}

@@ -4,7 +4,7 @@ use Rattle.std.specs.Option.{option_or}
 use Rattle.value_file.specs.declared.public.PublicEntry.{PublicEntry}
 use Rattle.value_file.specs.declared.inputs.Entry.{Entry}
 use Rattle.value_file.specs.Public.{part_of}
-use Rattle.typed_tree.specs.Programs.{TypedProgramTree}
+use Rattle.program_trees.specs.TypedPrograms.{TypedProgramTree}
 use Rattle.language_model.specs.Effects.{GivenInput}
 use Rattle.language_model.specs.Evaluation.{same_truth, same_shape}
 use Rattle.clear_eval.specs.Offers.{part_given}

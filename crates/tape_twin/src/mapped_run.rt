@@ -1,7 +1,7 @@
 // A program's run, and the tapes that a miner's view of it is made of.
 ghost use Rattle.std.specs.Prelude.{◌≡◌, IfOk};
-ghost use Rattle.typed_tree.specs.Programs.{typed_program_tree};
-ghost use Rattle.typed_tree.specs.Sound.{IsSound};
+ghost use Rattle.program_trees.specs.TypedPrograms.{typed_program_tree};
+ghost use Rattle.program_trees.specs.Sound.{IsSound};
 ghost use Rattle.value_file.specs.Input.{AreInputs};
 ghost use Rattle.clear_eval.specs.Reports.{report_seen};
 ghost use Rattle.program_views.specs.Views.{lengths_of, run_on};
@@ -11,10 +11,10 @@ ghost use Rattle.program_views.specs.Accepted.{IsAcceptedProgram};
 use crate::running::report_on;
 use crate::tape_maps::to_simulated;
 use clear_eval::Report;
+use program_trees::TypedProgram;
 use proto_core::Number;
 use std::alloc::{AllocError, Global};
 use tape_file::Tapes;
-use typed_tree::TypedProgram;
 use value_file::Inputs;
 
 /// A program's run in the clear, and the tapes that a miner's view of it is made of.

@@ -1,17 +1,17 @@
 // The two maps of a program's tapes.
 ghost use Rattle.std.specs.Prelude.{◌≡◌, IfOk};
-ghost use Rattle.typed_tree.specs.Programs.{typed_program_tree};
-ghost use Rattle.typed_tree.specs.Sound.{IsSound};
+ghost use Rattle.program_trees.specs.TypedPrograms.{typed_program_tree};
+ghost use Rattle.program_trees.specs.Sound.{IsSound};
 ghost use Rattle.value_file.specs.Input.{AreInputs};
 ghost use Rattle.program_views.specs.TapeMaps.{mapped, mapped_back};
 ghost use Rattle.program_views.specs.Accepted.{IsAcceptedProgram};
 
 use crate::running::report_on;
 use crate::tape_maps::{from_simulated, to_simulated};
+use program_trees::TypedProgram;
 use proto_core::Number;
 use std::alloc::{AllocError, Global};
 use tape_file::Tapes;
-use typed_tree::TypedProgram;
 use value_file::Inputs;
 
 /// The tapes that a miner's view of an accepted program's run on these inputs and tapes is made of: as many words of each party, and the

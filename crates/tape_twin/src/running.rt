@@ -1,7 +1,7 @@
 // A program's run in the clear.
 ghost use Rattle.std.specs.Prelude.{◌≡◌, IfOk};
-ghost use Rattle.typed_tree.specs.Programs.{typed_program_tree};
-ghost use Rattle.typed_tree.specs.Sound.{IsSound};
+ghost use Rattle.program_trees.specs.TypedPrograms.{typed_program_tree};
+ghost use Rattle.program_trees.specs.Sound.{IsSound};
 ghost use Rattle.value_file.specs.Input.{AreInputs};
 ghost use Rattle.clear_eval.specs.Reports.{report_seen};
 ghost use Rattle.view_model.specs.TapeMaps.{CanRun};
@@ -10,9 +10,9 @@ ghost use Rattle.program_views.specs.Accepted.{IsAcceptedProgram};
 
 use clear_eval::{Report, eval};
 use input_share::see_entries;
+use program_trees::TypedProgram;
 use std::alloc::{AllocError, Global};
 use tape_file::Tapes;
-use typed_tree::TypedProgram;
 use value_file::Inputs;
 use view_model::see_tapes;
 

@@ -4,12 +4,13 @@ ghost use Rattle.joint_run.specs.Three.{values_of};
 ghost use Rattle.joint_run.specs.JointRuns.{IsEven};
 ghost use Rattle.joint_run.specs.JointRuns as joint;
 ghost use Rattle.joint_run.specs.declared.joint_err.JointErr.TheVariants.{Memory};
-ghost use Rattle.gate_maps.specs.Maps.{run_map};
+ghost use Rattle.tape_twin.specs.Maps.{run_map};
 ghost use Rattle.view_model.specs.TapeMaps.{miners_of, four_of, to_simulated, from_simulated, CanRun};
 
 use crate::dealer::seen_dealer;
 use crate::dealt::dealt_values;
-use gate_maps::{ViewMap, Way, map_gates};
+use crate::walk::map_gates;
+use crate::way::{ViewMap, Way};
 use gates::Gate;
 use joint_run::{JointErr, SharedValues, Tapes as MinersTapes};
 use proto_core::Number;

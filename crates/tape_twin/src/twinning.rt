@@ -1,7 +1,7 @@
 // Twin tapes.
 ghost use Rattle.std.specs.Prelude.{◌≡◌, IfOk, IfErr, OnOk};
-ghost use Rattle.typed_tree.specs.Programs.{typed_program_tree};
-ghost use Rattle.typed_tree.specs.Sound.{IsSound};
+ghost use Rattle.program_trees.specs.TypedPrograms.{typed_program_tree};
+ghost use Rattle.program_trees.specs.Sound.{IsSound};
 ghost use Rattle.value_file.specs.Input.{AreInputs};
 ghost use Rattle.program_views.specs.Views.{lengths_of};
 ghost use Rattle.program_views.specs.TapeMaps.{twinned, AreAlike};
@@ -12,10 +12,10 @@ use crate::alike::{first_difference, public_difference};
 use crate::running::report_on;
 use crate::tape_maps::{from_simulated, to_simulated};
 use crate::twin_err::TwinErr;
+use program_trees::TypedProgram;
 use proto_core::Number;
 use std::alloc::Global;
 use tape_file::Tapes;
-use typed_tree::TypedProgram;
 use value_file::Inputs;
 use view_model::see_tapes;
 

@@ -4,7 +4,7 @@ use Rattle.std.specs.Option.{option_or}
 use Rattle.std.specs.Prelude.{Option, Some, None, Result, Ok, Err}
 use Rattle.sc_text.specs.declared.elements.Element.{Element}
 use Rattle.sc_text.specs.declared.end.End.{End}
-use Rattle.sc_text.specs.declared.event.Event.TheVariants.{Publish}
+use Rattle.sc_text.specs.declared.event.Event.TheVariants.{Hand}
 use Rattle.sc_text.specs.Event.{event_line}
 use Rattle.language_model.specs.Values.{element_of}
 use Rattle.code_runs.specs.Places.{field_of}
@@ -63,7 +63,7 @@ elements_added s second third = map (element_of s.element) (all_added_up (field_
 
 -- a share is published as this value; another line stands as it is
 abbrev pub joined_line : MinerLine → (second third : List ℕ) → List ℕ
-joined_line (lines.Share s) second third = event_line (Publish s.name (elements_added s second third))
+joined_line (lines.Share s) second third = event_line (Hand s.name (elements_added s second third))
 joined_line l second third = line_text l
 
 -- the words of a share; of another line, or of none, there are none

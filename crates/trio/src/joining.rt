@@ -52,7 +52,7 @@ fn push_joined(
     if let MinerLine::Share(share) = line {
         let name = share.name().copy(alloc)?;
         let elements = elements_added(alloc, share, second, third)?;
-        let event = Event::Publish(name, elements);
+        let event = Event::Hand(name, elements);
         write!(text, "{event}")?;
     } else {
         write!(text, "{line}")?;

@@ -4,3 +4,6 @@ mod LaunchesBack
 pub mod Planned
 pub mod Prepares
 pub mod Ran
+pub mod Joins
+pub mod Refusals
+pub mod Said

@@ -14,8 +14,8 @@ use Rattle.command_frame.specs.Stops.{IsBreachFor}
 use Rattle.command_frame.proofs.Deciding.{unchanged}
 use Rattle.command_frame.proofs.Statuses.{clash}
 use Rattle.command_words.specs.Ask.{TrioAsk}
-use Rattle.join_command.specs.Join.{IsJoinStop, joined_effect, texts_joined}
-use Rattle.join_command.proofs.Joins.{all_decided, join_anyhow, join_names, join_stops, texts_only_read, unnamed_breach}
+use Rattle.trio_command.specs.Join.{IsJoinStop, joined_effect, texts_joined}
+use Rattle.trio_command.proofs.Joins.{all_decided, join_anyhow, join_names, join_stops, texts_only_read, unnamed_breach}
 use Rattle.proto_core.specs.declared.party.Number.{Number}
 use Rattle.proto_core.specs.declared.party.Number.TheVariants.{One, Two, Three}
 use Rattle.trio.specs.Answers.{TextsRead}

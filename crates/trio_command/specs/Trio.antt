@@ -5,9 +5,9 @@ use Rattle.command_frame.specs.declared.status.Status.TheVariants as statuses
 use Rattle.command_frame.specs.Answer.{Answer, Cause, Course, Effect, Written, after_writes, at_once, ◌>>=◌}
 use Rattle.command_words.specs.Ask.{CompileAsk, TrioAsk}
 use Rattle.input_share.specs.Dealing.{need_of}
-use Rattle.join_command.specs.Join.{texts_joined}
-use Rattle.node_faults.specs.Faults.{node_fault_line}
-use Rattle.node_faults.specs.declared.fault.NodeFault.TheVariants.{ChildStatus}
+use Rattle.trio_command.specs.Join.{texts_joined}
+use Rattle.command_frame.specs.Faults.{node_fault_line}
+use Rattle.command_frame.specs.declared.fault.NodeFault.TheVariants.{ChildStatus}
 use Rattle.proto_core.specs.declared.party.Number.{Number}
 use Rattle.proto_core.specs.declared.party.Number.TheVariants.{One, Two, Three}
 use Rattle.sc_text.specs.Event.{run_text}

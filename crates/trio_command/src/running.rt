@@ -1,14 +1,13 @@
 // The three miners, and the texts that they write.
 ghost use Rattle.std.specs.Prelude.{◌≡◌, IfOk, string_bytes};
 ghost use Rattle.command_words.specs.Views.{trio_ask};
-ghost use Rattle.node_faults.specs.Faults.{node_fault_line};
-ghost use Rattle.node_faults.specs.declared.fault.NodeFault.TheVariants.{ChildStatus};
+ghost use Rattle.command_frame.specs.Faults.{node_fault_line};
+ghost use Rattle.command_frame.specs.declared.fault.NodeFault.TheVariants.{ChildStatus};
 ghost use Rattle.trio_command.specs.inner.Runs.{AreOutPaths, IsChildStop, IsRunStop, IsTextsStop, MinersRan};
 
-use command_frame::{Object, Plan, Status, Stop, breached};
+use crate::{TextPaths, join_stop, joined_plan};
+use command_frame::{NodeFault, Object, Plan, Status, Stop, breached};
 use command_words::TrioWords;
-use join_command::{TextPaths, join_stop, joined_plan};
-use node_faults::NodeFault;
 use outside::{Files, Spawner};
 use proto_core::Number;
 use std::alloc::{AllocError, Global};

@@ -1,7 +1,7 @@
 // An operator and its operands, side by side: a scalar meets every element of an array.
 use crate::value::{Secrecy, Value};
+use program_trees::{Operands, Operation, Shape};
 use std::alloc::{AllocError, Global};
-use typed_tree::{Operands, Operation, Shape};
 
 /// An operation between two values.
 #[derive(Clone, Copy)]

@@ -11,9 +11,9 @@ use crate::stage::Stage;
 use crate::steps::{charge, charged_array, test_at};
 use crate::value::{Secrecy, Value};
 use gates::Gate;
+use program_trees::Shape;
 use sc_text::TrapKind;
 use std::alloc::{AllocError, Global};
-use typed_tree::Shape;
 
 /// Words with more after them.
 fn extended(mut words: Vec<u64>, more: &[u64]) -> Result<Vec<u64>, AllocError>

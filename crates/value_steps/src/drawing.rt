@@ -1,7 +1,7 @@
 // The random words of the miners' tapes.
 ghost use Rattle.std.specs.Prelude.{◌≡◌, ◌+◌, ◌≤◌, IfOk};
 ghost use Rattle.language_model.specs.Effects.{fits, draw, words_each};
-ghost use Rattle.typed_tree.specs.declared.operators.BinaryOperator.TheVariants.{Bools as OnBools, Words as OnWords};
+ghost use Rattle.program_trees.specs.declared.operators.BinaryOperator.TheVariants.{Bools as OnBools, Words as OnWords};
 ghost use Rattle.language_model.specs.Operations.{words_for_equality, words_for_bits, words_for_order, words_for_conversion};
 ghost use Rattle.language_model.specs.Operations.{words_of_operator, words_of_cast};
 ghost use Rattle.value_steps.specs.Steps.{Does, itself, nothing};
@@ -10,8 +10,8 @@ ghost use Rattle.value_steps.specs.Views.{stage_seen, world_seen, drawn_seen};
 use crate::halt::Halt;
 use crate::stage::{Drawn, Stage};
 use crate::world::World;
+use program_trees::{BinaryOperator, BoolOperator, Cast, WordOperator};
 use sc_text::{Ending, TapeOwner};
-use typed_tree::{BinaryOperator, BoolOperator, Cast, WordOperator};
 
 /// How many words of a tape are drawn after `more`. A tape that has fewer ends the run.
 fn drawn_after(

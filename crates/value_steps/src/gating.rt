@@ -15,7 +15,7 @@ use crate::stage::Stage;
 use crate::value::{Secrecy, Value};
 use gates::{Gate, RingKind, Words};
 use plans::{bit_extract, compare, equality};
-use secrec_ast::DataType;
+use program_trees::DataType;
 use std::alloc::Global;
 
 /// The most values that a plan makes.

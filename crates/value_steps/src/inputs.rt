@@ -11,9 +11,9 @@ use crate::steps::{charge, test_at};
 use crate::value::Value;
 use crate::world::{GivenInput, World};
 use gates::Gate;
+use program_trees::Shape;
 use sc_text::{Ending, Name, TrapKind};
 use std::alloc::Global;
-use typed_tree::Shape;
 
 /// What an input is asked for as: private or not, and of a shape. The line is that of the statement.
 #[derive(Clone, Copy)]

@@ -16,9 +16,8 @@ use crate::steps::{charge, charged, charged_array};
 use crate::value::{Secrecy, Value};
 use crate::world::World;
 use gates::Gate;
-use secrec_ast::DataType;
+use program_trees::{Cast, DataType, Shape};
 use std::alloc::{AllocError, Global};
-use typed_tree::{Cast, Shape};
 
 /// True for false, and false for true.
 pub fn negated(alloc: Global, stage: &mut Stage<'_>, value: Value) -> Result<Value, Halt>

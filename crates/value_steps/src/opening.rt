@@ -13,8 +13,8 @@ use crate::telling::{answer, emit, show};
 use crate::value::{Secrecy, Value};
 use crate::world::World;
 use gates::Gate;
+use program_trees::DataType;
 use sc_text::Event;
-use secrec_ast::DataType;
 use std::alloc::{AllocError, Global};
 use vector_ops::{elements, low_bits};
 

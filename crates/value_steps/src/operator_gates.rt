@@ -1,6 +1,6 @@
 // The gates of operators on private values.
 ghost use Rattle.std.specs.Prelude.{◌≤◌};
-ghost use Rattle.typed_tree.specs.declared.operators.BinaryOperator.TheVariants.{Bools as OnBools, Words as OnWords};
+ghost use Rattle.program_trees.specs.declared.operators.BinaryOperator.TheVariants.{Bools as OnBools, Words as OnWords};
 ghost use Rattle.language_model.specs.Operations.{stretched, flip, equal_gates, or_gates, operator_gates, cast_gates};
 ghost use Rattle.value_steps.specs.Steps.{Does, itself};
 ghost use Rattle.value_steps.specs.Views.{stage_seen};
@@ -9,8 +9,8 @@ use crate::gating::{gate, less_gates, next_number, zero_test};
 use crate::halt::Halt;
 use crate::stage::Stage;
 use gates::{Gate, Words};
+use program_trees::{BinaryOperator, BoolOperator, Cast, WordOperator};
 use std::alloc::Global;
-use typed_tree::{BinaryOperator, BoolOperator, Cast, WordOperator};
 
 /// A private scalar beside an array of `n` elements as one of as many; any other operand stays as it is.
 pub(crate) fn stretched(

@@ -17,9 +17,9 @@ use crate::steps::{charge, test_at};
 use crate::value::{Secrecy, Value};
 use crate::world::World;
 use gates::{Gate, Words};
+use program_trees::{BinaryOperator, Operation};
 use sc_text::TrapKind;
 use std::alloc::Global;
-use typed_tree::{BinaryOperator, Operation};
 
 /// Charges an operator, and tests for its traps: arrays of two sizes, and a public divisor that is 0.
 fn charged(stage: &mut Stage<'_>, applied: &Applied<'_>) -> Result<(), Halt>

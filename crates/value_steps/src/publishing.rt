@@ -1,6 +1,6 @@
 // What goes to the client.
-ghost use Rattle.std.specs.Prelude.{◌≤◌};
-ghost use Rattle.language_model.specs.Operations.{handed_over, published};
+ghost use Rattle.std.specs.Prelude.{◌≡◌, ◌≤◌};
+ghost use Rattle.language_model.specs.Operations.{handed_over, publication, published};
 ghost use Rattle.value_steps.specs.Steps.{Does, itself};
 ghost use Rattle.value_steps.specs.Views.{stage_seen, value_seen, world_seen, secrecy_seen};
 
@@ -13,7 +13,7 @@ use crate::telling::emit;
 use crate::value::{Secrecy, Value};
 use crate::world::World;
 use gates::Gate;
-use sc_text::{Event, Name};
+use sc_text::{Elements, Event, Name};
 use std::alloc::Global;
 use vector_ops::elements;
 
@@ -40,6 +40,16 @@ fn handed_over(
     }
 }
 
+/// How it is told that a value goes to the client: a public one is published, a private one is handed over.
+fn publication(secrecy: Secrecy, name: Name, given: Elements) -> Event
+    ensures { result ≡ publication (secrecy_seen secrecy) name given }
+{
+    match secrecy {
+        Secrecy::Plain => Event::Publish(name, given),
+        Secrecy::Private(_) => Event::Hand(name, given),
+    }
+}
+
 /// Gives a value to the client, under a name. Of a private one no miner learns anything.
 pub fn published(
     alloc: Global,
@@ -54,5 +64,6 @@ pub fn published(
     charged(stage, value.size())?;
     handed_over(alloc, world, stage, value)?;
     let given = elements(alloc, value.shape.element, &value.words)?;
-    emit(stage, Event::Publish(name.copy(alloc)?, given))
+    let event = publication(value.secrecy, name.copy(alloc)?, given);
+    emit(stage, event)
 }

@@ -2,9 +2,8 @@
 ghost use Rattle.std.specs.Prelude.{◌≡◌, ◌≤◌, length, IfOk};
 ghost use Rattle.language_model.specs.Values.{default_words};
 
-use secrec_ast::DataType;
+use program_trees::{DataType, Shape};
 use std::alloc::{AllocError, Global};
-use typed_tree::Shape;
 
 /// Who may see a value.
 #[derive(Clone, Copy)]

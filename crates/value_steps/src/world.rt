@@ -1,8 +1,8 @@
 // What stays the same in a run.
 ghost use Rattle.std.specs.Prelude.{◌≤◌, length};
 
+use program_trees::Shape;
 use sc_text::Name;
-use typed_tree::Shape;
 
 /// The lengths of the miners' tapes, in words.
 #[derive(Clone, Copy)]

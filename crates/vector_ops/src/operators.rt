@@ -1,9 +1,9 @@
 // Operators between two words.
 ghost use Rattle.std.specs.Prelude.{◌≡◌, ◌/◌, ◌%◌};
-ghost use Rattle.typed_tree.specs.declared.operators.BinaryOperator.TheVariants.{Bools, Words};
+ghost use Rattle.program_trees.specs.declared.operators.BinaryOperator.TheVariants.{Bools, Words};
 ghost use Rattle.language_model.specs.Words.{truth_word, meaning};
 
-use typed_tree::{BinaryOperator, BoolOperator, WordOperator};
+use program_trees::{BinaryOperator, BoolOperator, WordOperator};
 
 /// The quotient, and 0 for a divisor of 0.
 fn quotient(x: u64, divisor: u64) -> u64

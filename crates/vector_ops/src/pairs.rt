@@ -5,8 +5,8 @@ ghost use Rattle.gates.specs.Clear.{each_two};
 ghost use Rattle.language_model.specs.Words.{meaning, may_divide};
 
 use crate::operators::operation;
+use program_trees::{BinaryOperator, WordOperator};
 use std::alloc::{AllocError, Global};
-use typed_tree::{BinaryOperator, WordOperator};
 
 /// The results of an operator on the two words at each index, as far as the shorter list goes.
 pub fn each(

@@ -2,8 +2,8 @@
 ghost use Rattle.std.specs.Prelude.{◌≡◌, map, IfOk};
 ghost use Rattle.language_model.specs.Values.{element_of};
 
+use program_trees::DataType;
 use sc_text::{Element, Elements};
-use secrec_ast::DataType;
 use std::alloc::{AllocError, Global};
 
 /// A word as an element of a data type: a truth value is true where the word isn't 0.

@@ -5,8 +5,8 @@ ghost use Rattle.gates.specs.Clear.{bits_of, first_word};
 ghost use Rattle.language_model.specs.Words.{flipped, cast_word};
 
 use crate::operators::truth;
+use program_trees::Cast;
 use std::alloc::{AllocError, Global};
-use typed_tree::Cast;
 
 /// Each truth value turned round: 1 for 0, and 0 for any other word.
 pub fn flipped(alloc: Global, xs: &[u64]) -> Result<Vec<u64>, AllocError>

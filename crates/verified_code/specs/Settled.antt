@@ -1,6 +1,6 @@
 -- The steps of verified code.
 use Rattle.std.specs.Prelude.{ℕ, ◌==◌, List, [], map, Option, Some, None, slice_get, unwrap_or, if◌then◌else◌}
-use Rattle.typed_tree.specs.Operators.{operands_of, cast_between}
+use Rattle.program_trees.specs.Operators.{operands_of, cast_between}
 use Rattle.bytecode.specs.declared.kind.Kind.{Kind}
 use Rattle.bytecode.specs.Raw.{Raw, RawFunction, RawCode}
 use Rattle.bytecode.specs.Raw as raw

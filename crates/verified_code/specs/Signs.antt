@@ -1,8 +1,8 @@
 -- The operators' bytes, as the signs of the language.
 use Rattle.std.specs.Prelude.{◌≡◌, ℕ, ◌<◌, ◌==◌, Some, None, if◌then◌else◌}
-use Rattle.secrec_ast.specs.declared.expression.Operator.{Operator}
-use Rattle.secrec_ast.specs.declared.expression.Operator.TheVariants as sign
-use Rattle.typed_tree.specs.Operators.{word_operator, bool_operator}
+use Rattle.program_trees.specs.declared.expression.Operator.{Operator}
+use Rattle.program_trees.specs.declared.expression.Operator.TheVariants as sign
+use Rattle.program_trees.specs.Operators.{word_operator, bool_operator}
 use Rattle.verified_code.specs.Fitting.{word_operator_at, has_bools, bool_operator_at}
 
 abbrev pub sign_at : ℕ → Operator

@@ -1,11 +1,11 @@
 -- Steps: instructions in which the operator, the operands' dimensions and the kinds are settled.
 use Rattle.std.specs.Prelude.{ℕ, Bool, List, Option}
-use Rattle.secrec_ast.specs.declared.expression.DataType.{DataType}
-use Rattle.typed_tree.specs.declared.kinds.Shape.{Shape}
-use Rattle.typed_tree.specs.declared.operators.BinaryOperator.{BinaryOperator}
-use Rattle.typed_tree.specs.declared.operators.Operands.{Operands}
-use Rattle.typed_tree.specs.declared.operators.Cast as casts
-use Rattle.typed_tree.specs.Shapes.{shape_of}
+use Rattle.program_trees.specs.declared.expression.DataType.{DataType}
+use Rattle.program_trees.specs.declared.kinds.Shape.{Shape}
+use Rattle.program_trees.specs.declared.operators.BinaryOperator.{BinaryOperator}
+use Rattle.program_trees.specs.declared.operators.Operands.{Operands}
+use Rattle.program_trees.specs.declared.operators.Cast as casts
+use Rattle.program_trees.specs.Shapes.{shape_of}
 use Rattle.bytecode.specs.declared.kind.Kind.{Kind}
 
 -- what a value of a kind is made of, whoever may see it

@@ -1,6 +1,6 @@
 -- Worked values: code that is verified, and first faults.
 use Rattle.std.specs.Prelude.{◌≡◌, List, [], ◌∷◌, Bool, true, false, None, Some, refl}
-use Rattle.secrec_ast.specs.declared.expression.DataType.TheVariants as types
+use Rattle.program_trees.specs.declared.expression.DataType.TheVariants as types
 use Rattle.bytecode.specs.declared.kind.Kind.{Kind}
 use Rattle.bytecode.specs.Raw.{Raw, Literal, Binary, Jump, Branch, Call, Return, ReturnNone, RawCode}
 use Rattle.verified_code.specs.declared.fault.CodeProblem.TheVariants.{BadRegister, BadKind, BadJump}

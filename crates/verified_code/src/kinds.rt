@@ -5,7 +5,7 @@ ghost use Rattle.verified_code.specs.Fitting.{array_of, element_of, kind_at, lit
 ghost use Rattle.verified_code.specs.Fitting.{is_condition, is_word, same_element, same_kind};
 
 use bytecode::{Kind, Register};
-use secrec_ast::DataType;
+use program_trees::DataType;
 
 pub(crate) fn is_word(element: DataType) -> bool
     ensures { result ≡ is_word element }

@@ -1,12 +1,12 @@
 // Which operators there are between operands of these kinds, and what they give.
 ghost use Rattle.std.specs.Prelude.{◌≡◌};
 ghost use Rattle.bytecode.specs.InMemory.{operator_byte};
-ghost use Rattle.typed_tree.specs.Operators.{element_made};
+ghost use Rattle.program_trees.specs.Operators.{element_made};
 ghost use Rattle.verified_code.specs.Fitting.{binary_fits, has_bools, is_product, kind_at, may_be_private, operator_at, operator_exists, secrecy_fits};
 
 use crate::kinds::{kind_at, same_element, same_kind};
 use bytecode::{BinaryOperator, Kind, Register};
-use secrec_ast::DataType;
+use program_trees::DataType;
 
 fn has_bools(operator: BinaryOperator) -> bool
     ensures { result ≡ has_bools (operator_byte operator) }

@@ -1,7 +1,7 @@
 // The step that an instruction is.
 ghost use Rattle.std.specs.Prelude.{◌≡◌};
 ghost use Rattle.bytecode.specs.InMemory.{operator_byte, raw_instruction, result_register};
-ghost use Rattle.typed_tree.specs.Operators.{cast_between, operands_of};
+ghost use Rattle.program_trees.specs.Operators.{cast_between, operands_of};
 ghost use Rattle.verified_code.specs.Fitting.{bool_operator_at, kind_at, operator_at, word_operator_at};
 ghost use Rattle.verified_code.specs.InMemory.{place_of, step_in};
 ghost use Rattle.verified_code.specs.Settled.{binary_step, name_at, result_at, settle};
@@ -9,9 +9,8 @@ ghost use Rattle.verified_code.specs.Settled.{binary_step, name_at, result_at, s
 use crate::kinds::kind_at;
 use crate::step::Step;
 use bytecode::{Instruction, Kind, NO_RESULT, NamePlace, Register};
+use program_trees::{BinaryOperator, BoolOperator, Cast, DataType, Operands, WordOperator};
 use sc_text::Name;
-use secrec_ast::DataType;
-use typed_tree::{BinaryOperator, BoolOperator, Cast, Operands, WordOperator};
 
 fn word_operator(operator: bytecode::BinaryOperator) -> WordOperator
     ensures { result ≡ word_operator_at (operator_byte operator) }

@@ -1,6 +1,5 @@
 use bytecode::{FunctionPlace, JumpTarget, Kind, Register};
-use secrec_ast::DataType;
-use typed_tree::{BinaryOperator, Cast, Operands};
+use program_trees::{BinaryOperator, Cast, DataType, Operands};
 
 /// A step: an instruction in which the operator, the operands' dimensions and the kinds are settled.
 #[derive(Clone, Copy)]

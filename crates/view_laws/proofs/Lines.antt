@@ -10,8 +10,8 @@ use Rattle.verified_code.specs.Steps.{Step, Literal, Move, Store, Binary, Not, C
 use Rattle.verified_code.specs.Steps.{Argument, Publish, Assert, Branch, Jump, Call, Return, ReturnNone, Function}
 use Rattle.lowered_code.specs.Instructions.{instruction, raw_function, names_of, raw_code_of}
 use Rattle.lowered_code.proofs.Passing.{mapped}
-use Rattle.said_code.specs.Says.{StepSays}
-use Rattle.said_code.specs.Laws.{any_number, any_text}
+use Rattle.written_code.specs.Says.{StepSays}
+use Rattle.written_code.specs.Laws.{any_number, any_text}
 use Rattle.view_laws.proofs.Steps.{is_line, HaveLines}
 
 -- ---- parts of lists

@@ -1,8 +1,8 @@
 -- Openings that three miners tell are of elements of 64 bits.
 use Rattle.std.proofs.Common.{◌≡◌, ℕ, suc, List, [], ◌∷◌, map, length, Bool, true, false, if◌then◌else◌, Ok, refl, sym, ap, subst, ◌∙◌}
 use Rattle.std.specs.Prelude.{nat_le}
-use Rattle.secrec_ast.specs.declared.expression.DataType.{DataType}
-use Rattle.secrec_ast.specs.declared.expression.DataType.TheVariants as datatype
+use Rattle.program_trees.specs.declared.expression.DataType.{DataType}
+use Rattle.program_trees.specs.declared.expression.DataType.TheVariants as datatype
 use Rattle.sc_text.specs.declared.event.Event.{Event}
 use Rattle.proto_core.specs.declared.party.Number.{Number}
 use Rattle.proto_core.specs.Strand.{Notice}
@@ -20,7 +20,7 @@ use Rattle.language_model.proofs.Walk.{main_of}
 use Rattle.program_run.specs.Accepted.{IsAccepted}
 use Rattle.program_run.proofs.Shared.{runs_where_accepted}
 use Rattle.tape_file.specs.Tapes.{FourTapes}
-use Rattle.typed_tree.specs.Programs.{TypedProgramTree}
+use Rattle.program_trees.specs.TypedPrograms.{TypedProgramTree}
 use Rattle.value_file.specs.declared.inputs.Entry.{Entry}
 use Rattle.view_model.specs.TapeMaps.{is_dealt, AreTapes}
 use Rattle.view_model.proofs.Corresponding.{le_from}

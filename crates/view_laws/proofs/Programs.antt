@@ -1,13 +1,13 @@
 -- The evaluation of an accepted program ends so that its end can be written.
 use Rattle.std.proofs.Common.{ℕ, List, subst}
-use Rattle.secrec_ast.specs.Programs.{ProgramTree}
+use Rattle.program_trees.specs.Programs.{ProgramTree}
 use Rattle.reached_instances.specs.Instances.{Instance}
 use Rattle.language_model.specs.Effects.{World}
 use Rattle.language_model.specs.Reports.{Report}
 use Rattle.code_model.specs.Programs.{code_of}
 use Rattle.lowered_code.proofs.Fits.{accepted_means}
-use Rattle.said_code.specs.Laws.{any_number, any_text}
-use Rattle.writable_code.proofs.Programs.{accepted_writable}
+use Rattle.written_code.specs.Laws.{any_number, any_text}
+use Rattle.written_code.proofs.Programs.{accepted_writable}
 use Rattle.view_laws.specs.Ends.{CanBeWritten, EndsCanBeWritten}
 use Rattle.view_laws.proofs.Steps.{code_ends}
 use Rattle.view_laws.proofs.Lines.{lines_of_writable}

@@ -4,7 +4,7 @@ use Rattle.std.specs.Prelude.{Some, None, ◌&&◌, not, bytes_eq}
 use Rattle.std.specs.List.{list_any}
 use Rattle.std.proofs.lemmas.List.Sums.{sum_by-cons}
 use Rattle.sc_text.specs.Name.{is_name}
-use Rattle.share_ring.specs.RingsKeepLaws.{add_ring_laws, xor_ring_laws}
+use Rattle.proto_core.specs.RingsKeepLaws.{add_ring_laws, xor_ring_laws}
 use Rattle.proto_core.specs.declared.party.Number.{Number}
 use Rattle.proto_core.specs.declared.party.Number.TheVariants.{One, Two, Three}
 use Rattle.proto_core.specs.Lists.{AreWords}

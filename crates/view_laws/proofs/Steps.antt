@@ -4,7 +4,7 @@ use Rattle.std.proofs.Common.{arith}
 use Rattle.std.specs.Prelude.{IsTrue, nat_lt, nat_le, slice_get, sum, map, if◌then◌else◌}
 use Rattle.sc_text.specs.declared.end.TrapKind.TheVariants as trap
 use Rattle.language_model.specs.Effects.{World, Stage, RunStop, Run, Effect, ◌>>=◌, carry, done}
-use Rattle.typed_tree.specs.Shapes.{shape_of}
+use Rattle.program_trees.specs.Shapes.{shape_of}
 use Rattle.language_model.specs.Values.{Value, plain, size}
 use Rattle.language_model.specs.Evaluation.{nothing, array_elements, either, input_named}
 use Rattle.language_model.specs.Reports.{dealing, beginning, not_dealt}
@@ -13,7 +13,7 @@ use Rattle.verified_code.specs.Steps.{Argument, Publish, Assert, Branch, Jump, C
 use Rattle.code_model.specs.Machine.{Caller, Machine, values_at, steps_of, entering, limit, same_truth, resume, step, exec, further, start, at, next}
 use Rattle.code_model.specs.Meaning.{fuel, stopped_or, report_at, mean_in}
 use Rattle.code_model.specs.Kinded.{IsIn}
-use Rattle.said_code.specs.Says.{StepSays}
+use Rattle.written_code.specs.Says.{StepSays}
 use Rattle.view_laws.specs.Ends.{HasRoom, CanBeWritten}
 use Rattle.view_laws.proofs.Effects.{IsWithin, Comes, Ends, untrapped_ends, on_charge, on_test}
 use Rattle.view_laws.proofs.Rows.{classified_ends, declassified_ends, operated_ends, negated_ends, cast_ends, size_ends, summed_ends, bits_end}

@@ -11,7 +11,7 @@ use Rattle.shared_gates.proofs.Models.{gates-sound}
 use Rattle.value_file.specs.declared.inputs.Entry.{Entry}
 use Rattle.input_share.specs.Dealing.{need_of}
 use Rattle.tape_file.specs.Tapes.{FourTapes}
-use Rattle.typed_tree.specs.Programs.{TypedProgramTree}
+use Rattle.program_trees.specs.TypedPrograms.{TypedProgramTree}
 use Rattle.language_model.specs.Effects.{World, Clear, RunStop, Ended, Short}
 use Rattle.language_model.specs.Reports.{Report, world_of}
 use Rattle.language_model.proofs.Kept.{cost_kept}

@@ -1,12 +1,12 @@
 -- Ends that can be written: a trap's line has 32 bits, the words that lack are fewer than 2^128, and those that are there fewer than 2^64.
 use Rattle.std.specs.Prelude.{◌≡◌, ℕ, ◌<◌, ◌^◌, List, Some}
-use Rattle.secrec_ast.specs.Programs.{ProgramTree}
+use Rattle.program_trees.specs.Programs.{ProgramTree}
 use Rattle.domain_types.specs.ProgramTypes.{IsAccepted}
-use Rattle.typed_tree.specs.Programs.{TypedProgramTree}
+use Rattle.program_trees.specs.TypedPrograms.{TypedProgramTree}
 use Rattle.name_resolution.specs.Functions.{typed_of}
 use Rattle.reached_instances.specs.Limits.{IsWithinLimits}
-use Rattle.said_code.specs.Sources.{IsWellWritten}
-use Rattle.writable_code.specs.Sources.{IsPlacedProgram}
+use Rattle.written_code.specs.Sources.{IsWellWritten}
+use Rattle.written_code.specs.WrittenSources.{IsPlacedProgram}
 use Rattle.language_model.specs.Effects.{World, RunStop, Ended, Short}
 use Rattle.language_model.specs.Reports.{dealing, evaluated}
 use Rattle.view_text.specs.View.{IsEnding}

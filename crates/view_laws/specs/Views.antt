@@ -4,7 +4,7 @@ use Rattle.proto_core.specs.declared.party.Number.{Number}
 use Rattle.protocol_model.specs.Network.{Delivery}
 use Rattle.value_file.specs.declared.inputs.Entry.{Entry}
 use Rattle.tape_file.specs.Tapes.{FourTapes}
-use Rattle.typed_tree.specs.Programs.{TypedProgramTree}
+use Rattle.program_trees.specs.TypedPrograms.{TypedProgramTree}
 use Rattle.view_text.specs.View.{View, IsView}
 use Rattle.view_text.specs.Text.{view_bytes}
 use Rattle.view_text.specs.Reading.{read_view_of}

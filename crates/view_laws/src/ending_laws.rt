@@ -1,6 +1,6 @@
 // How an evaluation ends.
 ghost use Rattle.std.specs.Prelude.{ℕ, List};
-ghost use Rattle.secrec_ast.specs.Programs.{ProgramTree};
+ghost use Rattle.program_trees.specs.Programs.{ProgramTree};
 ghost use Rattle.language_model.specs.Effects.{World};
 ghost use Rattle.view_laws.specs.Ends.{EndsCanBeWritten};
 

@@ -4,7 +4,7 @@ ghost use Rattle.language_model.specs.Effects.{World};
 ghost use Rattle.language_model.specs.Reports.{evaluated};
 ghost use Rattle.view_reader.specs.Opened.{opened_words};
 ghost use Rattle.program_views.specs.Views.{openings};
-ghost use Rattle.typed_tree.specs.Programs.{TypedProgramTree};
+ghost use Rattle.program_trees.specs.TypedPrograms.{TypedProgramTree};
 ghost use Rattle.proto_core.specs.declared.party.Number.{Number};
 ghost use Rattle.protocol_model.specs.Network.{Delivery};
 ghost use Rattle.value_file.specs.declared.inputs.Entry.{Entry};

@@ -8,15 +8,17 @@ use Rattle.protocol_model.specs.Gates as model
 use Rattle.protocol_model.specs.Gates.{AreSound, ArePrivate}
 use Rattle.protocol_model.specs.Runs.{Tapes, Ready}
 use Rattle.protocol_model.specs.Views.{to_view, from_view}
-use Rattle.protocol_model.proofs.GateViews.{
+use Rattle.protocol_model.proofs.Walks.{
+  AllCorrespond,
+  private-correspond,
   from-to_view,
   to-from_view,
-  to_view-own,
   to_view-length,
   to_view-words,
   from_view-length,
   from_view-words,
 }
+use Rattle.protocol_model.proofs.GateViews.{to_view-own}
 use Rattle.gates.specs.declared.gate.Gate.{Gate}
 use Rattle.shared_gates.proofs.Models.{gates-sound, gates-private}
 use Rattle.shared_gates.proofs.Drawn.{run-ready}
@@ -121,11 +123,17 @@ module _
     real_private : ArePrivate real
     real_private = private es t.dealer gates
 
+    real_rows : AllCorrespond i real
+    real_rows = private-correspond i real real_private
+
     other_sound : AreSound other
     other_sound = sound es dealer2 gates
 
     other_private : ArePrivate other
     other_private = private es dealer2 gates
+
+    other_rows : AllCorrespond i other
+    other_rows = private-correspond i other other_private
 
     pub ready_real : Ready real no_values (miners_of t)
     ready_real = ready_with es gates t.dealer t are.miners enough reaches
@@ -140,7 +148,7 @@ module _
         ∙ same_tapes _ _ _ _ dealer_back
         (ap (λ d. from_view i (gates_dealt es d gates) no_values (miners_of (mapped i es gates t))) dealer_back
         ∙ ap (from_view i real no_values) (miners_four dealer2 (to_view i real no_values (miners_of t)))
-        ∙ from-to_view i real no_values (miners_of t) real_sound real_private ready_real)
+        ∙ from-to_view i real no_values (miners_of t) real_sound real_rows ready_real)
 
     back_there : to_simulated i es gates (from_simulated i es gates t) ≡ t
     back_there =
@@ -148,7 +156,7 @@ module _
         ∙ to_simulated_dealt i es gates (unmapped i es gates t) enough2
         ∙ same_tapes _ _ _ _ dealer_back
         (ap (to_view i other no_values) (miners_four dealer2 (from_view i other no_values (miners_of t)))
-        ∙ to-from_view i other no_values (miners_of t) other_sound other_private ready_other)
+        ∙ to-from_view i other no_values (miners_of t) other_sound other_rows ready_other)
 
     pub miners_mapped : miners_of (to_simulated i es gates t) ≡ to_view i real no_values (miners_of t)
     miners_mapped = ap miners_of (to_simulated_dealt i es gates t enough) ∙ miners_four dealer2 (to_view i real no_values (miners_of t))
@@ -168,11 +176,11 @@ module _
 
     kept_miners : (k : Number) → length (miners_of (to_simulated i es gates t) k) ≡ length (miners_of t k)
     kept_miners k =
-        ap (λ v. length (v k)) miners_mapped ∙ to_view-length i real no_values (miners_of t) real_sound real_private ready_real k
+        ap (λ v. length (v k)) miners_mapped ∙ to_view-length i real no_values (miners_of t) real_sound real_rows ready_real k
 
     back_kept_miners : (k : Number) → length (miners_of (from_simulated i es gates t) k) ≡ length (miners_of t k)
     back_kept_miners k =
-        ap (λ v. length (v k)) miners_unmapped ∙ from_view-length i other no_values (miners_of t) other_sound other_private ready_other k
+        ap (λ v. length (v k)) miners_unmapped ∙ from_view-length i other no_values (miners_of t) other_sound other_rows ready_other k
 
     words_mapped : AreTapes (to_simulated i es gates t)
     words_mapped =
@@ -180,7 +188,7 @@ module _
           dealer = subst AreWords (sym dealer_mapped) dealer2_words;
           miners = λ k.
               subst (λ v. AreWords (v k)) (sym miners_mapped)
-              (to_view-words i real no_values (miners_of t) real_sound real_private ready_real k);
+              (to_view-words i real no_values (miners_of t) real_sound real_rows ready_real k);
         }
 
     words_unmapped : AreTapes (from_simulated i es gates t)
@@ -189,7 +197,7 @@ module _
           dealer = subst AreWords (sym dealer_unmapped) dealer2_words;
           miners = λ k.
               subst (λ v. AreWords (v k)) (sym miners_unmapped)
-              (from_view-words i other no_values (miners_of t) other_sound other_private ready_other k);
+              (from_view-words i other no_values (miners_of t) other_sound other_rows ready_other k);
         }
 
     pub correspond_dealt : Correspond i es gates t

@@ -2,8 +2,8 @@
 use Rattle.std.proofs.Common.{◌≡◌, ℕ, zero, suc, ◌+◌, ◌-◌, ◌*◌, ◌<◌, ◌≤◌, ◌^◌, List, [], ◌∷◌, All, length, drop, refl, sym, ◌∙◌, ap, arith}
 use Rattle.std.proofs.lemmas.List.{length-take-le, length-drop}
 use Rattle.std.proofs.lemmas.List.Sums.{sum_by-cons}
-use Rattle.share_ring.specs.Ring.{Ring, RingLaws}
-use Rattle.share_ring.specs.RingsKeepLaws.{add_ring_laws, xor_ring_laws}
+use Rattle.proto_core.specs.Ring.{Ring, RingLaws}
+use Rattle.proto_core.specs.RingsKeepLaws.{add_ring_laws, xor_ring_laws}
 use Rattle.proto_core.specs.declared.party.Number.{Number}
 use Rattle.proto_core.specs.declared.party.Number.TheVariants.{One, Two, Three}
 use Rattle.proto_core.specs.Lists.{at, AreWords}

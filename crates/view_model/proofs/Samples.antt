@@ -1,6 +1,6 @@
 -- Two inputs of which all that the laws on twins ask is there: 6 times 7 and 2 times 21.
 use Rattle.std.proofs.Common.{◌≡◌, ℕ, zero, suc, ◌<◌, ◌^◌, List, [], ◌∷◌, All, refl, ◌∙◌, ap, arith}
-use Rattle.share_ring.specs.Rings.{add_ring}
+use Rattle.proto_core.specs.Rings.{add_ring}
 use Rattle.proto_core.proofs.Beginnings.{append-none}
 use Rattle.gates.specs.Clear.{value, each_two}
 use Rattle.gates.proofs.Columns.{stands}

@@ -7,7 +7,7 @@ use Rattle.protocol_model.specs.Network.{Accepted, Delivery, net, order_of}
 use Rattle.gates.specs.declared.gate.Gate.{Gate}
 use Rattle.value_file.specs.declared.public.PublicEntry.{PublicEntry}
 use Rattle.tape_file.specs.Tapes.{FourTapes}
-use Rattle.typed_tree.specs.Programs.{TypedProgramTree}
+use Rattle.program_trees.specs.TypedPrograms.{TypedProgramTree}
 use Rattle.language_model.specs.Reports.{Report}
 use Rattle.blind_evaluation.specs.Courses.{IsEnded}
 use Rattle.clear_eval.specs.declared.report.Report as reported

@@ -17,8 +17,8 @@ use Rattle.value_file.specs.declared.public.PublicEntry.{PublicEntry}
 use Rattle.input_share.specs.declared.entry.ShareEntry.{ShareEntry}
 use Rattle.tape_file.specs.Tapes.{FourTapes}
 use Rattle.program_views.specs.Coming.{AreArrivals}
-use Rattle.made_run.specs.declared.made.MadeRun.{MadeRun}
-use Rattle.made_run.specs.Made.{own_run, IsMade}
+use Rattle.view_simulator.specs.declared.made_gates.MadeRun.{MadeRun}
+use Rattle.view_simulator.specs.Made.{own_run, IsMade}
 use Rattle.view_simulator.specs.Need as need
 use Rattle.view_simulator.specs.Need.{made_shares}
 use Rattle.view_simulator.proofs.InputPieces.{sizes-made}

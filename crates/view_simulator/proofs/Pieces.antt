@@ -4,7 +4,7 @@ use Rattle.std.specs.Prelude.{nat_le}
 use Rattle.std.proofs.lemmas.List.{take_more, take_all}
 use Rattle.sc_text.specs.declared.elements.Element.{Element}
 use Rattle.sc_text.specs.declared.event.Event.{Event}
-use Rattle.sc_text.specs.declared.event.Event.TheVariants.{Open, Publish}
+use Rattle.sc_text.specs.declared.event.Event.TheVariants.{Open, Publish, Hand}
 use Rattle.value_file.specs.declared.public.PublicValue.{PublicValue}
 use Rattle.value_file.specs.declared.public.PublicValue.TheVariants.{Known, Hidden}
 use Rattle.value_file.specs.declared.public.PublicEntry.{PublicEntry}
@@ -37,6 +37,7 @@ pub openings_append : (es fs : List Event) → openings (es ++ fs) ≡ openings 
 openings_append [] fs = refl
 openings_append (Open elements ∷ es) fs = ap (λ (os : List (List Element)). elements ∷ os) (openings_append es fs)
 openings_append (Publish text elements ∷ es) fs = openings_append es fs
+openings_append (Hand text elements ∷ es) fs = openings_append es fs
 
 -- ---- the words that the dealer needs
 

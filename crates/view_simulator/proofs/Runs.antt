@@ -6,8 +6,8 @@ use Rattle.protocol_model.specs.Gates.{gates_script}
 use Rattle.protocol_model.specs.Network.{Delivery, net}
 use Rattle.gates.specs.declared.gate.Gate.{Gate}
 use Rattle.shared_gates.specs.Model.{run_gates}
-use Rattle.secrec_ast.specs.Programs.{ProgramTree}
-use Rattle.typed_tree.specs.Programs.{TypedProgramTree}
+use Rattle.program_trees.specs.Programs.{ProgramTree}
+use Rattle.program_trees.specs.TypedPrograms.{TypedProgramTree}
 use Rattle.reached_instances.specs.Instances.{Instance}
 use Rattle.value_file.specs.declared.inputs.Entry.{Entry}
 use Rattle.value_file.specs.Public.{part_of}

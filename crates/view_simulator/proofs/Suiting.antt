@@ -8,8 +8,8 @@ use Rattle.gates.specs.declared.gate.Gate.{Gate}
 use Rattle.gates.specs.Counts.{Miner, Miner1, Miner2, Miner3, words_of_all}
 use Rattle.shared_gates.specs.Model.{AllSizesSuit, sizes_after, miner_of}
 use Rattle.shared_gates.proofs.Drawn.{drawn-counted}
-use Rattle.secrec_ast.specs.Programs.{ProgramTree}
-use Rattle.typed_tree.specs.Programs.{TypedProgramTree}
+use Rattle.program_trees.specs.Programs.{ProgramTree}
+use Rattle.program_trees.specs.TypedPrograms.{TypedProgramTree}
 use Rattle.reached_instances.specs.Instances.{Instance}
 use Rattle.value_file.specs.declared.inputs.Entry.{Entry}
 use Rattle.value_file.specs.declared.public.PublicEntry.{PublicEntry}

@@ -7,3 +7,7 @@ pub mod Simulating
 pub mod Laws
 pub mod Vectors
 pub use Rattle.program_views.specs.Views
+pub mod Sources
+pub mod Standing
+pub mod Simulators
+pub mod Made

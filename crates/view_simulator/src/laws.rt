@@ -1,7 +1,7 @@
 // What is true of the simulator.
 ghost use Rattle.std.specs.Prelude.{ℕ, List};
-ghost use Rattle.secrec_ast.specs.Programs.{ProgramTree};
-ghost use Rattle.typed_tree.specs.Programs.{TypedProgramTree};
+ghost use Rattle.program_trees.specs.Programs.{ProgramTree};
+ghost use Rattle.program_trees.specs.TypedPrograms.{TypedProgramTree};
 ghost use Rattle.proto_core.specs.declared.party.Number.{Number};
 ghost use Rattle.protocol_model.specs.Network.{Delivery};
 ghost use Rattle.value_file.specs.declared.inputs.Entry.{Entry};

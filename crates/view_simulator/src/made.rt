@@ -8,10 +8,10 @@ ghost use Rattle.view_simulator.specs.Making.{CanBeMade, made_in_order, seen_in_
 
 use crate::dealing::suffices;
 use crate::entries::made_entries;
+use crate::made_gates::made_run;
 use clear_eval::Report;
 use input_share::ShareEntry;
 use joint_run::Tapes as MinersTapes;
-use made_run::made_run;
 use program_views::{Arrival, arrivals};
 use proto_core::{Link, Number};
 use std::alloc::{AllocError, Global};

@@ -1,6 +1,6 @@
 // The simulator.
-ghost use Rattle.typed_tree.specs.Programs.{typed_program_tree};
-ghost use Rattle.typed_tree.specs.Sound.{IsSound};
+ghost use Rattle.program_trees.specs.TypedPrograms.{typed_program_tree};
+ghost use Rattle.program_trees.specs.Sound.{IsSound};
 ghost use Rattle.value_file.specs.PublicFile.{IsWritable};
 ghost use Rattle.counted_net.specs.Answers.{delivery_seen};
 ghost use Rattle.code_inputs.specs.Accepted.{IsAcceptedProgram};
@@ -12,10 +12,10 @@ use crate::net::delivered;
 use crate::telling::run_told;
 use crate::view::view_of;
 use counted_net::Delivery;
+use program_trees::TypedProgram;
 use proto_core::Number;
 use std::alloc::Global;
 use tape_file::Tapes;
-use typed_tree::TypedProgram;
 use value_file::PublicPart;
 use view_text::View;
 

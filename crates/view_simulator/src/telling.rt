@@ -1,7 +1,7 @@
 // The run of one who is told what is opened.
 ghost use Rattle.std.specs.Prelude.{[], length, IfOk};
-ghost use Rattle.typed_tree.specs.Programs.{typed_program_tree};
-ghost use Rattle.typed_tree.specs.Sound.{IsSound};
+ghost use Rattle.program_trees.specs.TypedPrograms.{typed_program_tree};
+ghost use Rattle.program_trees.specs.Sound.{IsSound};
 ghost use Rattle.value_file.specs.PublicFile.{IsWritable};
 ghost use Rattle.clear_eval.specs.Reports.{IsBlindAnswer};
 ghost use Rattle.view_simulator.specs.Sizes.{SizesFit};
@@ -14,9 +14,9 @@ use crate::script_laws::few_words_fit;
 use crate::words::see_part;
 use clear_eval::{BlindErr, Report, blind};
 use input_share::see_words;
+use program_trees::TypedProgram;
 use std::alloc::Global;
 use tape_file::Tapes;
-use typed_tree::TypedProgram;
 use value_file::PublicPart;
 use view_model::see_tapes;
 

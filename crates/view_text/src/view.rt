@@ -20,6 +20,20 @@ impl Model for InputShare {
 }
 
 impl InputShare {
+    /// The input's name.
+    pub fn name(&self) -> &Name
+        ensures { result.now ≡ self.now.name }
+    {
+        &self.name
+    }
+
+    /// The words of the share.
+    pub fn words(&self) -> &[u64]
+        ensures { result.now ≡ self.now.words }
+    {
+        &self.words
+    }
+
     /// The share of the input of this name.
     pub fn new(name: Name, words: Vec<u64>) -> InputShare
         ensures { result ≡ record { name = name; words = words.items } }
@@ -42,6 +56,20 @@ impl Model for Received {
 }
 
 impl Received {
+    /// The link on which it came.
+    pub fn link(&self) -> Link
+        ensures { result ≡ self.now.link }
+    {
+        self.link
+    }
+
+    /// Its words.
+    pub fn message(&self) -> &[u64]
+        ensures { result.now ≡ self.now.message }
+    {
+        &self.message
+    }
+
     /// This message on this link.
     pub fn new(link: Link, message: Vec<u64>) -> Received
         ensures { result ≡ record { link = link; message = message.items } }
@@ -69,6 +97,48 @@ impl Model for View {
 }
 
 impl View {
+    /// Whose view it is.
+    pub fn miner(&self) -> Number
+        ensures { result ≡ self.now.miner }
+    {
+        self.miner
+    }
+
+    /// The miner's shares of the private inputs.
+    pub fn inputs(&self) -> &[InputShare]
+        ensures { result.now ≡ self.now.inputs }
+    {
+        &self.inputs
+    }
+
+    /// The words that it drew.
+    pub fn drew(&self) -> &[u64]
+        ensures { result.now ≡ self.now.drew }
+    {
+        &self.drew
+    }
+
+    /// The messages that came, in order of arrival.
+    pub fn got(&self) -> &[Received]
+        ensures { result.now ≡ self.now.got }
+    {
+        &self.got
+    }
+
+    /// What was opened, opening by opening.
+    pub fn opened(&self) -> &[Elements]
+        ensures { result.now ≡ self.now.opened }
+    {
+        &self.opened
+    }
+
+    /// How the run ended.
+    pub fn end(&self) -> End
+        ensures { result ≡ self.now.end }
+    {
+        self.end
+    }
+
     /// The view of these parts.
     pub fn new(
         miner: Number,

@@ -5,7 +5,7 @@ use Rattle.protocol_model.specs.Gates.{gates_script, sizes_of}
 use Rattle.protocol_model.specs.Network.{Delivery, net, order_of}
 use Rattle.shared_gates.specs.Model.{run_gates}
 use Rattle.tape_file.specs.Tapes.{FourTapes}
-use Rattle.typed_tree.specs.Programs.{TypedProgramTree}
+use Rattle.program_trees.specs.TypedPrograms.{TypedProgramTree}
 use Rattle.value_file.specs.declared.inputs.Entry.{Entry}
 use Rattle.value_file.specs.declared.value.Domain.{Domain}
 use Rattle.value_file.specs.declared.value.Domain.TheVariants as domain

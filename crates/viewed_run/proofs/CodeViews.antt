@@ -21,7 +21,7 @@ use Rattle.input_share.specs.Dealing.{need_of}
 use Rattle.input_share.specs.declared.entry.Part.{Part}
 use Rattle.input_share.specs.declared.entry.Part.TheVariants as part
 use Rattle.input_share.specs.declared.entry.ShareEntry.{ShareEntry}
-use Rattle.typed_tree.specs.Programs.{TypedProgramTree}
+use Rattle.program_trees.specs.TypedPrograms.{TypedProgramTree}
 use Rattle.reached_instances.specs.Instances.{Instance}
 use Rattle.language_model.specs.Effects.{Words}
 use Rattle.language_model.specs.Reports.{Report}

@@ -16,7 +16,7 @@ use Rattle.protocol_model.specs.Network.{Delivery, order_of}
 use Rattle.protocol_model.specs.Runs.{run_messages}
 use Rattle.shared_gates.specs.Model.{miner_of}
 use Rattle.tape_file.specs.Tapes.{FourTapes}
-use Rattle.typed_tree.specs.Programs.{TypedProgramTree}
+use Rattle.program_trees.specs.TypedPrograms.{TypedProgramTree}
 use Rattle.value_file.specs.declared.inputs.Entry.{Entry}
 use Rattle.input_share.specs.Dealing.{need_of}
 use Rattle.input_share.specs.ShareFile.{MinerFile}
@@ -40,7 +40,7 @@ use Rattle.miner_core.specs.OwnCode.{Ended as Stopping}
 use Rattle.delivered_run.specs.OwnRuns.{OwnRunAsReported}
 use Rattle.link_schedule.specs.Net.{NetState, net_node, net_posted}
 use Rattle.link_schedule.specs.Streams.{with_tapes}
-use Rattle.delivered_run.specs.declared.running.NetRun.{NetRun}
+use Rattle.delivered_run.specs.States.{RunState}
 use Rattle.delivered_run.specs.Courses.{IsAtItsEnd, IsDealtRun, file_of}
 use Rattle.viewed_run.specs.Seats.{SeesIn, StopsAt}
 use Rattle.viewed_run.proofs.Agreeing.{gates_same}
@@ -67,7 +67,7 @@ made_same v i inputs drew got opened how cost a b c d e f g =
 -- ---- a net at its end
 
 module _ (p : TypedProgramTree) (entries : List Entry) (t : FourTapes) (budget : ℕ) (given : Delivery) (a : IsAccepted p) (files : sharing.Dealt)
-    (ended : NetRun) (h : IsDealtRun p entries t budget given files ended) where
+    (ended : RunState) (h : IsDealtRun p entries t budget given files ended) where
   abbrev r : Report
   r = run_on p entries (lengths_of t) budget
 

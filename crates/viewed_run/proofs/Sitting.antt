@@ -16,6 +16,7 @@ use Rattle.gate_node.specs.Nodes.{IsTapeOf}
 use Rattle.miner_core.specs.OwnCode.{Ended}
 use Rattle.miner_core.specs.Places.{Place}
 use Rattle.miner_core.specs.Story.{at_stop_or, drawn_in, has_told, node}
+use Rattle.miner_core.specs.Miners.{held}
 use Rattle.miner_core.specs.Streams.{StreamState, ForEachTape, with_tape}
 use Rattle.view_text.specs.View.{InputShare, Received, View}
 use Rattle.program_views.specs.Views.{input_shares, received}
@@ -34,7 +35,7 @@ module _ {P : Type 0} (i : Number) (net : StreamNet) (file : MinerFile) (seat : 
       let n = with_tapes net tapes in
       let m = sits.miner going in
       let at = m.at tapes may in
-      let s = with_tape seat.miner.now (tapes i) in
+      let s = with_tape (held seat.miner.now) (tapes i) in
       let told = told_in (node i s).acts in
       let left = (node i s).left in
       subst (λ links. Sees i n.budget file (tapes i) (told_in (net_node n i).acts) (net_node n i).left (net_posted n) links v) sits.order
@@ -42,7 +43,7 @@ module _ {P : Type 0} (i : Number) (net : StreamNet) (file : MinerFile) (seat : 
       (subst (λ (a : List Act). Sees i n.budget file (tapes i) (told_in a) left (net_posted n) seat.order.now v) at.acts
       (subst (λ f. Sees i n.budget f (tapes i) told left (net_posted n) seat.order.now v) sits.dealt
       (subst (λ b. Sees i b seat.file.now (tapes i) told left (net_posted n) seat.order.now v) at.budget
-      (sees m.going (tapes i) (own_tape net i seat.miner.now m tapes may) (net_posted n) (sym (sits.previous going tapes may))
+      (sees m.going (tapes i) (own_tape net i (held seat.miner.now) m tapes may) (net_posted n) (sym (sits.previous going tapes may))
       (sym (sits.next going tapes may)))))))
 
 -- ---- the words that were drawn
@@ -70,11 +71,11 @@ module _ {P : Type 0} (i : Number) (seat : Seat P) where
   pub sees_from :
       (m : Number) (inputs : List InputShare) (drew : List ℕ) (got : List Received) (opened : List (List Element)) (end : End) (v : View)
       → v ≡ record { miner = m; inputs = inputs; drew = drew; got = got; opened = opened; end = end } → m ≡ i
-      → inputs ≡ input_shares seat.file.now.entries → ForEachTape seat.miner.now (λ s. Drew i s drew)
-      → CameTo m got → ForEachTape seat.miner.now (λ s. opened ≡ shown_in (has_told i s)) → ForEachTape seat.miner.now (λ s. EndsSo i s end)
+      → inputs ≡ input_shares seat.file.now.entries → ForEachTape (held seat.miner.now) (λ s. Drew i s drew)
+      → CameTo m got → ForEachTape (held seat.miner.now) (λ s. opened ≡ shown_in (has_told i s)) → ForEachTape (held seat.miner.now) (λ s. EndsSo i s end)
       → SeesFrom i seat v
   sees_from m inputs drew got opened end v is same as_dealt as_drawn as_came as_told ends going tape of mail previous next =
-      let s = with_tape seat.miner.now tape in
+      let s = with_tape (held seat.miner.now) tape in
       subst
       (λ (x : View). Sees i s.budget seat.file.now tape (has_told i s) (node i s).left mail seat.order.now x) (sym is)
       (record {

@@ -1,10 +1,10 @@
 -- A run, and what each miner saw of it.
-use Rattle.std.proofs.Common.{◌≡◌, ℕ, true, false, List, Option, Some, None, Err, refl, sym, ◌∙◌, ap}
+use Rattle.std.proofs.Common.{◌≡◌, ℕ, true, false, List, Option, Some, None, Err, refl, sym, ◌∙◌, ap, subst}
 use Rattle.proto_core.specs.declared.party.Number.{Number}
 use Rattle.proto_core.specs.declared.party.Number.TheVariants.{One, Two, Three}
 use Rattle.protocol_model.specs.Network.{Delivery}
 use Rattle.tape_file.specs.Tapes.{FourTapes}
-use Rattle.typed_tree.specs.Programs.{TypedProgramTree}
+use Rattle.program_trees.specs.TypedPrograms.{TypedProgramTree}
 use Rattle.value_file.specs.declared.inputs.Entry.{Entry}
 use Rattle.input_share.specs.declared.dealing.Dealt.{Dealt}
 use Rattle.view_model.specs.TapeMaps.{miners_of}
@@ -14,11 +14,14 @@ use Rattle.delivered_run.specs.Accepted.{IsAccepted}
 use Rattle.miner_core.specs.declared.answer.Lost.{Lost}
 use Rattle.miner_core.specs.Streams.{has_lost}
 use Rattle.link_schedule.specs.Streams.{StreamNet, MayHave, with_tapes}
-use Rattle.delivered_run.specs.declared.course.Course.{Course}
-use Rattle.delivered_run.specs.declared.course.Course.TheVariants as course
+use Rattle.delivered_run.specs.declared.course.Course.TheVariants as kept
+use Rattle.delivered_run.specs.declared.running.NetRun.{NetRun}
+use Rattle.delivered_run.specs.States.{CourseState, IsCourseIn, run_told}
+use Rattle.link_schedule.specs.Miners.{IsNetOf}
+use Rattle.delivered_run.specs.States as course
 use Rattle.delivered_run.specs.declared.errors.CourseErr.{CourseErr}
 use Rattle.delivered_run.specs.declared.errors.CourseErr.TheVariants as fault
-use Rattle.delivered_run.specs.Courses.{HasCourse, IsCourseOf, file_of, run_told}
+use Rattle.delivered_run.specs.Courses.{HasCourse, IsCourseOf, file_of}
 use Rattle.delivered_run.proofs.Going.{run_so}
 use Rattle.viewed_run.specs.declared.seen.SeenRun.{SeenRun}
 use Rattle.viewed_run.specs.declared.seen.Views.{Views}
@@ -44,6 +47,13 @@ see_in net files views one two three going tapes may = each
     each Two = two going tapes may
     each Three = three going tapes may
 
+-- ---- of what is kept
+
+pub see_dealt : (files : Dealt) (end : NetRun) (views : Views) → ((s : StreamNet) → IsNetOf end.net s → SeeIn s files views)
+    → (seen : CourseState) → IsCourseIn (kept.Dealt files end) seen → SeeOf seen views
+see_dealt files end views see (course.Dealt dealt ran) is = subst (λ f. SeeIn ran.net f views) is.0 (see ran.net is.1.net)
+see_dealt files end views see (course.Undealt run) is = absurd is
+
 -- ---- of a program
 
 not_lost : (lost : Option Lost) → has_lost lost ≡ false → lost ≡ None
@@ -58,7 +68,7 @@ refused_so p entries t budget given fault.TapeFault h = tt
 
 module _ (p : TypedProgramTree) (entries : List Entry) (t : FourTapes) (budget : ℕ) (given : Delivery) (a : IsAccepted p) where
   views_so :
-      (went : Course) → HasCourse p entries t budget given went → (views : Views) → SeeOf went views
+      (went : CourseState) → HasCourse p entries t budget given went → (views : Views) → SeeOf went views
       → (i : Number) → view_of i p entries t budget given ≡ Some (view_in views i)
   views_so (course.Dealt files end) h views see i =
       is_its_view p entries t budget given a files end h i (view_in views i)
@@ -66,7 +76,7 @@ module _ (p : TypedProgramTree) (entries : List Entry) (t : FourTapes) (budget :
   views_so (course.Undealt run) h views see i = sees_the_end p entries t budget given run h i ∙ ap Some (sym (see i))
 
   pub seen_so :
-      (went : Course) → HasCourse p entries t budget given went → (seen : SeenRun) → seen.run ≡ run_told went → SeeOf went seen.views
+      (went : CourseState) → HasCourse p entries t budget given went → (seen : SeenRun) → seen.run ≡ run_told went → SeeOf went seen.views
       → HasSeenRun p entries t budget given seen
   seen_so went h seen run see =
       record { run = run_so p entries t budget given went h seen.run run; views = views_so went h seen.views see }

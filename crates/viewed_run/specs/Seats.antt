@@ -15,6 +15,7 @@ use Rattle.driven_nodes.specs.Steps.{Stopped}
 use Rattle.miner_core.specs.Places.{Place}
 use Rattle.miner_core.specs.OwnCode.{Ended, Reached}
 use Rattle.miner_core.specs.Story.{Story, has_told, node}
+use Rattle.miner_core.specs.Miners.{held}
 use Rattle.miner_core.specs.Streams.{ForEachTape}
 use Rattle.view_text.specs.View.{View}
 use Rattle.program_views.specs.Views.{input_shares, received}
@@ -63,13 +64,13 @@ module _ {P : Type 0} (i : Number) where
   -- with each tape that it may have, and whatever the links carry that lead to others
   abbrev pub SeesFrom : Seat P → View → Type 0
   SeesFrom seat v =
-      ForEachTape seat.miner.now
+      ForEachTape (held seat.miner.now)
       (λ s. (mail : Mail) → mail (from_previous i) ≡ seat.previous.now → mail (from_next i) ≡ seat.next.now
       → Sees i s.budget seat.file.now s.tape (has_told i s) (node i s).left mail seat.order.now v)
 
   -- that of a net, with this file
   pub record Sits (net : StreamNet) (file : MinerFile) (seat : Seat P) : Type 0 where
-    pub miner : net.lost ≡ None → IsMinerOf net i seat.miner.now
+    pub miner : net.lost ≡ None → IsMinerOf net i (held seat.miner.now)
     pub dealt : seat.file.now ≡ file
     pub previous : ForEachTapes net (λ n. seat.previous.now ≡ net_posted n (from_previous i))
     pub next : ForEachTapes net (λ n. seat.next.now ≡ net_posted n (from_next i))

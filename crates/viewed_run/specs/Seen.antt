@@ -3,7 +3,7 @@ use Rattle.std.specs.Prelude.{◌≡◌, ℕ, List, Some, None, Result}
 use Rattle.proto_core.specs.declared.party.Number.{Number}
 use Rattle.protocol_model.specs.Network.{Delivery}
 use Rattle.tape_file.specs.Tapes.{FourTapes}
-use Rattle.typed_tree.specs.Programs.{TypedProgramTree}
+use Rattle.program_trees.specs.TypedPrograms.{TypedProgramTree}
 use Rattle.value_file.specs.declared.inputs.Entry.{Entry}
 use Rattle.input_share.specs.declared.dealing.Dealt.{Dealt}
 use Rattle.view_text.specs.View.{View}
@@ -11,8 +11,8 @@ use Rattle.program_views.specs.Views.{view_of}
 use Rattle.protocol_model.specs.Runs.{Tapes}
 use Rattle.link_schedule.specs.Net.{by_number}
 use Rattle.link_schedule.specs.Streams.{StreamNet, MayHave, with_tapes}
-use Rattle.delivered_run.specs.declared.course.Course.{Course}
-use Rattle.delivered_run.specs.declared.course.Course.TheVariants as course
+use Rattle.delivered_run.specs.States.{CourseState}
+use Rattle.delivered_run.specs.States as course
 use Rattle.delivered_run.specs.declared.errors.CourseErr.{CourseErr}
 use Rattle.delivered_run.specs.Courses.{file_of}
 use Rattle.delivered_run.specs.Deliveries.{HasRunOf, IsOrRefused}
@@ -31,7 +31,7 @@ SeeIn net files views =
     net.lost ≡ None → (tapes : Tapes) → MayHave net tapes
     → (i : Number) → SeesIn (with_tapes net tapes) i (file_of files i) (tapes i) (view_in views i)
 
-abbrev pub SeeOf : Course → Views → Type 0
+abbrev pub SeeOf : CourseState → Views → Type 0
 SeeOf (course.Dealt files end) views = SeeIn end.net files views
 SeeOf (course.Undealt run) views = (i : Number) → view_in views i ≡ nothing_but i run.report.end
 

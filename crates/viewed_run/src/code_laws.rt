@@ -4,7 +4,7 @@ ghost use Rattle.proto_core.specs.declared.party.Number.{Number};
 ghost use Rattle.protocol_model.specs.Network.{Delivery};
 ghost use Rattle.tape_file.specs.Tapes.{FourTapes};
 ghost use Rattle.value_file.specs.declared.inputs.Entry.{Entry};
-ghost use Rattle.typed_tree.specs.Programs.{TypedProgramTree};
+ghost use Rattle.program_trees.specs.TypedPrograms.{TypedProgramTree};
 ghost use Rattle.viewed_run.specs.CodeViews.{CodeViewsAreViews};
 
 /// Law: of an accepted program, inputs that its dealer's tape suffices for, and a delivery that is accepted, each miner has a view. Three

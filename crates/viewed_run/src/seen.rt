@@ -2,10 +2,14 @@
 ghost use Rattle.std.specs.Prelude.{◌≡◌, IfOk};
 ghost use Rattle.outside.specs.Tapes.{TapesState};
 ghost use Rattle.value_file.specs.Input.{AreInputs};
-ghost use Rattle.typed_tree.specs.Programs.{typed_program_tree};
+ghost use Rattle.program_trees.specs.TypedPrograms.{typed_program_tree};
 ghost use Rattle.delivered_run.specs.Accepted.{IsAccepted};
 ghost use Rattle.delivered_run.specs.Deliveries.{delivery_seen};
 ghost use Rattle.delivered_run.specs.Sources.{RunsFrom};
+ghost use Rattle.delivered_run.specs.States.{CourseState, IsCourseIn, KeepInCourse};
+ghost use Rattle.link_schedule.specs.Miners.{IsNetOf, KeepSo};
+ghost use Rattle.link_schedule.specs.Streams.{StreamNet};
+ghost use Rattle.miner_core.specs.declared.kept.Kept.TheVariants.{All};
 ghost use Rattle.viewed_run.specs.Seats.{nothing_but};
 ghost use Rattle.viewed_run.specs.Seen.{IsSeenRunOf, SeeIn, SeeOf};
 
@@ -13,11 +17,12 @@ use crate::seat::{first, second, third, view};
 use delivered_run::{Course, CourseErr, DeliveredRun, Delivery, run_in_net};
 use input_share::Dealt;
 use link_schedule::Net3;
+use miner_core::Kept;
 use outside::TapeSource;
+use program_trees::TypedProgram;
 use proto_core::Number;
 use sc_text::End;
 use std::alloc::{AllocError, Global};
-use typed_tree::TypedProgram;
 use value_file::Inputs;
 use view_text::View;
 
@@ -72,9 +77,10 @@ impl SeenRun {
     }
 }
 
-// What the miners of a net saw, that have ended.
+// What the miners of a net saw, that keep all and have ended.
 fn views_in(alloc: Global, net: &Net3, files: &Dealt) -> Result<Views, AllocError>
-    ensures { IfOk result (SeeIn net.now files.now) }
+    requires { KeepSo All net.now }
+    ensures { IfOk result (λ views. (s : StreamNet) → IsNetOf net.now s → SeeIn s files.now views) }
 {
     let one = view(alloc, &first(net, files))?;
     let two = view(alloc, &second(net, files))?;
@@ -96,9 +102,10 @@ fn nothing_but(alloc: Global, miner: Number, end: End) -> View
     )
 }
 
-// What the miners saw of a run.
+// What the miners saw of a run, that keep all.
 fn all_views(alloc: Global, course: &Course) -> Result<Views, AllocError>
-    ensures { IfOk result (SeeOf course.now) }
+    requires { KeepInCourse All course.now }
+    ensures { IfOk result (λ views. (seen : CourseState) → IsCourseIn course.now seen → SeeOf seen views) }
 {
     match course {
         Course::Dealt { files, end } => views_in(alloc, &end.net, files),
@@ -126,7 +133,7 @@ pub fn run_seen<T: TapeSource>(
     ensures { RunsFrom (T.state tapes.old) (T.state tapes.new) inputs.now result
         (λ t. IsSeenRunOf (typed_program_tree program.now) inputs.now t budget (delivery_seen delivery.now) result) }
 {
-    let course = run_in_net(alloc, program, inputs, tapes, budget, delivery)?;
+    let course = run_in_net(alloc, program, inputs, tapes, budget, delivery, Kept::All)?;
     let views = all_views(alloc, &course)?;
     Ok(SeenRun {
         run: course.into_run(),

@@ -6,12 +6,12 @@ use Rattle.std.specs.List.{slice_get}
 use Rattle.std.proofs.lemmas.Bool.{eqb-true, or_parts}
 use Rattle.std.proofs.lemmas.Option.{same_Some}
 use Rattle.std.proofs.lemmas.List.{map-append, take_all}
-use Rattle.secrec_ast.specs.declared.statement.Domain.{Domain}
-use Rattle.secrec_ast.specs.declared.statement.Domain.TheVariants as domain
-use Rattle.secrec_ast.specs.declared.statement.DeclaredType.{DeclaredType}
-use Rattle.secrec_ast.specs.declared.function.DomainVariable.{DomainVariable}
-use Rattle.secrec_ast.specs.declared.function.Parameter.{Parameter}
-use Rattle.secrec_ast.specs.Programs.{ItemTree}
+use Rattle.program_trees.specs.declared.statement.Domain.{Domain}
+use Rattle.program_trees.specs.declared.statement.Domain.TheVariants as domain
+use Rattle.program_trees.specs.declared.statement.DeclaredType.{DeclaredType}
+use Rattle.program_trees.specs.declared.function.DomainVariable.{DomainVariable}
+use Rattle.program_trees.specs.declared.function.Parameter.{Parameter}
+use Rattle.program_trees.specs.Programs.{ItemTree}
 use Rattle.domain_types.specs.declared.value_type.Argument.{Argument}
 use Rattle.domain_types.specs.declared.value_type.Protection.{Protection}
 use Rattle.domain_types.specs.declared.value_type.Protection.TheVariants as checked
@@ -21,9 +21,9 @@ use Rattle.domain_types.specs.ExpressionTypes.{is_named, bound_from, bound_by}
 use Rattle.domain_types.specs.FunctionTypes as head
 use Rattle.domain_types.specs.Typing.{Meets, AreBound, AreDomainVariables}
 use Rattle.domain_types.specs.Typing as typing
-use Rattle.typed_tree.specs.declared.kinds.SlotDomain.{SlotDomain}
-use Rattle.typed_tree.specs.declared.kinds.SlotDomain.TheVariants as slot
-use Rattle.typed_tree.specs.declared.kinds.Slot.{Slot}
+use Rattle.program_trees.specs.declared.kinds.SlotDomain.{SlotDomain}
+use Rattle.program_trees.specs.declared.kinds.SlotDomain.TheVariants as slot
+use Rattle.program_trees.specs.declared.kinds.Slot.{Slot}
 use Rattle.name_resolution.specs.Values.{and_more}
 use Rattle.name_resolution.specs.Functions.{variable_number, domain_named, slot_domain, slot_in, slot_written, slots_written}
 use Rattle.name_resolution.proofs.SoundValues.{mapped, both_there, some_is}

@@ -4,11 +4,11 @@ use Rattle.std.specs.Prelude.{map}
 use Rattle.std.specs.List.{slice_get}
 use Rattle.std.proofs.lemmas.List.{length-map}
 use Rattle.sc_text.specs.declared.span.Span.{Span}
-use Rattle.secrec_ast.specs.declared.function.DomainVariable.{DomainVariable}
-use Rattle.secrec_ast.specs.declared.function.Parameter.{Parameter}
-use Rattle.secrec_ast.specs.declared.function.ResultType.{ResultType}
-use Rattle.secrec_ast.specs.declared.function.ResultType.TheVariants as result
-use Rattle.secrec_ast.specs.Programs.{FunctionTree, ProgramTree}
+use Rattle.program_trees.specs.declared.function.DomainVariable.{DomainVariable}
+use Rattle.program_trees.specs.declared.function.Parameter.{Parameter}
+use Rattle.program_trees.specs.declared.function.ResultType.{ResultType}
+use Rattle.program_trees.specs.declared.function.ResultType.TheVariants as result
+use Rattle.program_trees.specs.Programs.{FunctionTree, ProgramTree}
 use Rattle.domain_types.specs.declared.value_type.Argument.{Argument}
 use Rattle.domain_types.specs.declared.value_type.Protection.{Protection}
 use Rattle.domain_types.specs.declared.value_type.ValueType.{ValueType}
@@ -27,13 +27,13 @@ use Rattle.domain_types.specs.Typing.{IsBuiltInCall, ParameterTakes, ParametersT
 use Rattle.domain_types.proofs.Bindings.{with_domain}
 use Rattle.domain_types.proofs.TypingSteps.{there, passes}
 use Rattle.domain_types.proofs.TypingCalls.{defined_from}
-use Rattle.typed_tree.specs.declared.kinds.Shape.{Shape}
-use Rattle.typed_tree.specs.declared.kinds.Slot.{Slot}
-use Rattle.typed_tree.specs.declared.function.Returned.{Returned}
-use Rattle.typed_tree.specs.declared.function.Returned.TheVariants as given
-use Rattle.typed_tree.specs.Tree.{TypedTrees, call_node, typed_trees_of}
-use Rattle.typed_tree.specs.Programs.{TypedFunctionTree}
-use Rattle.typed_tree.specs.Shapes.{shape_of}
+use Rattle.program_trees.specs.declared.kinds.Shape.{Shape}
+use Rattle.program_trees.specs.declared.kinds.Slot.{Slot}
+use Rattle.program_trees.specs.declared.typed_function.Returned.{Returned}
+use Rattle.program_trees.specs.declared.typed_function.Returned.TheVariants as given
+use Rattle.program_trees.specs.TypedTree.{TypedTrees, call_node, typed_trees_of}
+use Rattle.program_trees.specs.TypedPrograms.{TypedFunctionTree}
+use Rattle.program_trees.specs.Shapes.{shape_of}
 use Rattle.name_resolution.specs.Values.{TypedValue, TypedCall, shape_returned, tree_of_value, built_in_value}
 use Rattle.name_resolution.specs.Order as order
 use Rattle.name_resolution.specs.Functions.{slot_written, slots_written, given_back, typed_functions, with_functions}

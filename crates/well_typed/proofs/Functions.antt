@@ -4,22 +4,22 @@ use Rattle.std.specs.Prelude.{map}
 use Rattle.std.specs.List.{slice_get}
 use Rattle.std.proofs.lemmas.Option.{same_Some}
 use Rattle.std.proofs.lemmas.List.{length-map, length-append}
-use Rattle.secrec_ast.specs.declared.statement.DeclaredType.{DeclaredType}
-use Rattle.secrec_ast.specs.declared.function.Parameter.{Parameter}
-use Rattle.secrec_ast.specs.declared.function.ResultType.{ResultType}
-use Rattle.secrec_ast.specs.declared.function.ResultType.TheVariants as result
-use Rattle.secrec_ast.specs.Programs.{FunctionTree, ProgramTree}
+use Rattle.program_trees.specs.declared.statement.DeclaredType.{DeclaredType}
+use Rattle.program_trees.specs.declared.function.Parameter.{Parameter}
+use Rattle.program_trees.specs.declared.function.ResultType.{ResultType}
+use Rattle.program_trees.specs.declared.function.ResultType.TheVariants as result
+use Rattle.program_trees.specs.Programs.{FunctionTree, ProgramTree}
 use Rattle.domain_types.specs.Declarations.{declared_by, functions_of}
 use Rattle.domain_types.specs.Scopes as checked
 use Rattle.domain_types.specs.FunctionTypes as head
 use Rattle.domain_types.specs.StatementTypes as checker
 use Rattle.domain_types.specs.Typing.{GivesResult, IsTypedFunction, IsTypedProgram}
 use Rattle.domain_types.specs.ExpressionTypes.{within}
-use Rattle.typed_tree.specs.declared.function.Returned.{Returned}
-use Rattle.typed_tree.specs.declared.function.Returned.TheVariants as given
-use Rattle.typed_tree.specs.Statements.{TypedStatementTrees}
+use Rattle.program_trees.specs.declared.typed_function.Returned.{Returned}
+use Rattle.program_trees.specs.declared.typed_function.Returned.TheVariants as given
+use Rattle.program_trees.specs.TypedStatements.{TypedStatementTrees}
 use Rattle.name_resolution.specs.Scopes.{FunctionScope, no_place, declaring}
-use Rattle.typed_tree.specs.Programs.{TypedFunctionTree, TypedProgramTree}
+use Rattle.program_trees.specs.TypedPrograms.{TypedFunctionTree, TypedProgramTree}
 use Rattle.name_resolution.specs.Functions.{slot_written, slots_written, given_back, with_parameters, typed_function, typed_functions}
 use Rattle.name_resolution.specs.Order as order
 use Rattle.name_resolution.proofs.SoundValues.{mapped, some_is}

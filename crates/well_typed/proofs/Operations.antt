@@ -1,28 +1,28 @@
 -- Binary operators: which one a sign means on operands that the checker has typed, and its node.
 use Rattle.std.proofs.Common.{◌≡◌, ℕ, ◌++◌, ◌⊎◌, inl, inr, refl, sym, ap, ap₂, ◌∙◌, subst, Option, Some, None, Bool, true, false}
 use Rattle.std.specs.Prelude.{◌||◌}
-use Rattle.secrec_ast.specs.declared.expression.DataType.{DataType}
-use Rattle.secrec_ast.specs.declared.expression.DataType.TheVariants.{Uint64}
-use Rattle.secrec_ast.specs.declared.expression.DataType.TheVariants as datatype
-use Rattle.secrec_ast.specs.declared.expression.Operator.{Operator}
-use Rattle.secrec_ast.specs.declared.expression.Operator.TheVariants.{Add, Subtract, Multiply, Divide, Remainder, Equal, NotEqual, Less, LessOrEqual}
-use Rattle.secrec_ast.specs.declared.expression.Operator.TheVariants.{Greater, GreaterOrEqual, And, Or, Xor, AndAlso, OrElse}
-use Rattle.secrec_ast.specs.Programs.{ProgramTree}
+use Rattle.program_trees.specs.declared.expression.DataType.{DataType}
+use Rattle.program_trees.specs.declared.expression.DataType.TheVariants.{Uint64}
+use Rattle.program_trees.specs.declared.expression.DataType.TheVariants as datatype
+use Rattle.program_trees.specs.declared.expression.Operator.{Operator}
+use Rattle.program_trees.specs.declared.expression.Operator.TheVariants.{Add, Subtract, Multiply, Divide, Remainder, Equal, NotEqual, Less, LessOrEqual}
+use Rattle.program_trees.specs.declared.expression.Operator.TheVariants.{Greater, GreaterOrEqual, And, Or, Xor, AndAlso, OrElse}
+use Rattle.program_trees.specs.Programs.{ProgramTree}
 use Rattle.domain_types.specs.declared.value_type.Protection.{Protection}
 use Rattle.domain_types.specs.declared.value_type.Protection.TheVariants as checked
 use Rattle.domain_types.specs.declared.value_type.ValueType.{ValueType}
 use Rattle.domain_types.specs.Typing.{OperatesOn, IsOperation}
-use Rattle.typed_tree.specs.declared.kinds.Shape.{Shape}
-use Rattle.typed_tree.specs.declared.operators.WordOperator.TheVariants as word
-use Rattle.typed_tree.specs.declared.operators.BoolOperator.TheVariants as truth
-use Rattle.typed_tree.specs.declared.operators.BinaryOperator.{BinaryOperator}
-use Rattle.typed_tree.specs.declared.operators.BinaryOperator.TheVariants.{Words, Bools}
-use Rattle.typed_tree.specs.declared.operators.Connective.{Connective}
-use Rattle.typed_tree.specs.declared.operators.Operands.{Operands}
-use Rattle.typed_tree.specs.declared.operators.Operands.TheVariants.{Scalars, ArrayAndScalar, ScalarAndArray, Arrays}
-use Rattle.typed_tree.specs.Tree.{binary_node, cut_node}
-use Rattle.typed_tree.specs.Operators.{operator_on, element_made, operands_of, may_cut_short}
-use Rattle.typed_tree.specs.Shapes.{shape_of}
+use Rattle.program_trees.specs.declared.kinds.Shape.{Shape}
+use Rattle.program_trees.specs.declared.operators.WordOperator.TheVariants as word
+use Rattle.program_trees.specs.declared.operators.BoolOperator.TheVariants as truth
+use Rattle.program_trees.specs.declared.operators.BinaryOperator.{BinaryOperator}
+use Rattle.program_trees.specs.declared.operators.BinaryOperator.TheVariants.{Words, Bools}
+use Rattle.program_trees.specs.declared.operators.Connective.{Connective}
+use Rattle.program_trees.specs.declared.operators.Operands.{Operands}
+use Rattle.program_trees.specs.declared.operators.Operands.TheVariants.{Scalars, ArrayAndScalar, ScalarAndArray, Arrays}
+use Rattle.program_trees.specs.TypedTree.{binary_node, cut_node}
+use Rattle.program_trees.specs.Operators.{operator_on, element_made, operands_of, may_cut_short}
+use Rattle.program_trees.specs.Shapes.{shape_of}
 use Rattle.name_resolution.specs.Values.{TypedValue, operation_node, operation_made}
 use Rattle.name_resolution.proofs.SoundValues.{some_is}
 use Rattle.reached_instances.specs.Domains.{Setting, domain, joined_domain}

@@ -4,16 +4,16 @@ use Rattle.std.specs.Prelude.{codes}
 use Rattle.std.specs.List.{slice_get}
 use Rattle.std.proofs.lemmas.Option.{same_Some}
 use Rattle.sc_text.specs.declared.span.Span.{Span}
-use Rattle.secrec_ast.specs.declared.expression.DataType.TheVariants.{Uint64}
-use Rattle.secrec_ast.specs.declared.expression.Operator.TheVariants.{Add}
-use Rattle.secrec_ast.specs.declared.statement.Domain.{Domain}
-use Rattle.secrec_ast.specs.declared.statement.Domain.TheVariants as domain
-use Rattle.secrec_ast.specs.declared.statement.Identifier.{Identifier}
-use Rattle.secrec_ast.specs.declared.statement.DeclaredType.{DeclaredType}
-use Rattle.secrec_ast.specs.declared.function.ResultType.TheVariants as result
-use Rattle.secrec_ast.specs.Tree.{number, variable, call, binary, declassify, argument, publish, trees_of}
-use Rattle.secrec_ast.specs.Statements.{returns, declaration, evaluation, statements_of}
-use Rattle.secrec_ast.specs.Programs.{FunctionTree, imports, domain as domains_item, defines, ProgramTree}
+use Rattle.program_trees.specs.declared.expression.DataType.TheVariants.{Uint64}
+use Rattle.program_trees.specs.declared.expression.Operator.TheVariants.{Add}
+use Rattle.program_trees.specs.declared.statement.Domain.{Domain}
+use Rattle.program_trees.specs.declared.statement.Domain.TheVariants as domain
+use Rattle.program_trees.specs.declared.statement.Identifier.{Identifier}
+use Rattle.program_trees.specs.declared.statement.DeclaredType.{DeclaredType}
+use Rattle.program_trees.specs.declared.function.ResultType.TheVariants as result
+use Rattle.program_trees.specs.Tree.{number, variable, call, binary, declassify, argument, publish, trees_of}
+use Rattle.program_trees.specs.Statements.{returns, declaration, evaluation, statements_of}
+use Rattle.program_trees.specs.Programs.{FunctionTree, imports, domain as domains_item, defines, ProgramTree}
 use Rattle.domain_types.specs.declared.value_type.Protection.TheVariants as checked
 use Rattle.domain_types.specs.declared.value_type.ValueType.{ValueType}
 use Rattle.domain_types.specs.declared.value_type.ExpressionType.TheVariants.{Void}
@@ -25,15 +25,15 @@ use Rattle.domain_types.specs.Reached.{Call, Instance, Calls, IsChecked, plain, 
 use Rattle.domain_types.specs.ProgramTypes.{IsAccepted}
 use Rattle.domain_types.specs.Typing.{IsTypedFunction, AreDomainVariables, IsTypedProgram}
 use Rattle.domain_types.proofs.TypingPrograms.{typed_is_accepted}
-use Rattle.typed_tree.specs.declared.kinds.SlotDomain.TheVariants as slot
-use Rattle.typed_tree.specs.declared.function.Returned.TheVariants.{Nothing, Value}
-use Rattle.typed_tree.specs.declared.operators.WordOperator.TheVariants as word
-use Rattle.typed_tree.specs.declared.operators.BinaryOperator.TheVariants.{Words}
-use Rattle.typed_tree.specs.declared.operators.Operands.TheVariants.{Scalars}
-use Rattle.typed_tree.specs.Tree.{word_node, slot_node, call_node, binary_node, declassify_node, typed_trees_of}
-use Rattle.typed_tree.specs.Statements.{return_statement, input_statement, publish_statement, typed_statements_of}
-use Rattle.typed_tree.specs.Programs.{TypedProgramTree}
-use Rattle.typed_tree.specs.Shapes.{shape_of}
+use Rattle.program_trees.specs.declared.kinds.SlotDomain.TheVariants as slot
+use Rattle.program_trees.specs.declared.typed_function.Returned.TheVariants.{Nothing, Value}
+use Rattle.program_trees.specs.declared.operators.WordOperator.TheVariants as word
+use Rattle.program_trees.specs.declared.operators.BinaryOperator.TheVariants.{Words}
+use Rattle.program_trees.specs.declared.operators.Operands.TheVariants.{Scalars}
+use Rattle.program_trees.specs.TypedTree.{word_node, slot_node, call_node, binary_node, declassify_node, typed_trees_of}
+use Rattle.program_trees.specs.TypedStatements.{return_statement, input_statement, publish_statement, typed_statements_of}
+use Rattle.program_trees.specs.TypedPrograms.{TypedProgramTree}
+use Rattle.program_trees.specs.Shapes.{shape_of}
 use Rattle.name_resolution.specs.Functions.{typed_of}
 use Rattle.reached_instances.specs.declared.instance.BoundDomain.TheVariants.{Private}
 use Rattle.reached_instances.specs.Reached.{IsReached, begins, follows}

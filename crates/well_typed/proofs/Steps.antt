@@ -1,8 +1,8 @@
 -- Resolving, step by step: what holds between the place before a step, what it makes, and the place after it.
 use Rattle.std.proofs.Common.{◌≡◌, ℕ, length, refl, subst, Option, Some, None}
 use Rattle.std.specs.Prelude.{option_map}
-use Rattle.secrec_ast.specs.declared.statement.Identifier.{Identifier}
-use Rattle.secrec_ast.specs.declared.statement.DeclaredType.{DeclaredType}
+use Rattle.program_trees.specs.declared.statement.Identifier.{Identifier}
+use Rattle.program_trees.specs.declared.statement.DeclaredType.{DeclaredType}
 use Rattle.name_resolution.specs.Scopes.{FunctionScope, declaring, entering, behind_block}
 use Rattle.name_resolution.specs.Resolving.{Resolving, carry, ◌>>=◌, done, reading, next_slot, declare, closed, in_block}
 

@@ -2,10 +2,10 @@
 use Rattle.std.proofs.Common.{◌≡◌, ℕ, ◌<◌, List, [], ◌∷◌, ◌++◌, ◌⊎◌, inl, inr, refl, sym, ap, ◌∙◌, subst, Some, Bool, true, false}
 use Rattle.std.specs.Prelude.{◌^◌}
 use Rattle.std.specs.List.{slice_get}
-use Rattle.secrec_ast.specs.declared.expression.DataType.{DataType}
-use Rattle.secrec_ast.specs.declared.expression.DataType.TheVariants.{Uint64}
-use Rattle.secrec_ast.specs.declared.expression.DataType.TheVariants as datatype
-use Rattle.secrec_ast.specs.Programs.{ProgramTree}
+use Rattle.program_trees.specs.declared.expression.DataType.{DataType}
+use Rattle.program_trees.specs.declared.expression.DataType.TheVariants.{Uint64}
+use Rattle.program_trees.specs.declared.expression.DataType.TheVariants as datatype
+use Rattle.program_trees.specs.Programs.{ProgramTree}
 use Rattle.domain_types.specs.declared.value_type.Argument.{Argument}
 use Rattle.domain_types.specs.declared.value_type.ValueType.{ValueType}
 use Rattle.domain_types.specs.Types.{scalar_of, public_scalar}
@@ -13,11 +13,11 @@ use Rattle.domain_types.specs.ExpressionTypes.{cast_type, declassified, array_of
 use Rattle.sc_text.specs.Lists.{Among}
 use Rattle.domain_types.specs.Typing.{Meets}
 use Rattle.sc_text.proofs.Lists.{among_parts}
-use Rattle.typed_tree.specs.declared.kinds.Shape.{Shape}
-use Rattle.typed_tree.specs.declared.kinds.Slot.{Slot}
-use Rattle.typed_tree.specs.Operators.{cast_between}
-use Rattle.typed_tree.specs.Tree.{TypedTree, word_node, truth_node, slot_node, size_node, cat_node, sum_node, bits_node, element_node}
-use Rattle.typed_tree.specs.Shapes.{shape_of}
+use Rattle.program_trees.specs.declared.kinds.Shape.{Shape}
+use Rattle.program_trees.specs.declared.kinds.Slot.{Slot}
+use Rattle.program_trees.specs.Operators.{cast_between}
+use Rattle.program_trees.specs.TypedTree.{TypedTree, word_node, truth_node, slot_node, size_node, cat_node, sum_node, bits_node, element_node}
+use Rattle.program_trees.specs.Shapes.{shape_of}
 use Rattle.name_resolution.specs.Values.{TypedValue, made, negated, cast_value, declassified_value}
 use Rattle.reached_instances.specs.Instances.{Instance}
 use Rattle.reached_instances.specs.Domains.{Setting, domain, slot_domain, joined_domain}

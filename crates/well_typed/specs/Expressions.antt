@@ -1,19 +1,19 @@
 -- Which expressions are well typed, and the shape of what they give. Who may see it is `domain` of the reached instances.
 use Rattle.std.specs.Prelude.{◌≡◌, ◌<◌, ◌^◌, Bool, ◌||◌, List, [], ◌∷◌, take, Option, Some, None}
 use Rattle.std.specs.List.{slice_get}
-use Rattle.secrec_ast.specs.declared.expression.DataType.{DataType}
-use Rattle.secrec_ast.specs.declared.expression.DataType.TheVariants.{Uint64}
-use Rattle.secrec_ast.specs.declared.expression.DataType.TheVariants as datatype
-use Rattle.typed_tree.specs.declared.kinds.Shape.{Shape}
-use Rattle.typed_tree.specs.declared.kinds.Slot.{Slot}
-use Rattle.typed_tree.specs.declared.function.Returned.{Returned}
-use Rattle.typed_tree.specs.declared.function.Returned.TheVariants.{Nothing, Value}
-use Rattle.typed_tree.specs.Operators.{element_made}
-use Rattle.typed_tree.specs.Tree.{TypedTree, TypedTrees, word_node, truth_node, slot_node, call_node, size_node, cat_node, sum_node, bits_node}
-use Rattle.typed_tree.specs.Tree.{element_node, not_node, cast_node, binary_node, cut_node, declassify_node}
-use Rattle.typed_tree.specs.Tree as Tree'
-use Rattle.typed_tree.specs.Programs.{TypedFunctionTree}
-use Rattle.typed_tree.specs.Shapes.{shape_of}
+use Rattle.program_trees.specs.declared.expression.DataType.{DataType}
+use Rattle.program_trees.specs.declared.expression.DataType.TheVariants.{Uint64}
+use Rattle.program_trees.specs.declared.expression.DataType.TheVariants as datatype
+use Rattle.program_trees.specs.declared.kinds.Shape.{Shape}
+use Rattle.program_trees.specs.declared.kinds.Slot.{Slot}
+use Rattle.program_trees.specs.declared.typed_function.Returned.{Returned}
+use Rattle.program_trees.specs.declared.typed_function.Returned.TheVariants.{Nothing, Value}
+use Rattle.program_trees.specs.Operators.{element_made}
+use Rattle.program_trees.specs.TypedTree.{TypedTree, TypedTrees, word_node, truth_node, slot_node, call_node, size_node, cat_node, sum_node, bits_node}
+use Rattle.program_trees.specs.TypedTree.{element_node, not_node, cast_node, binary_node, cut_node, declassify_node}
+use Rattle.program_trees.specs.TypedTree as Tree'
+use Rattle.program_trees.specs.TypedPrograms.{TypedFunctionTree}
+use Rattle.program_trees.specs.Shapes.{shape_of}
 use Rattle.reached_instances.specs.declared.instance.BoundDomain.{BoundDomain}
 use Rattle.reached_instances.specs.declared.instance.BoundDomain.TheVariants.{Public}
 use Rattle.reached_instances.specs.Domains.{Setting, domain, domains, joined_domain, domain_under, binding_of}

@@ -1,13 +1,13 @@
 -- What is true of the typed tree of an accepted program.
 use Rattle.std.specs.Prelude.{◌≡◌, ℕ, List, map, length, Some}
 use Rattle.std.specs.List.{slice_get}
-use Rattle.secrec_ast.specs.Programs.{FunctionTree, ProgramTree}
+use Rattle.program_trees.specs.Programs.{FunctionTree, ProgramTree}
 use Rattle.domain_types.specs.declared.value_type.Protection.{Protection}
 use Rattle.domain_types.specs.declared.value_type.Protection.TheVariants as checked
 use Rattle.domain_types.specs.Declarations.{declared_by, functions_of}
 use Rattle.domain_types.specs.Reached.{IsChecked}
 use Rattle.domain_types.specs.ProgramTypes.{IsAccepted}
-use Rattle.typed_tree.specs.Programs.{TypedProgramTree}
+use Rattle.program_trees.specs.TypedPrograms.{TypedProgramTree}
 use Rattle.name_resolution.specs.Order.{reached}
 use Rattle.name_resolution.specs.Functions.{typed_of}
 use Rattle.reached_instances.specs.declared.instance.BoundDomain.{BoundDomain}

@@ -1,10 +1,10 @@
 -- Which functions are well typed under a binding, and which programs.
 use Rattle.std.specs.Prelude.{◌≡◌, ◌≤◌, false, IsTrue, length, Some}
 use Rattle.std.specs.List.{slice_get}
-use Rattle.typed_tree.specs.declared.function.Returned.{Returned}
-use Rattle.typed_tree.specs.declared.function.Returned.TheVariants.{Nothing, Value}
-use Rattle.typed_tree.specs.Statements.{TypedStatementTrees}
-use Rattle.typed_tree.specs.Programs.{TypedFunctionTree, TypedProgramTree}
+use Rattle.program_trees.specs.declared.typed_function.Returned.{Returned}
+use Rattle.program_trees.specs.declared.typed_function.Returned.TheVariants.{Nothing, Value}
+use Rattle.program_trees.specs.TypedStatements.{TypedStatementTrees}
+use Rattle.program_trees.specs.TypedPrograms.{TypedFunctionTree, TypedProgramTree}
 use Rattle.reached_instances.specs.Domains.{Setting}
 use Rattle.reached_instances.specs.Instances.{Instance}
 use Rattle.reached_instances.specs.Reached.{IsReached}

@@ -2,21 +2,21 @@
 use Rattle.std.specs.Prelude.{◌≡◌, ℕ, Bool, true, false, [], ◌∷◌, take, Option, Some, refl}
 use Rattle.std.proofs.Common.{subst, arith}
 use Rattle.std.proofs.lemmas.Option.{same_Some}
-use Rattle.secrec_ast.specs.declared.expression.DataType.{DataType}
-use Rattle.secrec_ast.specs.declared.expression.DataType.TheVariants.{Uint64}
-use Rattle.secrec_ast.specs.declared.expression.DataType.TheVariants as datatype
-use Rattle.typed_tree.specs.declared.kinds.Shape.{Shape}
-use Rattle.typed_tree.specs.declared.kinds.SlotDomain.{SlotDomain}
-use Rattle.typed_tree.specs.declared.kinds.SlotDomain.TheVariants as slot
-use Rattle.typed_tree.specs.declared.kinds.Slot.{Slot}
-use Rattle.typed_tree.specs.declared.function.Returned.TheVariants.{Nothing, Value}
-use Rattle.typed_tree.specs.declared.operators.WordOperator.TheVariants.{Add, Divide, Less}
-use Rattle.typed_tree.specs.declared.operators.BinaryOperator.TheVariants.{Words}
-use Rattle.typed_tree.specs.declared.operators.Operands.TheVariants.{Scalars, ArrayAndScalar}
-use Rattle.typed_tree.specs.Tree.{truth_node, slot_node, call_node, element_node, binary_node, declassify_node, typed_trees_of}
-use Rattle.typed_tree.specs.Statements.{if_statement, loop_statement, empty_statement, break_statement, return_statement, store_statement, typed_statements_of}
-use Rattle.typed_tree.specs.Programs.{TypedFunctionTree}
-use Rattle.typed_tree.specs.Shapes.{shape_of}
+use Rattle.program_trees.specs.declared.expression.DataType.{DataType}
+use Rattle.program_trees.specs.declared.expression.DataType.TheVariants.{Uint64}
+use Rattle.program_trees.specs.declared.expression.DataType.TheVariants as datatype
+use Rattle.program_trees.specs.declared.kinds.Shape.{Shape}
+use Rattle.program_trees.specs.declared.kinds.SlotDomain.{SlotDomain}
+use Rattle.program_trees.specs.declared.kinds.SlotDomain.TheVariants as slot
+use Rattle.program_trees.specs.declared.kinds.Slot.{Slot}
+use Rattle.program_trees.specs.declared.typed_function.Returned.TheVariants.{Nothing, Value}
+use Rattle.program_trees.specs.declared.operators.WordOperator.TheVariants.{Add, Divide, Less}
+use Rattle.program_trees.specs.declared.operators.BinaryOperator.TheVariants.{Words}
+use Rattle.program_trees.specs.declared.operators.Operands.TheVariants.{Scalars, ArrayAndScalar}
+use Rattle.program_trees.specs.TypedTree.{truth_node, slot_node, call_node, element_node, binary_node, declassify_node, typed_trees_of}
+use Rattle.program_trees.specs.TypedStatements.{if_statement, loop_statement, empty_statement, break_statement, return_statement, store_statement, typed_statements_of}
+use Rattle.program_trees.specs.TypedPrograms.{TypedFunctionTree}
+use Rattle.program_trees.specs.Shapes.{shape_of}
 use Rattle.reached_instances.specs.declared.instance.BoundDomain.TheVariants.{Private}
 use Rattle.reached_instances.specs.Domains.{Setting, domain_under, binding_of}
 use Rattle.well_typed.specs.Kinds.{scalar, array, GoesTo}

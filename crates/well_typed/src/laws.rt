@@ -1,5 +1,5 @@
 // What is true of the typed tree of an accepted program, under each binding that its `main` reaches.
-ghost use Rattle.secrec_ast.specs.Programs.{ProgramTree};
+ghost use Rattle.program_trees.specs.Programs.{ProgramTree};
 ghost use Rattle.well_typed.specs.Laws.{AreInstancesChecked, IsWellTypedWhereAccepted};
 
 /// In the typed tree of a program that the checker accepts, and whose text the grammar allows, each reached function is well typed

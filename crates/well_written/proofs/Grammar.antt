@@ -3,15 +3,15 @@ use Rattle.std.proofs.Common.{◌≡◌, ℕ, ◌-◌, List, [], ◌∷◌, inl,
 use Rattle.secrec_lexer.specs.declared.token.TokenKind.TheVariants as kinds
 use Rattle.secrec_lexer.specs.declared.token.Token.{Token}
 use Rattle.secrec_lexer.specs.declared.sign.Sign.TheVariants as signs
-use Rattle.secrec_ast.specs.Tree.{Tree, Trees, number, truth, variable, call, index, parentheses, negation, cast, binary, declassify, argument, publish}
-use Rattle.secrec_ast.specs.declared.expression.Operator.{Operator}
-use Rattle.secrec_ast.specs.Tree as Tree'
-use Rattle.secrec_ast.specs.Statements.{DeclarationTree, TargetTree, AssignmentTree, StartTree, starts_with_nothing, starts_with_declaration}
-use Rattle.secrec_ast.specs.Statements.{starts_with_assignment, StepTree, steps_by_nothing, steps_by_assignment, steps_by_expression, StatementTree}
-use Rattle.secrec_ast.specs.Statements.{block, empty, branch, choice, while_loop, do_loop, for_loop, breaks, continues, returns, assertion}
-use Rattle.secrec_ast.specs.Statements.{declaration, assignment, evaluation, StatementTrees}
-use Rattle.secrec_ast.specs.Statements as Statements'
-use Rattle.secrec_ast.specs.Programs.{FunctionTree, ItemTree, imports, kind, domain, defines, ProgramTree}
+use Rattle.program_trees.specs.Tree.{Tree, Trees, number, truth, variable, call, index, parentheses, negation, cast, binary, declassify, argument, publish}
+use Rattle.program_trees.specs.declared.expression.Operator.{Operator}
+use Rattle.program_trees.specs.Tree as Tree'
+use Rattle.program_trees.specs.Statements.{DeclarationTree, TargetTree, AssignmentTree, StartTree, starts_with_nothing, starts_with_declaration}
+use Rattle.program_trees.specs.Statements.{starts_with_assignment, StepTree, steps_by_nothing, steps_by_assignment, steps_by_expression, StatementTree}
+use Rattle.program_trees.specs.Statements.{block, empty, branch, choice, while_loop, do_loop, for_loop, breaks, continues, returns, assertion}
+use Rattle.program_trees.specs.Statements.{declaration, assignment, evaluation, StatementTrees}
+use Rattle.program_trees.specs.Statements as Statements'
+use Rattle.program_trees.specs.Programs.{FunctionTree, ItemTree, imports, kind, domain, defines, ProgramTree}
 use Rattle.domain_types.specs.Declarations.{functions_of}
 use Rattle.expression_parser.specs.Phrases.{Phrase, sign_at, sign, one_at, one, token, ◌then◌}
 use Rattle.expression_parser.specs.Grammar.{IsExpression, AreArguments, AreMore, IsDataType, loosest, unary, level, sign_of}

@@ -2,7 +2,7 @@
 use Rattle.std.specs.Prelude.{ℕ, List}
 use Rattle.secrec_lexer.specs.declared.token.Token.{Token}
 use Rattle.secrec_lexer.specs.Lexis.{HasTokens}
-use Rattle.secrec_ast.specs.Programs.{ProgramTree}
+use Rattle.program_trees.specs.Programs.{ProgramTree}
 use Rattle.secrec_parser.specs.Grammar.{IsProgram}
 use Rattle.well_typed.specs.Sources.{IsWellWritten}
 

@@ -1,6 +1,6 @@
 // What is true of the tree that the tokens of a text spell.
 ghost use Rattle.std.specs.Prelude.{ℕ, List};
-ghost use Rattle.secrec_ast.specs.Programs.{ProgramTree};
+ghost use Rattle.program_trees.specs.Programs.{ProgramTree};
 ghost use Rattle.well_written.specs.Laws.{IsWellWrittenWhereSpelled};
 
 /// The tree that the tokens of a text spell is well written.

@@ -7,10 +7,10 @@ use Rattle.secrec_lexer.specs.declared.sign.Sign.{Sign}
 use Rattle.secrec_lexer.specs.declared.token.TokenKind.{TokenKind}
 use Rattle.secrec_lexer.specs.declared.token.TokenKind.TheVariants as kinds
 use Rattle.secrec_lexer.specs.declared.token.Token.{Token}
-use Rattle.secrec_ast.specs.declared.expression.DataType.TheVariants.{Uint64}
-use Rattle.secrec_ast.specs.Tree.{cast, parentheses}
-use Rattle.secrec_ast.specs.Programs.{imports, domain, defines}
-use Rattle.secrec_ast.specs.declared.expression.Operator.TheVariants.{Multiply, Less}
+use Rattle.program_trees.specs.declared.expression.DataType.TheVariants.{Uint64}
+use Rattle.program_trees.specs.Tree.{cast, parentheses}
+use Rattle.program_trees.specs.Programs.{imports, domain, defines}
+use Rattle.program_trees.specs.declared.expression.Operator.TheVariants.{Multiply, Less}
 use Rattle.expression_parser.specs.Phrases.{Phrase, token, nothing, one, one_at, sign, ◌then◌}
 use Rattle.secrec_parser.specs.Grammar.{IsItem, IsProgram, IsStatement}
 use Rattle.workload.specs.LoadTree.{a_and_b, array_from_input, at, load_tree, main_tree, named, sum_published}

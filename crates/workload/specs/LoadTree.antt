@@ -1,27 +1,27 @@
 -- The trees of the program of the workloads, worked out by hand from its text.
 use Rattle.std.specs.Prelude.{ℕ, ◌+◌, true, List, [], ◌∷◌, Some, None, codes}
 use Rattle.sc_text.specs.declared.span.Span.{Span}
-use Rattle.secrec_ast.specs.declared.expression.DataType.TheVariants.{Uint64}
-use Rattle.secrec_ast.specs.declared.expression.Operator.{Operator}
-use Rattle.secrec_ast.specs.declared.expression.Operator.TheVariants as operators
-use Rattle.secrec_ast.specs.declared.statement.Identifier.{Identifier}
-use Rattle.secrec_ast.specs.declared.statement.DeclaredType.{DeclaredType}
-use Rattle.secrec_ast.specs.declared.statement.Domain.TheVariants as domains
-use Rattle.secrec_ast.specs.declared.function.ResultType.TheVariants as results
-use Rattle.secrec_ast.specs.Tree.{Tree, variable, call, parentheses, cast, binary, declassify, argument, publish, trees_of}
-use Rattle.secrec_ast.specs.Statements.{StatementTree, declaration, evaluation, statements_of}
-use Rattle.secrec_ast.specs.Programs.{FunctionTree, ProgramTree, imports, domain, defines}
-use Rattle.typed_tree.specs.declared.kinds.SlotDomain.TheVariants.{Private}
-use Rattle.typed_tree.specs.declared.kinds.Slot.{Slot}
-use Rattle.typed_tree.specs.declared.function.Returned.TheVariants.{Nothing}
-use Rattle.typed_tree.specs.declared.operators.WordOperator.{WordOperator}
-use Rattle.typed_tree.specs.declared.operators.WordOperator.TheVariants as words
-use Rattle.typed_tree.specs.declared.operators.BinaryOperator.TheVariants.{Words}
-use Rattle.typed_tree.specs.declared.operators.Operands.TheVariants.{Arrays}
-use Rattle.typed_tree.specs.declared.operators.Cast.TheVariants.{BoolToWord}
-use Rattle.typed_tree.specs.Tree.{TypedTree, slot_node, sum_node, cast_node, binary_node, declassify_node}
-use Rattle.typed_tree.specs.Statements.{TypedStatementTree, input_statement, publish_statement, typed_statements_of}
-use Rattle.typed_tree.specs.Programs.{TypedFunctionTree, TypedProgramTree}
+use Rattle.program_trees.specs.declared.expression.DataType.TheVariants.{Uint64}
+use Rattle.program_trees.specs.declared.expression.Operator.{Operator}
+use Rattle.program_trees.specs.declared.expression.Operator.TheVariants as operators
+use Rattle.program_trees.specs.declared.statement.Identifier.{Identifier}
+use Rattle.program_trees.specs.declared.statement.DeclaredType.{DeclaredType}
+use Rattle.program_trees.specs.declared.statement.Domain.TheVariants as domains
+use Rattle.program_trees.specs.declared.function.ResultType.TheVariants as results
+use Rattle.program_trees.specs.Tree.{Tree, variable, call, parentheses, cast, binary, declassify, argument, publish, trees_of}
+use Rattle.program_trees.specs.Statements.{StatementTree, declaration, evaluation, statements_of}
+use Rattle.program_trees.specs.Programs.{FunctionTree, ProgramTree, imports, domain, defines}
+use Rattle.program_trees.specs.declared.kinds.SlotDomain.TheVariants.{Private}
+use Rattle.program_trees.specs.declared.kinds.Slot.{Slot}
+use Rattle.program_trees.specs.declared.typed_function.Returned.TheVariants.{Nothing}
+use Rattle.program_trees.specs.declared.operators.WordOperator.{WordOperator}
+use Rattle.program_trees.specs.declared.operators.WordOperator.TheVariants as words
+use Rattle.program_trees.specs.declared.operators.BinaryOperator.TheVariants.{Words}
+use Rattle.program_trees.specs.declared.operators.Operands.TheVariants.{Arrays}
+use Rattle.program_trees.specs.declared.operators.Cast.TheVariants.{BoolToWord}
+use Rattle.program_trees.specs.TypedTree.{TypedTree, slot_node, sum_node, cast_node, binary_node, declassify_node}
+use Rattle.program_trees.specs.TypedStatements.{TypedStatementTree, input_statement, publish_statement, typed_statements_of}
+use Rattle.program_trees.specs.TypedPrograms.{TypedFunctionTree, TypedProgramTree}
 
 -- ---- the tree
 

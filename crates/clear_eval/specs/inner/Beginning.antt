@@ -2,8 +2,8 @@
 -- The body of a function that is about to run.
 use Rattle.std.specs.Prelude.{◌≡◌, ◌+◌, ◌<◌, List, map, sum}
 use Rattle.std.specs.List.{slice_get}
-use Rattle.typed_tree.specs.Statements.{typed_statement, typed_statements_of}
-use Rattle.typed_tree.specs.Programs.{typed_function_tree}
+use Rattle.program_trees.specs.TypedStatements.{typed_statement, typed_statements_of}
+use Rattle.program_trees.specs.TypedPrograms.{typed_function_tree}
 use Rattle.language_model.specs.Effects.{World, Stage, carry, done}
 use Rattle.language_model.specs.Values.{Value}
 use Rattle.language_model.specs.Evaluation.{Calls, execute_all, result_of, body_of}

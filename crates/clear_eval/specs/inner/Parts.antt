@@ -1,12 +1,12 @@
 -- Cited by private functions alone: no contract of another crate rests on it.
 -- How expressions and statements are evaluated in parts: first the expressions in them, and then a step on the values of these.
 use Rattle.std.specs.Prelude.{◌≡◌, ℕ, ◌+◌, ◌≤◌, Bool, true, false, List, map, None, Some}
-use Rattle.typed_tree.specs.Tree.{TypedTree, word_node, truth_node, slot_node, call_node, size_node, cat_node, sum_node, bits_node, element_node}
-use Rattle.typed_tree.specs.Tree.{not_node, cast_node, binary_node, cut_node, declassify_node, typed_tree, typed_trees_of}
-use Rattle.typed_tree.specs.Statements.{TypedStatementTree, empty_statement, block_statement, if_statement, loop_statement, do_statement, break_statement}
-use Rattle.typed_tree.specs.Statements.{continue_statement, return_statement, assert_statement, store_statement, default_statement, fill_statement}
-use Rattle.typed_tree.specs.Statements.{input_statement, element_statement, publish_statement, typed_statement, typed_statements_of}
-use Rattle.typed_tree.specs.Sound.{IsSoundTree, IsSoundStatementTree}
+use Rattle.program_trees.specs.TypedTree.{TypedTree, word_node, truth_node, slot_node, call_node, size_node, cat_node, sum_node, bits_node, element_node}
+use Rattle.program_trees.specs.TypedTree.{not_node, cast_node, binary_node, cut_node, declassify_node, typed_tree, typed_trees_of}
+use Rattle.program_trees.specs.TypedStatements.{TypedStatementTree, empty_statement, block_statement, if_statement, loop_statement, do_statement, break_statement}
+use Rattle.program_trees.specs.TypedStatements.{continue_statement, return_statement, assert_statement, store_statement, default_statement, fill_statement}
+use Rattle.program_trees.specs.TypedStatements.{input_statement, element_statement, publish_statement, typed_statement, typed_statements_of}
+use Rattle.program_trees.specs.Sound.{IsSoundTree, IsSoundStatementTree}
 use Rattle.reached_instances.specs.Domains.{Setting}
 use Rattle.language_model.specs.Effects.{World, Stage, Effect, ◌>>=◌, carry, done}
 use Rattle.language_model.specs.Values.{Value}

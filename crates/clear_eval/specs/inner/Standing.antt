@@ -2,13 +2,13 @@
 -- What expressions and statements do where they stand, and when they name only what is there.
 use Rattle.std.specs.Prelude.{◌≡◌, ℕ, ◌+◌, ◌≤◌, Bool, Some, List, map, length}
 use Rattle.std.specs.List.{slice_get}
-use Rattle.typed_tree.specs.declared.expression.TypedExpression.{TypedExpression}
-use Rattle.typed_tree.specs.declared.statement.TypedStatement.{TypedStatement}
-use Rattle.typed_tree.specs.Tree.{TypedTree, typed_tree, typed_trees_of}
-use Rattle.typed_tree.specs.Statements.{typed_statement, typed_statements_of}
-use Rattle.typed_tree.specs.Sound.{IsSoundTree, AreSoundTrees, IsSoundStatementTree, AreSoundStatementTrees, parameters_of, AreSoundFunctions}
-use Rattle.typed_tree.specs.declared.function.TypedFunction.{TypedFunction}
-use Rattle.typed_tree.specs.Programs.{TypedFunctionTree, typed_function_tree}
+use Rattle.program_trees.specs.declared.typed_expression.TypedExpression.{TypedExpression}
+use Rattle.program_trees.specs.declared.typed_statement.TypedStatement.{TypedStatement}
+use Rattle.program_trees.specs.TypedTree.{TypedTree, typed_tree, typed_trees_of}
+use Rattle.program_trees.specs.TypedStatements.{typed_statement, typed_statements_of}
+use Rattle.program_trees.specs.Sound.{IsSoundTree, AreSoundTrees, IsSoundStatementTree, AreSoundStatementTrees, parameters_of, AreSoundFunctions}
+use Rattle.program_trees.specs.declared.typed_function.TypedFunction.{TypedFunction}
+use Rattle.program_trees.specs.TypedPrograms.{TypedFunctionTree, typed_function_tree}
 use Rattle.reached_instances.specs.declared.instance.BoundDomain.{BoundDomain}
 use Rattle.reached_instances.specs.Views.{setting}
 use Rattle.language_model.specs.Effects.{Effect, carry}

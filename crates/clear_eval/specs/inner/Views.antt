@@ -2,7 +2,7 @@
 -- What the types of an evaluation stand for.
 use Rattle.std.specs.Prelude.{List, map, get_or, Vec}
 use Rattle.std.specs.declared.alloc.Global.{Global}
-use Rattle.typed_tree.specs.Programs.{TypedFunctionTree, typed_function_tree}
+use Rattle.program_trees.specs.TypedPrograms.{TypedFunctionTree, typed_function_tree}
 use Rattle.reached_instances.specs.Views.{setting}
 use Rattle.language_model.specs.Values.{Value}
 use Rattle.language_model.specs.Evaluation.{Frame, Calls, Flow, goes, returns, stops, skips, StatementContext, nothing, call_at}

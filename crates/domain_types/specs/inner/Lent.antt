@@ -2,7 +2,7 @@
 -- Identifiers that are lent.
 use Rattle.std.specs.Prelude.{ℕ, List}
 use denote.Ref.{Bor}
-use Rattle.secrec_ast.specs.declared.statement.Identifier.{Identifier}
+use Rattle.program_trees.specs.declared.statement.Identifier.{Identifier}
 
 abbrev pub identifier_at : Bor Identifier → Identifier
 identifier_at x = x.now

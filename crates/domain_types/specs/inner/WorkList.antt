@@ -2,8 +2,8 @@
 -- The work list of the checker: the instances that it visits, one after another, and what it finds there.
 use Rattle.std.specs.Prelude.{ℕ, ◌≡◌, ◌+◌, Bool, nat_eq, if◌then◌else◌, List, [], ◌∷◌, ◌++◌, Option, Some, None}
 use Rattle.std.specs.List.{list_any, slice_get}
-use Rattle.secrec_ast.specs.declared.statement.Identifier.{Identifier}
-use Rattle.secrec_ast.specs.Programs.{FunctionTree}
+use Rattle.program_trees.specs.declared.statement.Identifier.{Identifier}
+use Rattle.program_trees.specs.Programs.{FunctionTree}
 use Rattle.domain_types.specs.declared.fault.TypeFault.{TypeFault}
 use Rattle.domain_types.specs.declared.value_type.Protection.{Protection}
 use Rattle.declarations.specs.Declarations.{Declared}

@@ -1,7 +1,7 @@
 -- Cited by private functions alone: no contract of another crate rests on it.
 -- What operations on two operands give.
 use Rattle.std.specs.Prelude.{false}
-use Rattle.typed_tree.specs.Shapes.{shape_of}
+use Rattle.program_trees.specs.Shapes.{shape_of}
 use Rattle.reached_instances.specs.Domains.{joined_domain}
 use Rattle.lowered_expressions.specs.declared.notes.Given.{Given}
 use Rattle.lowered_expressions.specs.declared.noting.Two.{Two}

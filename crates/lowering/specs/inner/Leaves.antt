@@ -1,8 +1,8 @@
 -- Cited by private functions alone: no contract of another crate rests on it.
 -- Statements without others in them.
 use Rattle.std.specs.Prelude.{ℕ, false}
-use Rattle.typed_tree.specs.Tree.{TypedTree}
-use Rattle.typed_tree.specs.Statements.{TypedStatementTree, fill_statement, element_statement}
+use Rattle.program_trees.specs.TypedTree.{TypedTree}
+use Rattle.program_trees.specs.TypedStatements.{TypedStatementTree, fill_statement, element_statement}
 use Rattle.reached_instances.specs.Domains.{Setting}
 use Rattle.verified_code.specs.Steps.{Step, Fill, Put}
 use Rattle.code_model.specs.Expressions.{Numbers}

@@ -3,20 +3,20 @@
 use Rattle.std.specs.Prelude.{List, Box, Vec, map}
 use Rattle.std.specs.declared.alloc.Global.{Global}
 use denote.Ref.{Bor}
-use Rattle.secrec_ast.specs.declared.statement.DeclaredType.{DeclaredType}
-use Rattle.secrec_ast.specs.Programs.{FunctionTree}
+use Rattle.program_trees.specs.declared.statement.DeclaredType.{DeclaredType}
+use Rattle.program_trees.specs.Programs.{FunctionTree}
 use Rattle.declarations.specs.Views.{tree_at}
 use Rattle.name_resolution.specs.declared.values.Valued.{Valued}
 use Rattle.name_resolution.specs.declared.values.OperandMade.{OperandMade}
 use Rattle.name_resolution.specs.declared.values.CallMade.{CallMade}
 use Rattle.name_resolution.specs.declared.found.CalledFunctions.{CalledFunctions}
 use Rattle.name_resolution.specs.declared.place.FunctionScope.{FunctionScope}
-use Rattle.typed_tree.specs.declared.kinds.Slot.{Slot}
-use Rattle.typed_tree.specs.declared.statement.TypedStatement.{TypedStatement}
-use Rattle.typed_tree.specs.declared.function.TypedFunction.{TypedFunction}
-use Rattle.typed_tree.specs.Tree.{typed_tree}
-use Rattle.typed_tree.specs.Statements.{TypedStatementTree, TypedStatementTrees, typed_statement, typed_statements_of}
-use Rattle.typed_tree.specs.Programs.{TypedFunctionTree, typed_function_tree}
+use Rattle.program_trees.specs.declared.kinds.Slot.{Slot}
+use Rattle.program_trees.specs.declared.typed_statement.TypedStatement.{TypedStatement}
+use Rattle.program_trees.specs.declared.typed_function.TypedFunction.{TypedFunction}
+use Rattle.program_trees.specs.TypedTree.{typed_tree}
+use Rattle.program_trees.specs.TypedStatements.{TypedStatementTree, TypedStatementTrees, typed_statement, typed_statements_of}
+use Rattle.program_trees.specs.TypedPrograms.{TypedFunctionTree, typed_function_tree}
 use Rattle.name_resolution.specs.Scopes as scopes
 use Rattle.name_resolution.specs.Values.{TypedValue, TypedCall}
 

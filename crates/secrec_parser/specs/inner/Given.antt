@@ -2,8 +2,8 @@
 -- What the parser's own values in memory are as values.
 use Rattle.std.specs.Prelude.{◌≡◌, ◌<◌, ℕ, List, length, Result, Ok, Err, Option}
 use Rattle.secrec_lexer.specs.declared.token.Token.{Token}
-use Rattle.secrec_ast.specs.Statements.{StartTree, StepTree, assignment_tree, optional, start_tree, step_tree}
-use Rattle.secrec_ast.specs.Tree.{Tree, expression}
+use Rattle.program_trees.specs.Statements.{StartTree, StepTree, assignment_tree, optional, start_tree, step_tree}
+use Rattle.program_trees.specs.Tree.{Tree, expression}
 use Rattle.expression_parser.specs.declared.stopped.Stopped.{Stopped}
 use Rattle.expression_parser.specs.declared.stopped.Stopped.TheVariants.{Memory, At}
 use Rattle.expression_parser.specs.Steps.{Outcome}

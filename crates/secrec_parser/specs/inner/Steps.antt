@@ -9,23 +9,23 @@ use Rattle.secrec_lexer.specs.declared.token.TokenKind.{TokenKind}
 use Rattle.secrec_lexer.specs.declared.token.TokenKind.TheVariants as kinds
 use Rattle.secrec_lexer.specs.declared.token.Token.{Token}
 use Rattle.secrec_lexer.specs.Tokens.{is_sign, is_end}
-use Rattle.secrec_ast.specs.declared.expression.Operator.{Operator}
-use Rattle.secrec_ast.specs.declared.expression.Operator.TheVariants as operators
-use Rattle.secrec_ast.specs.declared.statement.Identifier.{Identifier}
-use Rattle.secrec_ast.specs.declared.statement.Domain.{Domain}
-use Rattle.secrec_ast.specs.declared.statement.Domain.TheVariants as domains
-use Rattle.secrec_ast.specs.declared.statement.DeclaredType.{DeclaredType}
-use Rattle.secrec_ast.specs.declared.function.DomainVariable.{DomainVariable}
-use Rattle.secrec_ast.specs.declared.function.Parameter.{Parameter}
-use Rattle.secrec_ast.specs.declared.function.ResultType.{ResultType}
-use Rattle.secrec_ast.specs.declared.function.ResultType.TheVariants as results
-use Rattle.secrec_ast.specs.Tree.{Tree, number}
-use Rattle.secrec_ast.specs.Statements.{DeclarationTree, TargetTree, target_of, AssignmentTree, StartTree, starts_with_nothing}
-use Rattle.secrec_ast.specs.Statements.{starts_with_declaration, starts_with_assignment, StepTree, steps_by_nothing, steps_by_assignment}
-use Rattle.secrec_ast.specs.Statements.{steps_by_expression, StatementTree, statements_of, block, empty, branch, choice, while_loop, do_loop}
-use Rattle.secrec_ast.specs.Statements.{for_loop, breaks, continues, returns, assertion, declaration, assignment, evaluation}
-use Rattle.secrec_ast.specs.Programs.{BlockTree, FunctionTree, ItemTree, imports, kind, domain, defines, ProgramTree}
-use Rattle.secrec_ast.specs.Heights.{target_height}
+use Rattle.program_trees.specs.declared.expression.Operator.{Operator}
+use Rattle.program_trees.specs.declared.expression.Operator.TheVariants as operators
+use Rattle.program_trees.specs.declared.statement.Identifier.{Identifier}
+use Rattle.program_trees.specs.declared.statement.Domain.{Domain}
+use Rattle.program_trees.specs.declared.statement.Domain.TheVariants as domains
+use Rattle.program_trees.specs.declared.statement.DeclaredType.{DeclaredType}
+use Rattle.program_trees.specs.declared.function.DomainVariable.{DomainVariable}
+use Rattle.program_trees.specs.declared.function.Parameter.{Parameter}
+use Rattle.program_trees.specs.declared.function.ResultType.{ResultType}
+use Rattle.program_trees.specs.declared.function.ResultType.TheVariants as results
+use Rattle.program_trees.specs.Tree.{Tree, number}
+use Rattle.program_trees.specs.Statements.{DeclarationTree, TargetTree, target_of, AssignmentTree, StartTree, starts_with_nothing}
+use Rattle.program_trees.specs.Statements.{starts_with_declaration, starts_with_assignment, StepTree, steps_by_nothing, steps_by_assignment}
+use Rattle.program_trees.specs.Statements.{steps_by_expression, StatementTree, statements_of, block, empty, branch, choice, while_loop, do_loop}
+use Rattle.program_trees.specs.Statements.{for_loop, breaks, continues, returns, assertion, declaration, assignment, evaluation}
+use Rattle.program_trees.specs.Programs.{BlockTree, FunctionTree, ItemTree, imports, kind, domain, defines, ProgramTree}
+use Rattle.program_trees.specs.Heights.{target_height}
 use Rattle.expression_parser.specs.declared.problem.ParseProblem.TheVariants.{Unexpected, TooHigh}
 use Rattle.secrec_parser.specs.declared.leader.Leader.{Leader}
 use Rattle.secrec_parser.specs.declared.leader.Leader.TheVariants as leaders

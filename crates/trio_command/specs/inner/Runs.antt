@@ -15,7 +15,7 @@ use Rattle.command_frame.specs.Reads.{StopNames}
 use Rattle.command_frame.specs.Status.{of_texts}
 use Rattle.command_frame.specs.Stops.{IsBreachFor}
 use Rattle.command_words.specs.Ask.{TrioAsk}
-use Rattle.join_command.specs.Join.{IsJoinStop}
+use Rattle.trio_command.specs.Join.{IsJoinStop}
 use Rattle.proto_core.specs.declared.party.Number.{Number}
 use Rattle.proto_core.specs.declared.party.Number.TheVariants.{One, Two, Three}
 use Rattle.trio.specs.Launches.{Launched}

@@ -1,6 +1,6 @@
 use Rattle.std.proofs.Common.{◌≡◌, length, sym, subst}
 use Rattle.std.specs.Prelude.{IfOk}
-use Rattle.joint_run.specs.Exchanges.{protocol_of}
+use Rattle.gate_exchanges.specs.Exchanges.{protocol_of}
 use Rattle.block_steps.specs.Outcomes.{outcome_of}
 use Rattle.block_steps.specs.Pendings.{pending_left, progress_left}
 use Rattle.block_steps.proofs.beginning.begin.Goals as goal

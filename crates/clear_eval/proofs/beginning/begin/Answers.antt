@@ -2,10 +2,10 @@ use Rattle.std.proofs.Common.{◌≡◌, ℕ, Bool, List, Some, length, refl, sy
 use Rattle.std.specs.Prelude.{map, option_map}
 use Rattle.std.specs.List.{slice_get}
 use Rattle.std.proofs.lemmas.Option.{get_or_from_slice_get, slice_get-map}
-use Rattle.typed_tree.specs.declared.kinds.Slot.{Slot}
-use Rattle.typed_tree.specs.Statements.{typed_statement, typed_statements_of}
-use Rattle.typed_tree.specs.Sound.{parameters_of, AreSoundStatementTrees}
-use Rattle.typed_tree.specs.Programs.{typed_function_tree}
+use Rattle.program_trees.specs.declared.kinds.Slot.{Slot}
+use Rattle.program_trees.specs.TypedStatements.{typed_statement, typed_statements_of}
+use Rattle.program_trees.specs.Sound.{parameters_of, AreSoundStatementTrees}
+use Rattle.program_trees.specs.TypedPrograms.{typed_function_tree}
 use Rattle.reached_instances.specs.Domains.{given_domain}
 use Rattle.language_model.specs.Effects.{Run, carry, done}
 use Rattle.language_model.specs.Values.{Value}

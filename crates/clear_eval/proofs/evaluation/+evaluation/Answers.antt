@@ -1,11 +1,11 @@
 use Rattle.std.proofs.Common.{◌≡◌, ◌+◌, ◌-◌, ◌<◌, [], ◌∷◌, ◌++◌, length, drop, sym, ap, ◌∙◌, subst, arith, rules}
 use Rattle.std.specs.Prelude.{map}
 use Rattle.std.proofs.lemmas.List.{map-append, length-append}
-use Rattle.typed_tree.specs.declared.expression.TypedExpression.{TypedExpression}
-use Rattle.typed_tree.specs.Tree.{also, call_node, cat_node, cut_node, typed_tree}
-use Rattle.typed_tree.specs.Statements.{block_statement, if_statement, loop_statement, do_statement, typed_statement, typed_statements_of}
-use Rattle.typed_tree.specs.Programs.{typed_function_tree}
-use Rattle.typed_tree.specs.Sound.{count_of}
+use Rattle.program_trees.specs.declared.typed_expression.TypedExpression.{TypedExpression}
+use Rattle.program_trees.specs.TypedTree.{also, call_node, cat_node, cut_node, typed_tree}
+use Rattle.program_trees.specs.TypedStatements.{block_statement, if_statement, loop_statement, do_statement, typed_statement, typed_statements_of}
+use Rattle.program_trees.specs.TypedPrograms.{typed_function_tree}
+use Rattle.program_trees.specs.Sound.{count_of}
 use Rattle.reached_instances.specs.Views.{setting}
 use Rattle.language_model.specs.Effects.{carry}
 use Rattle.language_model.specs.Operations.{concatenated}

@@ -1,8 +1,8 @@
 use Rattle.std.proofs.Common.{◌≡◌, ◌+◌, ◌≤◌, ◌++◌, length, drop}
 use Rattle.std.specs.Prelude.{map}
-use Rattle.typed_tree.specs.Tree.{typed_tree, typed_trees_of}
-use Rattle.typed_tree.specs.Statements.{typed_statement, typed_statements_of}
-use Rattle.typed_tree.specs.Programs.{typed_function_tree}
+use Rattle.program_trees.specs.TypedTree.{typed_tree, typed_trees_of}
+use Rattle.program_trees.specs.TypedStatements.{typed_statement, typed_statements_of}
+use Rattle.program_trees.specs.TypedPrograms.{typed_function_tree}
 use Rattle.reached_instances.specs.Views.{setting}
 use Rattle.language_model.specs.Effects.{carry, done}
 use Rattle.language_model.specs.Evaluation.{arguments, execute_all}

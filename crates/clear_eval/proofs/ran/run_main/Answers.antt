@@ -1,5 +1,5 @@
 use Rattle.std.proofs.Common.{arith, ◌<◌, List, [], ◌∷◌, length, refl}
-use Rattle.typed_tree.specs.declared.function.TypedFunction.{TypedFunction}
+use Rattle.program_trees.specs.declared.typed_function.TypedFunction.{TypedFunction}
 use Rattle.clear_eval.specs.inner.Standing.{HasRoomFor}
 use Rattle.clear_eval.proofs.ran.run_main.Goals as goal
 

@@ -1,5 +1,5 @@
 use Rattle.std.proofs.Common.{rules, ◌≡◌, [], subst, sym, ap, ◌∙◌}
-use Rattle.typed_tree.specs.Programs.{typed_program_tree}
+use Rattle.program_trees.specs.TypedPrograms.{typed_program_tree}
 use Rattle.language_model.specs.Reports.{Report, eval}
 use Rattle.blind_evaluation.specs.Courses.{IsEnded}
 use Rattle.clear_eval.specs.Offers.{offered}

@@ -1,6 +1,6 @@
 use Rattle.std.proofs.Common.{◌≡◌, ◌++◌, length}
 use Rattle.std.specs.Prelude.{map}
-use Rattle.secrec_ast.specs.Programs.{item_tree}
+use Rattle.program_trees.specs.Programs.{item_tree}
 use Rattle.declarations.specs.Declarations.{domains_of, functions_of}
 use Rattle.declarations.specs.Named.{name_of}
 use Rattle.declarations.specs.Views.{tree_at}

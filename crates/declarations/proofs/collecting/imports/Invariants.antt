@@ -1,6 +1,6 @@
 use Rattle.std.proofs.Common.{◌≡◌, drop}
 use Rattle.std.specs.Prelude.{map, ◌||◌}
-use Rattle.secrec_ast.specs.Programs.{item_tree}
+use Rattle.program_trees.specs.Programs.{item_tree}
 use Rattle.declarations.specs.Declarations.{is_imported}
 use Rattle.declarations.proofs.collecting.imports.Given as goal
 

@@ -18,8 +18,15 @@ returns-in_err-task-clause-draws g c =
 pub returns-clause-made : goal.returns-clause-made
 returns-clause-made g c =
     let state = g.T.TapeSource.state in
-    MatchResult-weaker c.new.result c.new.ensures.made
+    MatchResult-weaker c.keeping.result c.keeping.ensures.made
     (λ m h.
-    new_is g.P.Party.me c.args.setting.now c.in_ok-task.task c.in_ok-dealt.dealt (private_shares c.args.file.now.entries) (state c.args.tapes.now)
-    (state c.new.new.tapes) m h (c.in_ok-dealt.ensures ∙ ap private_shares c.entries.ensures) c.in_ok-task.ensures.code c.in_ok-task.ensures.world)
+    record {
+      stream = h.stream;
+      made =
+          new_is g.P.Party.me c.args.setting.now c.in_ok-task.task c.in_ok-dealt.dealt (private_shares c.args.file.now.entries) (state c.args.tapes.now)
+          (state c.keeping.new.tapes) h.stream h.made (c.in_ok-dealt.ensures ∙ ap private_shares c.entries.ensures) c.in_ok-task.ensures.code
+          c.in_ok-task.ensures.world;
+      is = h.is;
+      past_is = h.past_is;
+    })
     (λ l k. k)

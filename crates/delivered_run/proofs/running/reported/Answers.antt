@@ -5,11 +5,11 @@ use Rattle.delivered_run.proofs.Netting.{client_told}
 use Rattle.delivered_run.proofs.running.reported.Goals as goal
 
 pub returns : goal.returns
-returns c =
-    let s = c.args.net.now in
-    let one = c.miner1-first.ensures c.requires in
-    let two = c.miner2.ensures c.requires in
-    let three = c.miner3.ensures c.requires in
+returns c = λ s is going.
+    let one = c.miner1-first.ensures.miner s is going in
+    let two = c.miner2.ensures.miner s is going in
+    let three = c.miner3.ensures.miner s is going in
     IfOk-weaker c.report.result _ (λ told. ForEachTapes s (λ n. HasTold n told))
-    (client_told s c.miner1-first.result.now c.miner2.result.now c.miner3.result.now one two three _ _ _ _ _ c.notices.ensures c.notices-second.ensures
-    c.notices-third.ensures c.cost-cost.ensures c.ending.ensures) c.report.ensures
+    (client_told s one.state.stream two.state.stream three.state.stream one.is two.is three.is _ _ _ _ _ (c.notices.ensures.states one.state one.of)
+    (c.notices-second.ensures.states two.state two.of) (c.notices-third.ensures.states three.state three.of) (c.cost-cost.ensures.states one.state one.of)
+    (c.ending.ensures.states one.state one.of)) c.report.ensures

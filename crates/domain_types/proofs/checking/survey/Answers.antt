@@ -2,7 +2,7 @@ use Rattle.std.proofs.Common.{◌≡◌, [], None, sym, ap, ◌∙◌, subst}
 use Rattle.std.specs.Prelude.{map, not}
 use Rattle.std.specs.BTreeSet.{contains}
 use Rattle.std.specs.Ordering.{nat_cmp}
-use Rattle.secrec_ast.specs.Programs.{item_tree, program_tree}
+use Rattle.program_trees.specs.Programs.{item_tree, program_tree}
 use Rattle.domain_types.specs.FunctionTypes.{protections_of}
 use Rattle.declarations.specs.Declarations.{declared_in, declared_by}
 use Rattle.domain_types.specs.ProgramTypes.{items_faults, has_main}

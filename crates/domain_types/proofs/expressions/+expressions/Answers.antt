@@ -1,10 +1,10 @@
 use Rattle.std.proofs.Common.{refl, ℕ, ◌+◌, List, [], ◌∷◌, ◌≡◌, ◌++◌, ap, ◌∙◌, sym, subst, take, get_or, Option}
 use Rattle.std.specs.Prelude.{IfOk, map, option_map, option_and_then, vec_items}
 use Rattle.std.proofs.lemmas.List.{take_all, take_more, map-append}
-use Rattle.secrec_ast.specs.declared.expression.Expression.{Expression}
-use Rattle.secrec_ast.specs.Tree.{Tree, call, index, negation, binary, expression, trees_of}
-use Rattle.secrec_ast.specs.Heights.{place_of}
-use Rattle.secrec_ast.specs.Equations.{call_is, index_is, negation_is, binary_is}
+use Rattle.program_trees.specs.declared.expression.Expression.{Expression}
+use Rattle.program_trees.specs.Tree.{Tree, call, index, negation, binary, expression, trees_of}
+use Rattle.program_trees.specs.Heights.{place_of}
+use Rattle.program_trees.specs.Equations.{call_is, index_is, negation_is, binary_is}
 use Rattle.domain_types.specs.declared.calls.Found.{Found}
 use Rattle.domain_types.specs.declared.value_type.Argument.{Argument}
 use Rattle.domain_types.specs.declared.value_type.ExpressionType.{ExpressionType}

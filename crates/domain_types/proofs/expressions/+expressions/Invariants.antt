@@ -1,6 +1,6 @@
 use Rattle.std.proofs.Common.{take}
 use Rattle.std.specs.Prelude.{map, option_map, vec_items}
-use Rattle.secrec_ast.specs.Tree.{expression, trees_of}
+use Rattle.program_trees.specs.Tree.{expression, trees_of}
 use Rattle.domain_types.specs.ExpressionTypes.{arguments_of, argument_list_faults}
 use Rattle.domain_types.specs.Reached.{calls_of_all}
 use Rattle.domain_types.specs.Views.{setting}

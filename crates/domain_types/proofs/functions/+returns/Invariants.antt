@@ -1,6 +1,6 @@
 use Rattle.std.proofs.Common.{◌≡◌, take}
 use Rattle.std.specs.Prelude.{map}
-use Rattle.secrec_ast.specs.Statements.{statement, statements_of}
+use Rattle.program_trees.specs.Statements.{statement, statements_of}
 use Rattle.domain_types.specs.StatementTypes.{one_returns}
 use Rattle.domain_types.proofs.functions.+returns.Given as goal
 

@@ -1,6 +1,6 @@
 use Rattle.std.proofs.Common.{◌≡◌, [], length}
 use Rattle.std.specs.Prelude.{map}
-use Rattle.secrec_ast.specs.Programs.{item_tree}
+use Rattle.program_trees.specs.Programs.{item_tree}
 use Rattle.domain_types.specs.ProgramTypes.{items_faults}
 use Rattle.declarations.specs.Views.{declared}
 use Rattle.domain_types.specs.inner.LeastFault.{least}

@@ -1,11 +1,11 @@
 use Rattle.std.proofs.Common.{◌≡◌, ◌+◌, ◌≤◌, ◌++◌, [], ◌∷◌, sym, ap, ◌∙◌, subst, length, take, get_or, append_assoc}
 use Rattle.std.specs.Prelude.{IfOk, map}
 use Rattle.std.proofs.lemmas.List.{take_all, take_more, map-append}
-use Rattle.secrec_ast.specs.declared.statement.Statement.TheVariants.{If}
-use Rattle.secrec_ast.specs.Tree.{expression}
-use Rattle.secrec_ast.specs.Statements.{optional, start_tree, step_tree, statement, statements_of}
-use Rattle.secrec_ast.specs.Equations.{block_statement_is, branch_statement_is, choice_statement_is, while_statement_is, do_statement_is}
-use Rattle.secrec_ast.specs.Equations.{for_statement_is, return_statement_is}
+use Rattle.program_trees.specs.declared.statement.Statement.TheVariants.{If}
+use Rattle.program_trees.specs.Tree.{expression}
+use Rattle.program_trees.specs.Statements.{optional, start_tree, step_tree, statement, statements_of}
+use Rattle.program_trees.specs.Equations.{block_statement_is, branch_statement_is, choice_statement_is, while_statement_is, do_statement_is}
+use Rattle.program_trees.specs.Equations.{for_statement_is, return_statement_is}
 use Rattle.domain_types.specs.declared.fault.TypeProblem.TheVariants.{PrivateCondition}
 use Rattle.domain_types.specs.Scopes.{inner, leaving}
 use Rattle.domain_types.specs.StatementTypes.{after, after_all, test_faults, statement_faults, block_faults, optional_faults, return_own}

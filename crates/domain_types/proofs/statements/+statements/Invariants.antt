@@ -1,6 +1,6 @@
 use Rattle.std.proofs.Common.{◌≡◌, ◌++◌, take}
 use Rattle.std.specs.Prelude.{map}
-use Rattle.secrec_ast.specs.Statements.{statement, statements_of}
+use Rattle.program_trees.specs.Statements.{statement, statements_of}
 use Rattle.domain_types.specs.StatementTypes.{after_all, block_faults}
 use Rattle.domain_types.specs.Reached.{block_calls}
 use Rattle.domain_types.specs.Views.{setting, calls_seen}

@@ -1,6 +1,6 @@
 use Rattle.std.proofs.Common.{◌≡◌, Ok, ◌-◌, ◌<◌, ◌≤◌, [], ◌∷◌, ◌++◌, length, ap, ◌∙◌, sym, arith}
-use Rattle.secrec_ast.specs.Tree.{binary}
-use Rattle.secrec_ast.specs.Heights.{height, place_of}
+use Rattle.program_trees.specs.Tree.{binary}
+use Rattle.program_trees.specs.Heights.{height, place_of}
 use Rattle.expression_parser.specs.declared.parsed.Parsed.{Parsed}
 use Rattle.expression_parser.specs.declared.parsed.ParsedTrees.{ParsedTrees}
 use Rattle.expression_parser.specs.Given.{tree_of, tree_height, list_of}

@@ -1,8 +1,8 @@
 use Rattle.std.proofs.Common.{◌≡◌, [], ◌∷◌, ◌++◌, ap, ◌∙◌, sym}
 use Rattle.std.specs.Prelude.{map, max}
 use Rattle.std.proofs.lemmas.List.{map-append}
-use Rattle.secrec_ast.specs.Tree.{expression, trees_of}
-use Rattle.secrec_ast.specs.Heights.{heights}
+use Rattle.program_trees.specs.Tree.{expression, trees_of}
+use Rattle.program_trees.specs.Heights.{heights}
 use Rattle.expression_parser.specs.Given.{tree_of}
 use Rattle.expression_parser.proofs.Turns.{heights_more}
 use Rattle.expression_parser.proofs.parsed.added.Goals as goal

@@ -1,7 +1,7 @@
 use Rattle.std.proofs.Common.{ap, map, refl, string_bytes, subst, Err, List}
 use Rattle.command_words.specs.Views.{gather_ask}
 use Rattle.input_share.specs.ShareFile.{MinerFile}
-use Rattle.gathered_shares.specs.Gathering.{gathered, Gathers}
+use Rattle.gather_command.specs.Gathering.{gathered, Gathers}
 use Rattle.program_commands.specs.Reading.{share_at}
 use Rattle.program_commands.proofs.Still.{read_still}
 use Rattle.gather_command.proofs.Planned.{gather_stops, shares_still}

@@ -2,7 +2,7 @@ use Rattle.std.proofs.Common.{◌≡◌, ◌++◌, length, take, drop, sym, ◌�
 use Rattle.proto_core.specs.declared.party.Number.{Number}
 use Rattle.proto_core.specs.declared.party.Number.TheVariants.{One}
 use Rattle.joint_run.specs.Three.{each_of, joint}
-use Rattle.joint_run.specs.Exchanges.{protocol_of, IsSized}
+use Rattle.gate_exchanges.specs.Exchanges.{protocol_of, IsSized}
 use Rattle.joint_run.specs.Adding.{AddsGate}
 use Rattle.joint_run.specs.States.{state_of}
 use Rattle.joint_run.specs.Steps.{size_in, joint_in}

@@ -1,8 +1,9 @@
 use Rattle.std.proofs.Common.{◌≡◌, ◌+◌, ◌-◌, ◌<◌, min, length, sym, subst, arith, length-drop}
 use Rattle.proto_core.specs.declared.party.Number.TheVariants.{One}
 use Rattle.joint_run.specs.Three.{joint}
-use Rattle.joint_run.specs.Exchanges.{protocol_of, makes_two, IsSized, IsFront, IsBehind}
-use Rattle.joint_run.proofs.Blockwise.{blockable-of, counted-of, block-sized, all-left, goes-on}
+use Rattle.gate_exchanges.specs.Exchanges.{protocol_of, makes_two, IsSized, IsFront, IsBehind}
+use Rattle.joint_run.proofs.Blockwise.{counted-of, block-sized, all-left, goes-on}
+use Rattle.gate_exchanges.proofs.Blockables.{blockable-of}
 use Rattle.joint_run.proofs.whole.add_gate.Goals as goal
 
 pub loop-rest-init : goal.loop-rest-init

@@ -1,6 +1,6 @@
 use Rattle.std.proofs.Common.{length}
 use Rattle.joint_run.specs.Three.{joint}
-use Rattle.joint_run.specs.Exchanges.{protocol_of, makes_two}
+use Rattle.gate_exchanges.specs.Exchanges.{protocol_of, makes_two}
 use Rattle.joint_run.proofs.Blockwise.{Left}
 use Rattle.joint_run.proofs.whole.add_gate.Given as goal
 

@@ -1,4 +1,4 @@
-use Rattle.secrec_ast.specs.Programs.{program_tree}
+use Rattle.program_trees.specs.Programs.{program_tree}
 use Rattle.well_written.proofs.Grammar.{well_written}
 use Rattle.language_rows.proofs.mapping.accepted.Goals as goal
 

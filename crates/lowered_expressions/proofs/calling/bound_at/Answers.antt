@@ -3,8 +3,8 @@ use Rattle.std.specs.Prelude.{map}
 use Rattle.std.specs.List.{slice_get}
 use Rattle.std.proofs.lemmas.List.{length-map}
 use Rattle.std.proofs.lemmas.Result.{IfOk-weaker}
-use Rattle.typed_tree.specs.Tree.{typed_tree, typed_trees_of}
-use Rattle.typed_tree.specs.Programs.{typed_function_tree}
+use Rattle.program_trees.specs.TypedTree.{typed_tree, typed_trees_of}
+use Rattle.program_trees.specs.TypedPrograms.{typed_function_tree}
 use Rattle.reached_instances.specs.Domains.{domains, binding_of}
 use Rattle.reached_instances.specs.Views.{setting}
 use Rattle.reached_instances.proofs.Functions.{the_function}

@@ -2,11 +2,11 @@ use Rattle.std.proofs.Common.{◌≡◌, ℕ, ◌+◌, ◌*◌, ◌<◌, ◌≤�
 use Rattle.std.specs.Prelude.{map}
 use Rattle.std.proofs.lemmas.List.{take_more, map-append, length_push}
 use Rattle.std.proofs.lemmas.Result.{on_ok_weaker}
-use Rattle.typed_tree.specs.declared.expression.TypedExpression.{TypedExpression}
-use Rattle.typed_tree.specs.declared.operators.BinaryOperator.TheVariants as binary
-use Rattle.typed_tree.specs.declared.operators.BoolOperator.{BoolOperator}
-use Rattle.typed_tree.specs.declared.operators.Operands.TheVariants.{Scalars}
-use Rattle.typed_tree.specs.Tree.{binary_node, cat_node, cut_node, element_node, typed_tree, typed_trees_of}
+use Rattle.program_trees.specs.declared.typed_expression.TypedExpression.{TypedExpression}
+use Rattle.program_trees.specs.declared.operators.BinaryOperator.TheVariants as binary
+use Rattle.program_trees.specs.declared.operators.BoolOperator.{BoolOperator}
+use Rattle.program_trees.specs.declared.operators.Operands.TheVariants.{Scalars}
+use Rattle.program_trees.specs.TypedTree.{binary_node, cat_node, cut_node, element_node, typed_tree, typed_trees_of}
 use Rattle.language_model.specs.Evaluation.{either, gives_private, connective, next_is_private}
 use Rattle.verified_code.specs.Steps.{ReturnNone}
 use Rattle.code_model.specs.Kinds.{truth_kind, in_row}

@@ -1,6 +1,6 @@
 use Rattle.std.proofs.Common.{◌≡◌, ◌+◌, ◌*◌, length, take, drop}
 use Rattle.std.specs.Prelude.{map}
-use Rattle.typed_tree.specs.Tree.{typed_tree, typed_trees_of}
+use Rattle.program_trees.specs.TypedTree.{typed_tree, typed_trees_of}
 use Rattle.code_model.proofs.Widths.{width, widths}
 use Rattle.code_model.specs.Expressions.{arguments_code, arguments_places}
 use Rattle.lowered_expressions.specs.Built.{with_steps}

@@ -2,8 +2,8 @@ use Rattle.std.proofs.Common.{◌≡◌, ◌+◌, ◌*◌, ◌<◌, ◌≤◌, �
 use Rattle.std.proofs.Common.{append_assoc, length-append}
 use Rattle.std.specs.Prelude.{map}
 use Rattle.std.proofs.lemmas.List.{take_more, map-append, length_push}
-use Rattle.typed_tree.specs.declared.expression.TypedExpression.{TypedExpression}
-use Rattle.typed_tree.specs.Tree.{typed_tree, typed_trees_of}
+use Rattle.program_trees.specs.declared.typed_expression.TypedExpression.{TypedExpression}
+use Rattle.program_trees.specs.TypedTree.{typed_tree, typed_trees_of}
 use Rattle.reached_instances.specs.Domains.{domains}
 use Rattle.reached_instances.specs.Views.{setting}
 use Rattle.reached_instances.proofs.Growing.{domains_more}

@@ -1,6 +1,6 @@
 use Rattle.std.proofs.Common.{◌≡◌, ◌+◌, ◌*◌, ◌++◌, take}
 use Rattle.std.specs.Prelude.{map}
-use Rattle.typed_tree.specs.Tree.{typed_tree, typed_trees_of}
+use Rattle.program_trees.specs.TypedTree.{typed_tree, typed_trees_of}
 use Rattle.reached_instances.specs.Domains.{domains}
 use Rattle.reached_instances.specs.Views.{setting}
 use Rattle.code_model.proofs.Widths.{width, widths}

@@ -1,8 +1,8 @@
 use Rattle.std.proofs.Common.{◌≡◌, ℕ, ◌+◌, ◌*◌, ◌<◌, ◌≤◌, [], ◌∷◌, ◌++◌, length, take, get_or, sym, ap, ap₂, ◌∙◌, subst, arith, rules}
 use Rattle.std.specs.Prelude.{map, max}
 use Rattle.std.proofs.lemmas.List.{take_more, map-append}
-use Rattle.typed_tree.specs.declared.expression.TypedExpression.{TypedExpression}
-use Rattle.typed_tree.specs.Tree.{typed_tree, typed_trees_of}
+use Rattle.program_trees.specs.declared.typed_expression.TypedExpression.{TypedExpression}
+use Rattle.program_trees.specs.TypedTree.{typed_tree, typed_trees_of}
 use Rattle.code_model.specs.Kinds.{depth, depths}
 use Rattle.code_model.proofs.Widths.{width, widths, depths_more}
 use Rattle.lowered_expressions.proofs.Arguments as several

@@ -1,8 +1,8 @@
 use Rattle.std.proofs.Common.{◌≡◌, ℕ, Bool, List, [], ◌++◌, ap, ap₂, ◌∙◌}
 use Rattle.std.specs.Prelude.{map, Option}
-use Rattle.typed_tree.specs.declared.kinds.Slot.{Slot}
-use Rattle.typed_tree.specs.Statements.{typed_statement, typed_statements_of}
-use Rattle.typed_tree.specs.Programs.{typed_function_tree}
+use Rattle.program_trees.specs.declared.kinds.Slot.{Slot}
+use Rattle.program_trees.specs.TypedStatements.{typed_statement, typed_statements_of}
+use Rattle.program_trees.specs.TypedPrograms.{typed_function_tree}
 use Rattle.reached_instances.specs.Domains.{given_domain}
 use Rattle.language_model.specs.Evaluation.{is_private}
 use Rattle.bytecode.specs.declared.kind.Kind.{Kind}

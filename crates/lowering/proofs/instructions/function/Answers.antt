@@ -3,7 +3,7 @@ use Rattle.std.specs.Prelude.{map}
 use Rattle.std.specs.List.{flat_map}
 use Rattle.std.proofs.lemmas.Result.{err_from_is_err_and}
 use Rattle.bytecode.specs.Written.{body_numbers, head_numbers, instruction_numbers}
-use Rattle.raw_steps.specs.Instructions.{instruction, raw_function}
+use Rattle.code_model.specs.Instructions.{instruction, raw_function}
 use Rattle.lowered_expressions.specs.Views.{step_seen}
 use Rattle.lowering.specs.inner.Naming.{texts}
 use Rattle.lowering.specs.Narrow.{IsJust}

@@ -1,5 +1,5 @@
 use Rattle.std.proofs.Common.{sym, ◌∙◌}
-use Rattle.raw_steps.specs.Instructions.{instruction}
+use Rattle.code_model.specs.Instructions.{instruction}
 use Rattle.lowered_expressions.specs.Views.{step_seen}
 use Rattle.lowering.specs.inner.Naming.{texts}
 use Rattle.lowering.proofs.Short.{capped_is, refused}

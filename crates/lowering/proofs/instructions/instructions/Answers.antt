@@ -4,7 +4,7 @@ use Rattle.std.specs.List.{flat_map}
 use Rattle.std.proofs.lemmas.Result.{err_from_is_err_and}
 use Rattle.bytecode.specs.InMemory.{raw_instruction}
 use Rattle.bytecode.specs.Written.{instruction_numbers}
-use Rattle.raw_steps.specs.Instructions.{instruction}
+use Rattle.code_model.specs.Instructions.{instruction}
 use Rattle.lowered_expressions.specs.Views.{step_seen}
 use Rattle.lowering.specs.inner.Naming.{texts}
 use Rattle.lowering.specs.Narrow.{IsJust}

@@ -1,7 +1,7 @@
 use Rattle.std.proofs.Common.{◌≡◌, take}
 use Rattle.std.specs.Prelude.{map}
 use Rattle.bytecode.specs.InMemory.{raw_instruction}
-use Rattle.raw_steps.specs.Instructions.{instruction}
+use Rattle.code_model.specs.Instructions.{instruction}
 use Rattle.lowered_expressions.specs.Views.{step_seen}
 use Rattle.lowering.specs.inner.Naming.{texts}
 use Rattle.lowering.proofs.instructions.instructions.Given as goal

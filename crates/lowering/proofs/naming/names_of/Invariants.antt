@@ -1,6 +1,6 @@
 use Rattle.std.proofs.Common.{◌≡◌, take}
 use Rattle.std.specs.Prelude.{map}
-use Rattle.raw_steps.specs.Instructions.{names_of}
+use Rattle.code_model.specs.Instructions.{names_of}
 use Rattle.lowering.specs.inner.Naming.{AreSame, texts}
 use Rattle.lowering.specs.inner.Views.{function_seen}
 use Rattle.lowering.proofs.naming.names_of.Given as goal

@@ -2,7 +2,7 @@ use Rattle.std.proofs.Common.{◌≡◌, ◌+◌, [], ◌∷◌, ◌++◌, take,
 use Rattle.std.specs.Prelude.{map}
 use Rattle.std.specs.List.{flat_map}
 use Rattle.std.proofs.lemmas.List.{take_more, map-append, flat_map_more}
-use Rattle.raw_steps.specs.Instructions.{naming_all, step_names}
+use Rattle.code_model.specs.Instructions.{naming_all, step_names}
 use Rattle.lowered_expressions.specs.Views.{step_seen}
 use Rattle.lowering.specs.inner.Naming.{texts}
 use Rattle.lowering.proofs.Noting.{naming_both}

@@ -1,5 +1,5 @@
 use Rattle.std.proofs.Common.{sym, ap, ◌∙◌}
-use Rattle.raw_steps.specs.Instructions.{place_among}
+use Rattle.code_model.specs.Instructions.{place_among}
 use Rattle.lowering.specs.inner.Naming.{texts}
 use Rattle.lowering.proofs.Noting.{place_found, place_missing}
 use Rattle.lowering.proofs.naming.place_among.Goals as goal

@@ -2,7 +2,7 @@ use Rattle.std.proofs.Common.{ap, ◌∙◌}
 use Rattle.std.specs.Prelude.{map}
 use Rattle.std.proofs.lemmas.Result.{err_from_is_err_and}
 use Rattle.bytecode.specs.InMemory.{raw_function as in_memory}
-use Rattle.raw_steps.specs.Instructions.{raw_function}
+use Rattle.code_model.specs.Instructions.{raw_function}
 use Rattle.lowering.specs.inner.Naming.{texts}
 use Rattle.lowering.specs.Narrow.{IsJustOfSome}
 use Rattle.lowering.specs.inner.Views.{function_seen}

@@ -1,7 +1,7 @@
 use Rattle.std.proofs.Common.{◌≡◌, take}
 use Rattle.std.specs.Prelude.{map}
 use Rattle.bytecode.specs.InMemory.{raw_function}
-use Rattle.raw_steps.specs.Instructions.{raw_function as raw_of}
+use Rattle.code_model.specs.Instructions.{raw_function as raw_of}
 use Rattle.lowering.specs.inner.Naming.{texts}
 use Rattle.lowering.specs.inner.Views.{function_seen}
 use Rattle.lowering.proofs.programs.all_functions.Given as goal

@@ -1,6 +1,6 @@
 use Rattle.std.proofs.Common.{◌≡◌, take}
 use Rattle.std.specs.Prelude.{map}
-use Rattle.typed_tree.specs.Programs.{typed_program_tree}
+use Rattle.program_trees.specs.TypedPrograms.{typed_program_tree}
 use Rattle.reached_instances.specs.Views.{instances_seen}
 use Rattle.code_model.specs.Programs.{instance_code, numbers_in}
 use Rattle.lowering.specs.inner.Views.{function_seen}

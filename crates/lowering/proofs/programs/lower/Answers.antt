@@ -1,10 +1,10 @@
 use Rattle.std.proofs.Common.{◌≡◌, List, ap, ◌∙◌, subst}
 use Rattle.std.specs.Prelude.{map}
 use Rattle.std.proofs.lemmas.Result.{err_from_is_err_and}
-use Rattle.typed_tree.specs.Programs.{typed_program_tree}
+use Rattle.program_trees.specs.TypedPrograms.{typed_program_tree}
 use Rattle.verified_code.specs.Steps.{Function}
 use Rattle.code_model.specs.Programs.{code_of}
-use Rattle.raw_steps.specs.Instructions.{names_of, raw_code_of, raw_function}
+use Rattle.code_model.specs.Instructions.{names_of, raw_code_of, raw_function}
 use Rattle.lowering.specs.inner.Naming.{texts}
 use Rattle.lowering.specs.Narrow.{IsJustOfSome, IsJustRefusal}
 use Rattle.lowering.specs.inner.Views.{function_seen}

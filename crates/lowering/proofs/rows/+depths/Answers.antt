@@ -1,8 +1,8 @@
 use Rattle.std.proofs.Common.{◌≡◌, ◌+◌, ◌<◌, [], ◌∷◌, ◌++◌, take, get_or, sym, ap, ap₂, ◌∙◌, subst, rules}
 use Rattle.std.specs.Prelude.{map, max}
 use Rattle.std.proofs.lemmas.List.{take_more, map-append}
-use Rattle.typed_tree.specs.declared.statement.TypedStatement.{TypedStatement}
-use Rattle.typed_tree.specs.Statements.{typed_statement, typed_statements_of}
+use Rattle.program_trees.specs.declared.typed_statement.TypedStatement.{TypedStatement}
+use Rattle.program_trees.specs.TypedStatements.{typed_statement, typed_statements_of}
 use Rattle.code_model.specs.Statements.{statements_depth}
 use Rattle.lowering.proofs.Weights.{weight, weights, weights_item}
 use Rattle.lowering.proofs.Sequences.{depth_more}

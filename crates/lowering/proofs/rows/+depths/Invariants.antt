@@ -1,6 +1,6 @@
 use Rattle.std.proofs.Common.{◌≡◌, ◌+◌, take}
 use Rattle.std.specs.Prelude.{map}
-use Rattle.typed_tree.specs.Statements.{typed_statement, typed_statements_of}
+use Rattle.program_trees.specs.TypedStatements.{typed_statement, typed_statements_of}
 use Rattle.code_model.specs.Statements.{statements_depth}
 use Rattle.lowering.proofs.Weights.{weight, weights}
 use Rattle.lowering.proofs.rows.+depths.Given as goal

@@ -1,6 +1,6 @@
 use Rattle.std.proofs.Common.{ℕ, Bool, ap, ◌∙◌}
 use Rattle.std.proofs.lemmas.Result.{on_ok_weaker}
-use Rattle.typed_tree.specs.Tree.{typed_tree}
+use Rattle.program_trees.specs.TypedTree.{typed_tree}
 use Rattle.language_model.specs.Evaluation.{gives_private}
 use Rattle.code_model.specs.Expressions.{classified_at, stands_at, next_row, expression_code, lacks, picked}
 use Rattle.code_model.specs.Statements.{first_free}

@@ -1,9 +1,9 @@
 use Rattle.std.proofs.Common.{◌≡◌, ℕ, ◌+◌, ◌-◌, ◌<◌, true, false, [], ◌∷◌, ◌++◌, length, take, get_or, refl, sym, ap, ◌∙◌, subst, arith, rules}
 use Rattle.std.specs.Prelude.{map}
 use Rattle.std.proofs.lemmas.List.{take_more, map-append, length-set}
-use Rattle.typed_tree.specs.declared.statement.TypedStatement.{TypedStatement}
-use Rattle.typed_tree.specs.Tree.{typed_tree}
-use Rattle.typed_tree.specs.Statements.{typed_statement, typed_statements_of}
+use Rattle.program_trees.specs.declared.typed_statement.TypedStatement.{TypedStatement}
+use Rattle.program_trees.specs.TypedTree.{typed_tree}
+use Rattle.program_trees.specs.TypedStatements.{typed_statement, typed_statements_of}
 use Rattle.verified_code.specs.Steps.{Branch, Jump, ReturnNone}
 use Rattle.code_model.specs.Expressions.{stands_at, expression_code}
 use Rattle.code_model.specs.Statements.{first_free}

@@ -1,6 +1,6 @@
 use Rattle.std.proofs.Common.{◌≡◌, ◌+◌, take}
 use Rattle.std.specs.Prelude.{map}
-use Rattle.typed_tree.specs.Statements.{typed_statement, typed_statements_of}
+use Rattle.program_trees.specs.TypedStatements.{typed_statement, typed_statements_of}
 use Rattle.lowered_expressions.specs.Views.{built}
 use Rattle.lowering.specs.inner.Pieces.{with_statements}
 use Rattle.lowering.specs.inner.Views.{numbers_at, place_seen}

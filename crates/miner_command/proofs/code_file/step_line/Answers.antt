@@ -1,5 +1,5 @@
 use Rattle.std.proofs.lemmas.List.{append_assoc}
-use Rattle.node_faults.specs.Faults.{node_fault_line, node_fault_text}
+use Rattle.command_frame.specs.Faults.{node_fault_line, node_fault_text}
 use Rattle.miner_command.proofs.code_file.step_line.Goals as goal
 
 pub returns : goal.returns

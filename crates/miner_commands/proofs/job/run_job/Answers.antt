@@ -2,7 +2,7 @@ use Rattle.std.proofs.Common.{Some, Ok, ◌∙◌, ap, option_map, string_bytes}
 use Rattle.std.proofs.lemmas.Result.{err_from_is_err_and}
 use Rattle.command_frame.specs.Answer.{writes_of}
 use Rattle.command_words.specs.Views.{run_ask}
-use Rattle.typed_tree.specs.Programs.{typed_program_tree}
+use Rattle.program_trees.specs.TypedPrograms.{typed_program_tree}
 use Rattle.viewed_run.specs.DeliveredRun.{DeliveredRun}
 use Rattle.viewed_run.specs.Deliveries.{HasRunOf, IsRunOf, delivery_seen}
 use Rattle.viewed_run.specs.Seen.{HasSeenRun, IsSeenRunOf, view_in}

@@ -1,6 +1,6 @@
 use Rattle.std.proofs.Common.{Ok, refl}
 use Rattle.protocol_model.specs.Network.{Default}
-use Rattle.typed_tree.specs.Programs.{typed_program_tree}
+use Rattle.program_trees.specs.TypedPrograms.{typed_program_tree}
 use Rattle.viewed_run.specs.Deliveries.{HasRunOf, IsRunOf}
 use Rattle.miner_commands.specs.Load.{load_budget}
 use Rattle.tape_sources.specs.Held.{held_state}

@@ -1,7 +1,7 @@
 use Rattle.std.proofs.Common.{sym, ◌∙◌, subst}
 use Rattle.input_share.specs.AddUp.{HasWords}
 use Rattle.std.specs.Prelude.{All}
-use Rattle.typed_tree.specs.Programs.{typed_program_tree}
+use Rattle.program_trees.specs.TypedPrograms.{typed_program_tree}
 use Rattle.miner_commands.proofs.LoadRuns.{have_words, load_is_typed, load_stops_on, never_refused, run_of_load}
 use Rattle.miner_commands.proofs.load.run_load.Goals as goal
 

@@ -1,7 +1,7 @@
 use Rattle.std.proofs.Common.{◌∷◌, ◌++◌}
 use Rattle.command_frame.specs.Answer.{effect_of}
 use Rattle.command_words.specs.Views.{run_ask}
-use Rattle.typed_tree.specs.Programs.{typed_program_tree}
+use Rattle.program_trees.specs.TypedPrograms.{typed_program_tree}
 use Rattle.viewed_run.specs.Deliveries.{delivery_seen}
 use Rattle.command_frame.proofs.Naming.{names_later}
 use Rattle.command_frame.proofs.ReadStops.{gives_anyhow, read_on}

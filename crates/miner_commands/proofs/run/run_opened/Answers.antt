@@ -1,7 +1,7 @@
 use Rattle.command_words.specs.Views.{run_ask}
 use Rattle.outside.specs.Files.{file_at}
 use Rattle.tape_file.specs.Seeds.{seed_tapes}
-use Rattle.typed_tree.specs.Programs.{typed_program_tree}
+use Rattle.program_trees.specs.TypedPrograms.{typed_program_tree}
 use Rattle.viewed_run.specs.Deliveries.{delivery_seen}
 use Rattle.miner_commands.specs.Opened.{tapes_in}
 use Rattle.miner_commands.proofs.Answered.{course_stops, delivery_stops, planned_gives}

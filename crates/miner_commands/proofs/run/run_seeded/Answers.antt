@@ -2,7 +2,7 @@ use Rattle.std.proofs.Common.{Ok, refl}
 use Rattle.command_words.specs.Views.{run_ask}
 use Rattle.tape_file.specs.Seeds.{seed_tapes}
 use Rattle.tape_sources.specs.Seeded.{seed_state}
-use Rattle.typed_tree.specs.Programs.{typed_program_tree}
+use Rattle.program_trees.specs.TypedPrograms.{typed_program_tree}
 use Rattle.viewed_run.specs.Deliveries.{delivery_seen}
 use Rattle.miner_commands.specs.Run.{HasRan, IsRanOrNot}
 use Rattle.miner_commands.proofs.SourceRuns.{never_faults, told_refused, told_so}

@@ -1,4 +1,5 @@
 use Rattle.std.proofs.lemmas.Result.{err_from_is_err_and}
+use Rattle.miner_core.specs.Miners.{held}
 use Rattle.miner_core.specs.Streams.{with_tape}
 use Rattle.miner_node.proofs.Along.{along_here, along_as}
 use Rattle.miner_node.proofs.Rounds.{ungreeted, exchanged}
@@ -7,7 +8,7 @@ use Rattle.miner_node.proofs.serving.exchange.Goals as goal
 pub returns-in_err-greet : goal.returns-in_err-greet
 returns-in_err-greet g c =
     let i = g.P.Party.me in
-    let m = c.args.miner.now in
+    let m = held c.args.miner.now in
     let a = g.L.Links.state c.args.links.now in
     let b = g.L.Links.state c.greet.new.links in
     let greets = rw c.number.ensures at c.in_err-greet.ensures in
@@ -20,8 +21,8 @@ returns-in_err-greet g c =
 pub returns : goal.returns
 returns g c =
     let i = g.P.Party.me in
-    let m = c.args.miner.now in
-    let n = c.turns.new.miner in
+    let m = held c.args.miner.now in
+    let n = held c.turns.new.miner in
     let a = g.L.Links.state c.args.links.now in
     let b = g.L.Links.state c.greet.new.links in
     along_as i m n (g.T.TapeSource.state c.args.tapes.now) (g.T.TapeSource.state c.turns.new.tapes) c.turns.result c.turns.result _ _ c.turns.ensures

@@ -1,6 +1,7 @@
 use Rattle.std.proofs.Common.{◌≡◌}
 use Rattle.std.proofs.lemmas.Result.{err_from_is_err_and}
 use Rattle.proto_core.specs.Parties.{receiver_of}
+use Rattle.miner_core.specs.Miners.{held}
 use Rattle.miner_core.specs.Streams.{with_tape}
 use Rattle.miner_node.proofs.Along.{along_here, along_as}
 use Rattle.miner_node.proofs.Rounds.{not_own, untaken, takes}
@@ -8,13 +9,13 @@ use Rattle.miner_node.proofs.serving.take_message.Goals as goal
 
 pub returns-then-not-ends_here : goal.returns-then-not-ends_here
 returns-then-not-ends_here g c =
-    along_here g.P.Party.me c.args.miner.now (g.T.TapeSource.state c.args.tapes.now) _ _ c.requires.going c.requires.left
-    (λ tape of. not_own g.P.Party.me c.args.link (with_tape c.args.miner.now tape) (g.L.Links.state c.args.links.now))
+    along_here g.P.Party.me (held c.args.miner.now) (g.T.TapeSource.state c.args.tapes.now) _ _ c.requires.going c.requires.left
+    (λ tape of. not_own g.P.Party.me c.args.link (with_tape (held c.args.miner.now) tape) (g.L.Links.state c.args.links.now))
 
 pub returns-in_err-message : goal.returns-in_err-message
 returns-in_err-message g c =
     let i = g.P.Party.me in
-    let m = c.args.miner.now in
+    let m = held c.args.miner.now in
     let l = c.args.link in
     let a = g.L.Links.state c.args.links.now in
     let b = g.L.Links.state c.read_of.new.links in
@@ -28,8 +29,8 @@ returns-in_err-message g c =
 pub returns : goal.returns
 returns g c =
     let i = g.P.Party.me in
-    let m = c.args.miner.now in
-    let n = c.deliver.new.miner in
+    let m = held c.args.miner.now in
+    let n = held c.deliver.new.miner in
     let s = g.T.TapeSource.state c.args.tapes.now in
     let t = g.T.TapeSource.state c.deliver.new.tapes in
     let l = c.args.link in

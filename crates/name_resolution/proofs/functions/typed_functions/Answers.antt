@@ -2,7 +2,7 @@ use Rattle.std.proofs.Common.{◌+◌, [], ◌∷◌, ◌≡◌, ◌++◌, ap, �
 use Rattle.std.specs.Prelude.{map}
 use Rattle.std.proofs.lemmas.List.{take_all, take_more, map-append}
 use Rattle.declarations.specs.Views.{declared, tree_at}
-use Rattle.typed_tree.specs.Programs.{typed_function_tree}
+use Rattle.program_trees.specs.TypedPrograms.{typed_function_tree}
 use Rattle.name_resolution.specs.Functions.{typed_function, typed_functions}
 use Rattle.name_resolution.specs.inner.Views.{functions_seen}
 use Rattle.name_resolution.proofs.Growing.{map_one, typed_functions_more}

@@ -1,7 +1,7 @@
 use Rattle.std.proofs.Common.{◌≡◌, Some, take}
 use Rattle.std.specs.Prelude.{map}
 use Rattle.declarations.specs.Views.{declared, tree_at}
-use Rattle.typed_tree.specs.Programs.{typed_function_tree}
+use Rattle.program_trees.specs.TypedPrograms.{typed_function_tree}
 use Rattle.name_resolution.specs.Functions.{typed_functions}
 use Rattle.name_resolution.proofs.functions.typed_functions.Given as goal
 

@@ -1,7 +1,7 @@
 use Rattle.std.proofs.Common.{◌+◌, [], ◌∷◌, ◌≡◌, ◌++◌, ap, ◌∙◌, sym, take, get_or}
 use Rattle.std.specs.Prelude.{map}
 use Rattle.std.proofs.lemmas.List.{take_more, map-append}
-use Rattle.secrec_ast.specs.Tree.{expression, trees_of}
+use Rattle.program_trees.specs.Tree.{expression, trees_of}
 use Rattle.declarations.specs.Views.{declared}
 use Rattle.name_resolution.specs.Order.{called_in, called_in_all}
 use Rattle.name_resolution.specs.inner.Views.{found_seen}

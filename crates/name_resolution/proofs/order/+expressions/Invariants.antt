@@ -1,6 +1,6 @@
 use Rattle.std.proofs.Common.{◌≡◌, take}
 use Rattle.std.specs.Prelude.{map}
-use Rattle.secrec_ast.specs.Tree.{expression, trees_of}
+use Rattle.program_trees.specs.Tree.{expression, trees_of}
 use Rattle.declarations.specs.Views.{declared}
 use Rattle.name_resolution.specs.Order.{called_in_all}
 use Rattle.name_resolution.specs.inner.Views.{found_seen}

@@ -1,7 +1,7 @@
 use Rattle.std.proofs.Common.{◌+◌, [], ◌∷◌, ◌≡◌, ◌++◌, ap, ◌∙◌, sym, take, get_or}
 use Rattle.std.specs.Prelude.{map}
 use Rattle.std.proofs.lemmas.List.{take_more, map-append}
-use Rattle.secrec_ast.specs.Statements.{statement, statements_of}
+use Rattle.program_trees.specs.Statements.{statement, statements_of}
 use Rattle.declarations.specs.Views.{declared}
 use Rattle.name_resolution.specs.Order.{called_by, called_by_all}
 use Rattle.name_resolution.specs.inner.Views.{found_seen}

@@ -1,6 +1,6 @@
 use Rattle.std.proofs.Common.{rules, ◌≡◌, Some}
-use Rattle.secrec_ast.specs.Programs.{program_tree}
-use Rattle.typed_tree.specs.Programs.{typed_program_tree}
+use Rattle.program_trees.specs.Programs.{program_tree}
+use Rattle.program_trees.specs.TypedPrograms.{typed_program_tree}
 use Rattle.name_resolution.specs.Functions.{typed_of}
 use Rattle.name_resolution.proofs.SoundPrograms.{typed_of_sound}
 use Rattle.name_resolution.proofs.program.resolve.Goals as goal

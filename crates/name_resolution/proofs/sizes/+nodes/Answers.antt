@@ -1,7 +1,7 @@
 use Rattle.std.proofs.Common.{◌+◌, [], ◌∷◌, ◌≡◌, ◌++◌, ap, ◌∙◌, sym, take, get_or}
 use Rattle.std.specs.Prelude.{map}
 use Rattle.std.proofs.lemmas.List.{take_more, map-append}
-use Rattle.secrec_ast.specs.Tree.{expression, trees_of}
+use Rattle.program_trees.specs.Tree.{expression, trees_of}
 use Rattle.name_resolution.specs.Sizes.{nodes, nodes_all, counted}
 use Rattle.name_resolution.proofs.Counts.{nodes_all_more}
 use Rattle.name_resolution.proofs.sizes.+nodes.Goals as goal

@@ -1,6 +1,6 @@
 use Rattle.std.proofs.Common.{◌≡◌, take}
 use Rattle.std.specs.Prelude.{map}
-use Rattle.secrec_ast.specs.Tree.{expression, trees_of}
+use Rattle.program_trees.specs.Tree.{expression, trees_of}
 use Rattle.name_resolution.specs.Sizes.{nodes_all, counted}
 use Rattle.name_resolution.proofs.sizes.+nodes.Given as goal
 

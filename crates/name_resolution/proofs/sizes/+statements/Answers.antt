@@ -1,7 +1,7 @@
 use Rattle.std.proofs.Common.{◌+◌, [], ◌∷◌, ◌≡◌, ◌++◌, ap, ◌∙◌, sym, take, get_or}
 use Rattle.std.specs.Prelude.{map}
 use Rattle.std.proofs.lemmas.List.{take_more, map-append}
-use Rattle.secrec_ast.specs.Statements.{statement, statements_of}
+use Rattle.program_trees.specs.Statements.{statement, statements_of}
 use Rattle.name_resolution.specs.Sizes.{statement_nodes, statements_nodes, counted}
 use Rattle.name_resolution.proofs.Counts.{statements_nodes_more}
 use Rattle.name_resolution.proofs.sizes.+statements.Goals as goal

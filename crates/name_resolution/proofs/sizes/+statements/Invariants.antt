@@ -1,6 +1,6 @@
 use Rattle.std.proofs.Common.{◌≡◌, take}
 use Rattle.std.specs.Prelude.{map}
-use Rattle.secrec_ast.specs.Statements.{statement, statements_of}
+use Rattle.program_trees.specs.Statements.{statement, statements_of}
 use Rattle.name_resolution.specs.Sizes.{statements_nodes, counted}
 use Rattle.name_resolution.proofs.sizes.+statements.Given as goal
 

@@ -1,10 +1,10 @@
 use Rattle.std.proofs.Common.{◌+◌, [], ◌∷◌, ◌≡◌, ◌++◌, ap, ◌∙◌, sym, take, get_or, Some, None}
 use Rattle.std.specs.Prelude.{map}
 use Rattle.std.proofs.lemmas.List.{take_all, take_more, map-append}
-use Rattle.secrec_ast.specs.Statements.{statement, statements_of, start_tree, step_tree, optional}
-use Rattle.secrec_ast.specs.Equations.{for_statement_is}
+use Rattle.program_trees.specs.Statements.{statement, statements_of, start_tree, step_tree, optional}
+use Rattle.program_trees.specs.Equations.{for_statement_is}
 use Rattle.declarations.specs.Views.{declared}
-use Rattle.typed_tree.specs.Statements.{typed_statement, typed_statements_of}
+use Rattle.program_trees.specs.TypedStatements.{typed_statement, typed_statements_of}
 use Rattle.name_resolution.specs.Scopes.{FunctionScope}
 use Rattle.name_resolution.specs.Bodies.{looped, resolved, resolved_all}
 use Rattle.name_resolution.specs.inner.Views.{place_seen, with_place, typed_statements_seen}

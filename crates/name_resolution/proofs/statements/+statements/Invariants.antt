@@ -1,8 +1,8 @@
 use Rattle.std.proofs.Common.{◌≡◌, Some, take}
 use Rattle.std.specs.Prelude.{map}
-use Rattle.secrec_ast.specs.Statements.{statement, statements_of}
+use Rattle.program_trees.specs.Statements.{statement, statements_of}
 use Rattle.declarations.specs.Views.{declared}
-use Rattle.typed_tree.specs.Statements.{typed_statement, typed_statements_of}
+use Rattle.program_trees.specs.TypedStatements.{typed_statement, typed_statements_of}
 use Rattle.name_resolution.specs.Bodies.{resolved_all}
 use Rattle.name_resolution.specs.inner.Views.{place_seen}
 use Rattle.name_resolution.proofs.statements.+statements.Given as goal

@@ -1,6 +1,6 @@
 use Rattle.std.proofs.Common.{◌≡◌, Some, take}
 use Rattle.std.specs.Prelude.{map}
-use Rattle.secrec_ast.specs.Tree.{expression, trees_of}
+use Rattle.program_trees.specs.Tree.{expression, trees_of}
 use Rattle.declarations.specs.Views.{declared}
 use Rattle.name_resolution.specs.Values.{values}
 use Rattle.name_resolution.specs.inner.Views.{valued}

@@ -1,8 +1,8 @@
 use Rattle.std.proofs.Common.{ap, ◌∙◌, sym, Some, true, false}
 use Rattle.std.specs.Prelude.{map}
-use Rattle.secrec_ast.specs.declared.expression.DataType.TheVariants as datatype
+use Rattle.program_trees.specs.declared.expression.DataType.TheVariants as datatype
 use Rattle.declarations.specs.declared.built_in.BuiltIn.TheVariants.{Size, Cat, Sum, BitExtract}
-use Rattle.typed_tree.specs.Equations.{size_node_is, cat_node_is, sum_node_is, bits_node_is}
+use Rattle.program_trees.specs.TypedEquations.{size_node_is, cat_node_is, sum_node_is, bits_node_is}
 use Rattle.name_resolution.specs.Values.{made, built_in_value}
 use Rattle.name_resolution.specs.inner.Views.{valued, operand_seen, pair_seen}
 use Rattle.name_resolution.proofs.Arguments.{only_one, only_two}

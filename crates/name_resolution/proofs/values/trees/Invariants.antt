@@ -1,6 +1,6 @@
 use Rattle.std.proofs.Common.{◌≡◌}
 use Rattle.std.specs.Prelude.{map}
-use Rattle.typed_tree.specs.Tree.{typed_tree}
+use Rattle.program_trees.specs.TypedTree.{typed_tree}
 use Rattle.name_resolution.specs.Values.{tree_of_value}
 use Rattle.name_resolution.specs.inner.Views.{valued}
 use Rattle.name_resolution.proofs.values.trees.Given as goal

@@ -1,3 +1,4 @@
+use Rattle.miner_core.specs.Miners.{held}
 use Rattle.node_run.proofs.Joins.{unjoined_from, joined_from}
 use Rattle.node_run.proofs.joining.serve_joined.Goals as goal
 
@@ -6,7 +7,7 @@ returns-in-Ok-clause-serves g c =
     let state = g.L.Links.state in
     let h = c.in-Ok.ensures in
     joined_from g.P.Party.me (state c.args.links.now) (state c.connect.new.self) h.moves_none
-    (record { told = h.moves_none.told; faults = h.cause.later; still = h.still }) c.args.hello.now c.args.miner
+    (record { told = h.moves_none.told; faults = h.cause.later; still = h.still }) c.args.hello.now (held c.args.miner)
     (g.T.TapeSource.state c.args.tapes.now) (state c.serve_from.new.links) (g.T.TapeSource.state c.serve_from.new.tapes) c.serve_from.result _ _
     c.serve_from.ensures.serves
 
@@ -15,5 +16,5 @@ returns-in-Err-clause-serves g c =
     let state = g.L.Links.state in
     let h = c.in-Err.ensures in
     unjoined_from g.P.Party.me (state c.args.links.now) (state c.connect.new.self) h.moves_none
-    (record { told = h.moves_none.told; faults = h.cause.later; still = h.still }) c.args.hello.now c.args.miner
+    (record { told = h.moves_none.told; faults = h.cause.later; still = h.still }) c.args.hello.now (held c.args.miner)
     (g.T.TapeSource.state c.args.tapes.now) _ _ h.cause.failed (λ st. (h.steady st).failed)

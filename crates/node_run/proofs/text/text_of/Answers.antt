@@ -7,5 +7,9 @@ use Rattle.node_run.proofs.text.text_of.Goals as goal
 pub returns : goal.returns
 returns g c =
     if_ok_so c.told_text.result _ _
-    (λ text is going tape of. is ∙ ap (λ told. text_of (lines_told told c.args.end)) (c.notices.ensures going tape of))
+    (λ text is.
+    record {
+      states = λ w of going tape may. is ∙ ap (λ told. text_of (lines_told told c.args.end)) (c.notices.ensures.states w of going tape may);
+      kept = λ keeps going tape may. is ∙ ap (λ told. text_of (lines_told told c.args.end)) (c.notices.ensures.kept keeps going tape may);
+    })
     c.told_text.ensures

@@ -1,7 +1,7 @@
 use Rattle.std.proofs.Common.{sym, ◌∙◌, ap}
 use Rattle.command_words.specs.Views.{compile_ask}
 use Rattle.bytecode.specs.InMemory.{raw_code}
-use Rattle.typed_tree.specs.Programs.{typed_program_tree}
+use Rattle.program_trees.specs.TypedPrograms.{typed_program_tree}
 use Rattle.program_commands.specs.Compile.{written_effect}
 use Rattle.program_commands.proofs.Planned.{at_path, compiled, done_with}
 use Rattle.program_commands.proofs.compile.plan_compile.Goals as goal

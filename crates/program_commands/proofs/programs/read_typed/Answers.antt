@@ -1,5 +1,5 @@
 use Rattle.std.proofs.Common.{[], ◌∷◌}
-use Rattle.typed_tree.specs.Programs.{typed_program_tree}
+use Rattle.program_trees.specs.TypedPrograms.{typed_program_tree}
 use Rattle.program_commands.proofs.Judged.{as_lent}
 use Rattle.program_commands.proofs.OfTexts.{found_of_file, gives_of_file, own_names, own_reading, unread_gives, unread_on}
 use Rattle.program_commands.proofs.programs.read_typed.Goals as goal

@@ -1,5 +1,5 @@
 use Rattle.std.proofs.Common.{Ok, Err, ap}
-use Rattle.secrec_ast.specs.Programs.{program_tree}
+use Rattle.program_trees.specs.Programs.{program_tree}
 use Rattle.program_commands.specs.Programs.{accepted}
 use Rattle.program_commands.proofs.Judged.{refusal_known, refusal_only}
 use Rattle.program_commands.proofs.OfTexts.{own_refusal, refuses_so}

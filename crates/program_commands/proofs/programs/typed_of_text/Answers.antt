@@ -1,6 +1,6 @@
 use Rattle.std.proofs.Common.{Ok}
-use Rattle.secrec_ast.specs.Programs.{program_tree}
-use Rattle.typed_tree.specs.Programs.{typed_program_tree}
+use Rattle.program_trees.specs.Programs.{program_tree}
+use Rattle.program_trees.specs.TypedPrograms.{typed_program_tree}
 use Rattle.program_commands.specs.OfText.{program_in}
 use Rattle.program_commands.specs.Programs.{accepted, small_enough}
 use Rattle.program_commands.proofs.OfTexts.{handed_on, large_found, large_stops, own_refusal, refused_found_on, sized_found, small_in, stops_behind}

@@ -1,10 +1,10 @@
 use Rattle.std.proofs.Common.{◌≡◌, Some, None, subst, sym, ◌∙◌, ap}
-use Rattle.typed_tree.specs.Programs.{typed_program_tree}
+use Rattle.program_trees.specs.TypedPrograms.{typed_program_tree}
 use Rattle.verified_code.specs.Verified.{first_fault}
-use Rattle.writable_code.specs.RawCodes.{raw_code_of_program}
-use Rattle.writable_code.proofs.Verified.{accepted_runs}
+use Rattle.written_code.specs.RawCodes.{raw_code_of_program}
+use Rattle.written_code.proofs.Verified.{accepted_runs}
 use Rattle.lowering.specs.Narrow.{IsJustRefusal}
-use Rattle.writable_code.proofs.Programs.{accepted_writable}
+use Rattle.written_code.proofs.Programs.{accepted_writable}
 use Rattle.program_run.proofs.compiling.compile_program.Goals as goal
 
 pub unreachable-requires : goal.unreachable-requires

@@ -1,7 +1,7 @@
 use Rattle.std.proofs.Common.{◌≡◌, None, Err}
-use Rattle.secrec_ast.specs.Programs.{program_tree}
+use Rattle.program_trees.specs.Programs.{program_tree}
 use Rattle.name_resolution.specs.Answer.{Answers}
-use Rattle.typed_tree.specs.Programs.{typed_program_tree}
+use Rattle.program_trees.specs.TypedPrograms.{typed_program_tree}
 use Rattle.domain_types.proofs.TypingPrograms.{accepted_is_typed}
 use Rattle.name_resolution.specs.Functions.{typed_of}
 use Rattle.program_typing.proofs.TreesOfPrograms.{typed_has_tree}

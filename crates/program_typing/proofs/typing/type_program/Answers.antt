@@ -1,4 +1,4 @@
-use Rattle.secrec_ast.specs.Programs.{program_tree}
+use Rattle.program_trees.specs.Programs.{program_tree}
 use Rattle.domain_types.proofs.TypingPrograms.{typed_is_accepted}
 use Rattle.program_typing.proofs.typing.type_program.Goals as goal
 

@@ -1,7 +1,7 @@
 use Rattle.std.proofs.Common.{◌≡◌, ◌+◌, [], ◌∷◌, ◌++◌, sym, ap, ap₂, ◌∙◌, take, get_or}
 use Rattle.std.specs.Prelude.{map}
 use Rattle.std.proofs.lemmas.List.{take_more, map-append}
-use Rattle.typed_tree.specs.Tree.{typed_tree, typed_trees_of}
+use Rattle.program_trees.specs.TypedTree.{typed_tree, typed_trees_of}
 use Rattle.reached_instances.specs.Domains.{domains}
 use Rattle.reached_instances.specs.Calls.{calls, calls_of_all}
 use Rattle.reached_instances.specs.Views.{setting, instances_seen}

@@ -1,5 +1,5 @@
 use Rattle.std.proofs.Common.{Some, None}
-use Rattle.typed_tree.specs.Programs.{typed_program_tree}
+use Rattle.program_trees.specs.TypedPrograms.{typed_program_tree}
 use Rattle.reached_instances.specs.Views.{instances_seen}
 use Rattle.reached_instances.proofs.Verdicts.{verdict_known, just_this}
 use Rattle.reached_instances.proofs.limits.check_limits.Goals as goal

@@ -3,7 +3,7 @@ use Rattle.std.specs.Prelude.{fold}
 use Rattle.std.specs.List.{slice_get}
 use Rattle.std.proofs.lemmas.List.{length-map}
 use Rattle.std.proofs.lemmas.Option.{slice_get_read}
-use Rattle.typed_tree.specs.Programs.{typed_program_tree}
+use Rattle.program_trees.specs.TypedPrograms.{typed_program_tree}
 use Rattle.reached_instances.specs.Instances.{instance_seen, listing}
 use Rattle.reached_instances.specs.Views.{instances_seen}
 use Rattle.reached_instances.proofs.Bound.{reached_bound, all_bound}

@@ -1,5 +1,5 @@
 use Rattle.std.proofs.Common.{◌-◌, ◌^◌}
-use Rattle.typed_tree.specs.Programs.{typed_program_tree}
+use Rattle.program_trees.specs.TypedPrograms.{typed_program_tree}
 use Rattle.reached_instances.proofs.ReachedLists.{IsReadTo}
 use Rattle.reached_instances.proofs.reaching.reached_instances.Given as goal
 

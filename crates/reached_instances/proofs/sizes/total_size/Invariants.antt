@@ -1,6 +1,6 @@
 use Rattle.std.proofs.Common.{◌≡◌, take}
 use Rattle.std.specs.Prelude.{min, sum}
-use Rattle.typed_tree.specs.Programs.{typed_program_tree}
+use Rattle.program_trees.specs.TypedPrograms.{typed_program_tree}
 use Rattle.reached_instances.specs.Views.{instances_seen}
 use Rattle.reached_instances.specs.Limits.{sizes}
 use Rattle.reached_instances.proofs.sizes.total_size.Given as goal

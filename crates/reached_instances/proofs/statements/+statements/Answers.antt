@@ -1,7 +1,7 @@
 use Rattle.std.proofs.Common.{◌≡◌, ◌+◌, [], ◌∷◌, ◌++◌, sym, ap, ◌∙◌, take, get_or}
 use Rattle.std.specs.Prelude.{map}
 use Rattle.std.proofs.lemmas.List.{take_more, map-append}
-use Rattle.typed_tree.specs.Statements.{typed_statement, typed_statements_of}
+use Rattle.program_trees.specs.TypedStatements.{typed_statement, typed_statements_of}
 use Rattle.reached_instances.specs.Calls.{typed_statement_calls, typed_statements_calls}
 use Rattle.reached_instances.specs.Views.{setting, instances_seen}
 use Rattle.reached_instances.proofs.Growing.{typed_statements_calls_more, then_calls}

@@ -1,6 +1,6 @@
 use Rattle.std.proofs.Common.{◌≡◌, ◌++◌, take}
 use Rattle.std.specs.Prelude.{map}
-use Rattle.typed_tree.specs.Statements.{typed_statement, typed_statements_of}
+use Rattle.program_trees.specs.TypedStatements.{typed_statement, typed_statements_of}
 use Rattle.reached_instances.specs.Calls.{typed_statements_calls}
 use Rattle.reached_instances.specs.Views.{setting, instances_seen}
 use Rattle.reached_instances.proofs.statements.+statements.Given as goal

@@ -1,6 +1,6 @@
 use Rattle.std.proofs.Common.{◌≡◌, take}
 use Rattle.std.specs.Prelude.{count_by}
-use Rattle.typed_tree.specs.Programs.{typed_program_tree}
+use Rattle.program_trees.specs.TypedPrograms.{typed_program_tree}
 use Rattle.reached_instances.specs.Templates.{is_of_template}
 use Rattle.reached_instances.specs.Views.{instances_seen}
 use Rattle.reached_instances.proofs.templates.template_count.Given as goal

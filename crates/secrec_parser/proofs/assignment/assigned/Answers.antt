@@ -1,6 +1,6 @@
 -- What stands next decides, by one lemma for each case, so that no goal unfolds what every sign does.
 use Rattle.std.proofs.Common.{◌∙◌, sym, ap, Ok, length, arith}
-use Rattle.secrec_ast.specs.Statements.{target_tree}
+use Rattle.program_trees.specs.Statements.{target_tree}
 use Rattle.expression_parser.specs.Steps.{◌>>=◌}
 use Rattle.secrec_parser.proofs.Turns.{assigned_none, assigned_high, assigned_value}
 use Rattle.secrec_parser.proofs.assignment.assigned.Goals as goal

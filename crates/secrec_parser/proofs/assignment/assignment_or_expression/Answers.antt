@@ -1,7 +1,7 @@
 -- A target is as high as the expression that it was read as.
 use Rattle.std.proofs.Common.{sym, ◌∙◌}
-use Rattle.secrec_ast.specs.Tree.{expression}
-use Rattle.secrec_ast.specs.Statements.{target_tree}
+use Rattle.program_trees.specs.Tree.{expression}
+use Rattle.program_trees.specs.Statements.{target_tree}
 use Rattle.secrec_parser.proofs.Targets.{target_of_height}
 use Rattle.secrec_parser.proofs.assignment.assignment_or_expression.Goals as goal
 

@@ -2,7 +2,7 @@ use Rattle.std.proofs.Common.{◌-◌, [], ◌∷◌, sym, ap, ◌∙◌, length
 use Rattle.std.specs.Prelude.{map}
 use Rattle.std.proofs.lemmas.List.{map-append}
 use Rattle.std.proofs.lemmas.Result.{err_from_is_err_and}
-use Rattle.secrec_ast.specs.Programs.{item_tree}
+use Rattle.program_trees.specs.Programs.{item_tree}
 use Rattle.secrec_parser.specs.inner.Steps.{at_end, item, list_from, listed}
 use Rattle.secrec_parser.proofs.Turns.{list_stops, list_goes_on, list_fails, passes_on}
 use Rattle.secrec_parser.proofs.program.items.Goals as goal

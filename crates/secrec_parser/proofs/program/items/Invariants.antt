@@ -1,6 +1,6 @@
 use Rattle.std.proofs.Common.{◌≡◌, ◌<◌, ℕ, [], length}
 use Rattle.std.specs.Prelude.{map}
-use Rattle.secrec_ast.specs.Programs.{item_tree}
+use Rattle.program_trees.specs.Programs.{item_tree}
 use Rattle.secrec_parser.specs.inner.Steps.{at_end, item, list_from, listed}
 use Rattle.secrec_parser.proofs.program.items.Given as goal
 

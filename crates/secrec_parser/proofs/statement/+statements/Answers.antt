@@ -3,9 +3,9 @@ use Rattle.std.specs.Prelude.{map}
 use Rattle.std.proofs.lemmas.List.{map-append}
 use Rattle.std.proofs.lemmas.Result.{err_from_is_err_and}
 use Rattle.secrec_lexer.specs.declared.sign.Sign.TheVariants as signs
-use Rattle.secrec_ast.specs.Tree.{expression}
-use Rattle.secrec_ast.specs.Statements.{statement}
-use Rattle.secrec_ast.specs.Equations.{branch_statement_is, choice_statement_is}
+use Rattle.program_trees.specs.Tree.{expression}
+use Rattle.program_trees.specs.Statements.{statement}
+use Rattle.program_trees.specs.Equations.{branch_statement_is, choice_statement_is}
 use Rattle.expression_parser.specs.Steps.{◌>>=◌, expect}
 use Rattle.secrec_parser.specs.inner.Given.{Takes}
 use Rattle.secrec_parser.specs.inner.Steps.{at_sign, braced, list_from, statement_at_most}

@@ -1,7 +1,7 @@
 use Rattle.std.proofs.Common.{◌≡◌, ◌<◌, ◌≤◌, ◌+◌, ◌*◌, ℕ, [], length}
 use Rattle.std.specs.Prelude.{map}
 use Rattle.secrec_lexer.specs.declared.sign.Sign.TheVariants as signs
-use Rattle.secrec_ast.specs.Statements.{statement}
+use Rattle.program_trees.specs.Statements.{statement}
 use Rattle.secrec_parser.specs.inner.Steps.{at_sign, list_from, listed, statement_at_most}
 use Rattle.secrec_parser.proofs.statement.+statements.Given as goal
 

@@ -1,7 +1,7 @@
 use Rattle.std.proofs.Common.{◌≡◌, ◌<◌, ◌∙◌, ℕ, [], length, refl, sym, ap, ap₂, arith}
 use Rattle.proto_core.specs.Lists.{at}
 use Rattle.proto_core.proofs.Edits.{edited_none, at-edited, edited_more, edited_done}
-use Rattle.share_ring.specs.Rings.{add_ring}
+use Rattle.proto_core.specs.Rings.{add_ring}
 use Rattle.share_convert.proofs.Fields.{one_at, one-is}
 use Rattle.share_convert.proofs.kernels.first_share.Goals as goal
 

@@ -1,7 +1,7 @@
 use Rattle.std.proofs.Common.{◌≡◌, ◌+◌, ◌*◌, ◌%◌, ◌<◌, ◌∙◌, ℕ, length, refl, sym, ap, arith, bit_xor}
 use Rattle.proto_core.specs.Lists.{at}
 use Rattle.proto_core.proofs.Edits.{edited_none, at-edited, edited_more, edited_done}
-use Rattle.share_ring.specs.Rings.{add_ring}
+use Rattle.proto_core.specs.Rings.{add_ring}
 use Rattle.share_convert.proofs.Fields.{less-fields}
 use Rattle.share_convert.proofs.kernels.mask_field.Goals as goal
 

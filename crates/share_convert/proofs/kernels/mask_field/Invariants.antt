@@ -1,7 +1,7 @@
 use Rattle.std.proofs.Common.{◌≡◌, ◌≤◌, ◌+◌, ◌%◌, length, bit_xor}
 use Rattle.proto_core.specs.Lists.{at}
 use Rattle.proto_core.proofs.Edits.{edited}
-use Rattle.share_ring.specs.Rings.{add_ring}
+use Rattle.proto_core.specs.Rings.{add_ring}
 use Rattle.share_convert.proofs.kernels.mask_field.Given as goal
 
 abbrev pub invariant-loop-at : goal.invariant-loop-at

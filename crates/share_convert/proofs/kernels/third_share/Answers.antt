@@ -1,7 +1,7 @@
 use Rattle.std.proofs.Common.{◌≡◌, ◌+◌, ◌<◌, ◌∙◌, ℕ, length, refl, sym, ap, ap₂, arith, bit_xor}
 use Rattle.proto_core.specs.Lists.{at}
 use Rattle.proto_core.proofs.Edits.{edited_none, at-edited, edited_more, edited_done}
-use Rattle.share_ring.specs.Rings.{add_ring}
+use Rattle.proto_core.specs.Rings.{add_ring}
 use Rattle.share_convert.specs.Bits.{bit, chosen}
 use Rattle.share_convert.specs.ConvStrand.{Held}
 use Rattle.share_convert.proofs.Fields.{three_at, three-is}

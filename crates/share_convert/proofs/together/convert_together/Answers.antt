@@ -1,5 +1,5 @@
 use Rattle.std.proofs.Common.{◌∙◌, [], ◌∷◌, length, refl, ap}
-use Rattle.share_ring.specs.Rings.{add_ring}
+use Rattle.proto_core.specs.Rings.{add_ring}
 use Rattle.proto_core.specs.declared.party.Number.TheVariants.{One, Two}
 use Rattle.proto_core.specs.Resharing.{sum_of_three}
 use Rattle.proto_core.specs.Joints.{joint_of}

@@ -1,5 +1,5 @@
 use Rattle.std.proofs.Common.{◌∙◌, [], ◌∷◌, length, sym, ap}
-use Rattle.share_ring.specs.Rings.{add_ring}
+use Rattle.proto_core.specs.Rings.{add_ring}
 use Rattle.proto_core.proofs.ElementwiseLaws.{length-minus}
 use Rattle.proto_core.specs.Joints.{joint_of}
 use Rattle.split_share.proofs.Tails.{shares2-are, shares3-are, splits-of}

@@ -1,8 +1,8 @@
-use Rattle.std.proofs.Common.{◌++◌, ◌∷◌, [], List, ℕ, ◌∙◌, sym, ap, refl}
+use Rattle.std.proofs.Common.{◌++◌, ◌∷◌, [], List, ℕ, ◌∙◌, sym, ap}
 use Rattle.std.specs.Prelude.{string_bytes, String}
 use Rattle.std.specs.declared.alloc.Global.{Global}
 use Rattle.sc_text.specs.Elements.{elements_text}
-use Rattle.tape_commands.proofs.OpenLines.{none_told, opening_told}
+use Rattle.tape_commands.proofs.OpenLines.{none_opened, none_told, opening_told}
 use Rattle.tape_commands.proofs.map.opened_lines.Goals as goal
 use Rattle.tape_commands.proofs.map.opened_lines.Goals.{in-Open+in_ok-writeln, in_default}
 
@@ -20,5 +20,5 @@ loop-event-preserved c =
       | in_default w ↦
           ap (λ (t : String Global). string_bytes t) w.text-is
           ∙ c.loop-event.invariant
-          ∙ sym (none_told events k e e c.loop-event-test.true c.event-item.is (rw w.in_default.is refl))
+          ∙ sym (none_told events k e e c.loop-event-test.true c.event-item.is (none_opened e (λ elements same. w.in_default.not-Open elements same)))
     ]

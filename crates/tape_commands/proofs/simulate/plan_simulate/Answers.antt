@@ -1,7 +1,7 @@
 use Rattle.std.proofs.Common.{◌∷◌, refl, sym, ◌∙◌, ap}
 use Rattle.command_frame.proofs.Naming.{names_later}
 use Rattle.command_words.specs.Views.{simulate_ask}
-use Rattle.typed_tree.specs.Programs.{typed_program_tree}
+use Rattle.program_trees.specs.TypedPrograms.{typed_program_tree}
 use Rattle.counted_net.specs.Answers.{delivery_seen}
 use Rattle.program_commands.specs.Reading.{opened_at, order_paths, public_at, tape_file_at}
 use Rattle.program_run.proofs.Accepted.{has_instances}

@@ -1,6 +1,6 @@
 use Rattle.std.proofs.Common.{[], ◌∷◌, refl, sym, ◌∙◌, ap}
 use Rattle.command_words.specs.Views.{twin_ask}
-use Rattle.typed_tree.specs.Programs.{typed_program_tree}
+use Rattle.program_trees.specs.TypedPrograms.{typed_program_tree}
 use Rattle.program_commands.specs.Reading.{inputs_at, tape_file_at}
 use Rattle.program_run.proofs.Accepted.{has_instances}
 use Rattle.program_commands.proofs.Still.{read_still, still, still_later}

@@ -1,5 +1,5 @@
 use Rattle.std.proofs.Common.{◌≡◌, sym, ◌∙◌, ap}
-use Rattle.gate_maps.proofs.Passing.{if-ok}
+use Rattle.tape_twin.proofs.Passing.{if-ok}
 use Rattle.proto_core.specs.declared.party.Number.{Number}
 use Rattle.view_model.specs.Dealing.{seen_dealer}
 use Rattle.tape_twin.proofs.DealerWords.{kept-first, kept-second}

@@ -1,6 +1,6 @@
 use Rattle.std.proofs.Common.{◌≡◌, List, ℕ, All, ◌∙◌, ap, subst}
-use Rattle.gate_maps.proofs.Passing.{if-ok}
-use Rattle.typed_tree.specs.Programs.{typed_program_tree}
+use Rattle.tape_twin.proofs.Passing.{if-ok}
+use Rattle.program_trees.specs.TypedPrograms.{typed_program_tree}
 use Rattle.value_file.specs.declared.inputs.Entry.{Entry}
 use Rattle.input_share.specs.AddUp.{HasWords}
 use Rattle.language_model.specs.Reports.{Report, eval}

@@ -2,9 +2,9 @@ use Rattle.std.proofs.Common.{◌≡◌, ◌<◌, ◌≤◌, List, ℕ, length, 
 use Rattle.proto_core.specs.declared.party.Number.{Number}
 use Rattle.joint_run.specs.Three.{values_of}
 use Rattle.input_share.specs.Dealing.{need_of}
-use Rattle.gate_maps.specs.declared.way.Way.TheVariants.{FromView}
-use Rattle.gate_maps.specs.Maps.{run_map}
-use Rattle.gate_maps.proofs.Passing.{if-ok}
+use Rattle.tape_twin.specs.declared.way.Way.TheVariants.{FromView}
+use Rattle.tape_twin.specs.Maps.{run_map}
+use Rattle.tape_twin.proofs.Passing.{if-ok}
 use Rattle.view_model.specs.Dealing.{dealt_to, seen_dealer}
 use Rattle.view_model.specs.TapeMaps.{miners_of, four_of, from_simulated}
 use Rattle.tape_twin.proofs.Whole.{some-says, none-says, even, can-run, from-is, from-undealt, seen-enough}

@@ -3,7 +3,7 @@ use Rattle.protocol_model.specs.Runs.{Tapes}
 use Rattle.joint_run.specs.Parts.{ThreeLists}
 use Rattle.joint_run.specs.Three.{each_of, values_of}
 use Rattle.joint_run.specs.JointRuns as joint
-use Rattle.gate_maps.specs.Maps.{run_map}
+use Rattle.tape_twin.specs.Maps.{run_map}
 use Rattle.view_model.specs.TapeMaps.{miners_of, four_of}
 use Rattle.tape_twin.proofs.Whole.{same_four, own-tapes}
 use Rattle.tape_twin.proofs.tape_maps.mapped.Goals as goal

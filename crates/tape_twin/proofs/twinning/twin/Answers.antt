@@ -1,7 +1,7 @@
 use Rattle.std.proofs.Common.{◌≡◌, List, ℕ, sym, ◌∙◌, ap, subst}
 use Rattle.tape_twin.proofs.Whole.{none-says}
 use Rattle.gates.specs.declared.gate.Gate.{Gate}
-use Rattle.typed_tree.specs.Programs.{typed_program_tree}
+use Rattle.program_trees.specs.TypedPrograms.{typed_program_tree}
 use Rattle.clear_eval.specs.Reports.{report_seen}
 use Rattle.view_model.specs.TapeMaps.{from_simulated, to_simulated, CanRun}
 use Rattle.value_file.specs.Public.{part_of}

@@ -1,5 +1,5 @@
 use Rattle.command_frame.proofs.Said.{says_error}
-use Rattle.join_command.proofs.Said.{node_fault_is_error}
+use Rattle.trio_command.proofs.Said.{node_fault_is_error}
 use Rattle.trio_command.proofs.running.child_stop.Goals as goal
 
 pub breached-requires-clause-says : goal.breached-requires-clause-says

@@ -3,7 +3,7 @@ use Rattle.protocol_model.specs.Gates.{sizes_of, needed}
 use Rattle.gates.specs.declared.gate.Gate.{Gate}
 use Rattle.shared_gates.specs.Model.{AllSizesSuit}
 use Rattle.joint_run.specs.Three.{each_of}
-use Rattle.made_run.specs.Made.{own_run, IsMade}
+use Rattle.view_simulator.specs.Made.{own_run, IsMade}
 use Rattle.view_simulator.specs.Need.{made_shares}
 use Rattle.view_model.specs.Dealing.{private_shares, made_entries}
 use Rattle.view_simulator.proofs.Making.{suits_own, reaches_own, all_seen}

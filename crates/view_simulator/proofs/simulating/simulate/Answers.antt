@@ -1,5 +1,5 @@
 use Rattle.std.proofs.Common.{◌≡◌, List, [], Ok, Err, ap, ◌∙◌, sym, subst}
-use Rattle.typed_tree.specs.Programs.{typed_program_tree}
+use Rattle.program_trees.specs.TypedPrograms.{typed_program_tree}
 use Rattle.gates.specs.declared.gate.Gate.{Gate}
 use Rattle.proto_core.specs.declared.link.Link.{Link}
 use Rattle.view_simulator.specs.Sizes.{SizesFit}

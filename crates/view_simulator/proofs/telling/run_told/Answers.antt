@@ -1,7 +1,7 @@
 use Rattle.std.proofs.Common.{◌<◌, ◌^◌, ℕ, List, [], length, All, subst, arith}
 use Rattle.proto_core.specs.declared.party.Number.TheVariants.{One}
 use Rattle.gates.specs.declared.gate.Gate.{Gate}
-use Rattle.typed_tree.specs.Programs.{typed_program_tree}
+use Rattle.program_trees.specs.TypedPrograms.{typed_program_tree}
 use Rattle.value_file.specs.declared.public.PublicEntry.{PublicEntry}
 use Rattle.language_model.specs.Reports.{Report}
 use Rattle.clear_eval.specs.Reports.{IsBlindAnswer}

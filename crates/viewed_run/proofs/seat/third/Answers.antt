@@ -1,21 +1,37 @@
 use Rattle.std.proofs.Common.{◌∙◌, ap, refl}
-use Rattle.proto_core.specs.declared.link.Link.TheVariants.{Link23, Link13}
-use Rattle.proto_core.specs.declared.party.Number.TheVariants.{One, Two}
+use Rattle.proto_core.specs.declared.link.Link.TheVariants.{Link13, Link23}
+use Rattle.proto_core.specs.declared.party.Number.TheVariants.{One, Two, Three}
 use Rattle.proto_core.specs.Strand.{on_link}
+use Rattle.miner_core.specs.Miners.{MinerSeen, held}
 use Rattle.delivered_run.proofs.Netting.{own_tape}
+use Rattle.link_schedule.proofs.Nets.{kept_miner}
 use Rattle.viewed_run.proofs.seat.third.Goals as goal
 
-pub returns : goal.returns
-returns c =
-    let net = c.args.net.now in
+pub sent_to_next-requires : goal.sent_to_next-requires
+sent_to_next-requires c = ap (λ (m : MinerSeen _). m.past) c.miner2.ensures.own ∙ c.requires.two
+
+pub sent_to_previous-requires : goal.sent_to_previous-requires
+sent_to_previous-requires c = ap (λ (m : MinerSeen _). m.past) c.miner1.ensures.own ∙ c.requires.one
+
+pub returns-clause-sits : goal.returns-clause-sits
+returns-clause-sits c = λ s is.
     record {
-      miner = c.miner3.ensures;
+      miner = λ going.
+          kept_miner s Three c.miner3.result.now (ap (λ (m : MinerSeen _). m.past) c.miner3.ensures.own ∙ c.requires.three)
+          (c.miner3.ensures.miner s is going);
       dealt = refl;
       previous = λ going tapes may.
-          let m = c.miner2.ensures going in
-          c.sent_to_next.ensures m.going (tapes Two) (own_tape net Two c.miner2.result.now m tapes may) ∙ ap (on_link Link23) (m.at tapes may).acts;
+          let keeps = ap (λ (m : MinerSeen _). m.past) c.miner2.ensures.own ∙ c.requires.two in
+          let m = kept_miner s Two c.miner2.result.now keeps (c.miner2.ensures.miner s is going) in
+          c.sent_to_next.ensures m.going (tapes Two) (own_tape s Two (held c.miner2.result.now) m tapes may)
+          ∙ ap (on_link Link23) (m.at tapes may).acts;
       next = λ going tapes may.
-          let m = c.miner1.ensures going in
-          c.sent_to_previous.ensures m.going (tapes One) (own_tape net One c.miner1.result.now m tapes may) ∙ ap (on_link Link13) (m.at tapes may).acts;
-      order = c.recorded.ensures;
+          let keeps = ap (λ (m : MinerSeen _). m.past) c.miner1.ensures.own ∙ c.requires.one in
+          let m = kept_miner s One c.miner1.result.now keeps (c.miner1.ensures.miner s is going) in
+          c.sent_to_previous.ensures m.going (tapes One) (own_tape s One (held c.miner1.result.now) m tapes may)
+          ∙ ap (on_link Link13) (m.at tapes may).acts;
+      order = c.recorded.ensures s is;
     }
+
+pub returns-clause-keeps : goal.returns-clause-keeps
+returns-clause-keeps c = ap (λ (m : MinerSeen _). m.past) c.miner3.ensures.own ∙ c.requires.three

@@ -4,9 +4,8 @@ use Rattle.viewed_run.proofs.Viewed.{see_in}
 use Rattle.viewed_run.proofs.seen.views_in.Goals as goal
 
 pub returns : goal.returns
-returns c =
-    let net = c.args.net.now in
+returns c = λ s is.
     let files = c.args.files.now in
-    see_in net files _ (sees_in One net files.first c.first.result c.first.ensures c.in_ok-one.one c.in_ok-one.ensures)
-    (sees_in Two net files.second c.second.result c.second.ensures c.in_ok-two.two c.in_ok-two.ensures)
-    (sees_in Three net files.third c.third.result c.third.ensures c.in_ok-three.three c.in_ok-three.ensures)
+    see_in s files _ (sees_in One s files.first c.first.result (c.first.ensures.sits s is) c.in_ok-one.one c.in_ok-one.ensures)
+    (sees_in Two s files.second c.second.result (c.second.ensures.sits s is) c.in_ok-two.two c.in_ok-two.ensures)
+    (sees_in Three s files.third c.third.result (c.third.ensures.sits s is) c.in_ok-three.three c.in_ok-three.ensures)

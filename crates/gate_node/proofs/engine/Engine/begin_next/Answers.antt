@@ -1,9 +1,9 @@
 use Rattle.std.proofs.Common.{◌≡◌, ◌≤◌, ◌<◌, ◌+◌, ◌-◌, [], ◌∷◌, ◌++◌, length, drop, nat_le, true, sym, ◌∙◌, ap, subst, arith}
 use Rattle.protocol_model.specs.Gates.{sizes_of}
 use Rattle.gates.specs.Clear.{value}
-use Rattle.joint_run.specs.LocalGates.{local_share}
-use Rattle.joint_run.specs.Exchanges.{protocol_of}
-use Rattle.joint_run.specs.Steps.{second_value}
+use Rattle.gate_exchanges.specs.LocalGates.{local_share}
+use Rattle.gate_exchanges.specs.Exchanges.{protocol_of}
+use Rattle.gate_exchanges.specs.Exchanged.{second_value}
 use Rattle.block_steps.specs.Outcomes.{outcome_of}
 use Rattle.gate_node.specs.OwnGates.{can_run, own_gates}
 use Rattle.gate_node.specs.Plans.{then_wanted}

@@ -2,7 +2,7 @@ use Rattle.std.proofs.Common.{◌≡◌, ◌+◌, ◌<◌, ◌↔◌, IsTrue, le
 use Rattle.protocol_model.specs.Gates.{sizes_of}
 use Rattle.gates.specs.declared.gate.Gate.TheVariants.{Put}
 use Rattle.gates.specs.Clear.{value, first_word}
-use Rattle.joint_run.specs.Model.{SizesSuit}
+use Rattle.gate_exchanges.specs.Model.{SizesSuit}
 use Rattle.gate_node.proofs.Storing.{stores-last}
 use Rattle.gate_node.proofs.Stores.{busy-no-store, planned-no-store, many-no-store, other-no-store, unfit-no-store, else-no-store, is-store}
 use Rattle.gate_node.proofs.engine.Engine.last_store.Goals as goal

@@ -2,8 +2,8 @@ use Rattle.std.proofs.Common.{◌≡◌, ◌+◌, ◌-◌, ◌++◌, take, lengt
 use Rattle.proto_core.specs.Strand.{Ends}
 use Rattle.gates.specs.Clear.{value}
 use Rattle.blocked_protocol.specs.Blocked.{joined}
-use Rattle.joint_run.specs.Exchanges.{protocol_of}
-use Rattle.joint_run.specs.Steps.{second_value}
+use Rattle.gate_exchanges.specs.Exchanges.{protocol_of}
+use Rattle.gate_exchanges.specs.Exchanged.{second_value}
 use Rattle.block_steps.specs.Outcomes.{outcome_of}
 use Rattle.block_steps.specs.Pendings.{pending_left}
 use Rattle.gate_node.specs.Shares.{shares_of}

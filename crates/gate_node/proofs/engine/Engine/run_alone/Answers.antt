@@ -1,6 +1,6 @@
 use Rattle.std.proofs.Common.{◌≡◌, ◌≢◌, ◌+◌, true, [], ◌∷◌, ◌++◌, refl, sym, ◌∙◌, ap, subst, arith}
 use Rattle.std.proofs.lemmas.Bool.{false≢true}
-use Rattle.joint_run.specs.LocalGates.{local_share}
+use Rattle.gate_exchanges.specs.LocalGates.{local_share}
 use Rattle.gate_node.specs.declared.beginning.Beginning.TheVariants as beginning
 use Rattle.gate_node.specs.OwnGates.{can_run}
 use Rattle.gate_node.specs.Stores.{FirstRunsAlone, with_first}

@@ -1,4 +1,4 @@
-use Rattle.share_ring.specs.RingsKeepLaws.{xor_is_word}
+use Rattle.proto_core.specs.RingsKeepLaws.{xor_is_word}
 use Rattle.lane_kernel.proofs.Several.{zip2_same}
 use Rattle.lane_kernel.proofs.lanes.XorRingRingLanes.sub_lanes.Goals as goal
 

@@ -1,6 +1,7 @@
 use Rattle.proto_core.specs.declared.party.Number.TheVariants.{Three}
-use Rattle.link_schedule.proofs.Giving.{held, miner_at}
+use Rattle.link_schedule.proofs.Nets.{miner_of_net}
 use Rattle.link_schedule.proofs.net.Net3.miner3.Goals as goal
 
-pub returns : goal.returns
-returns c = λ going. miner_at c.args.self.now (held c.self.inside) c.self.view_is c.self.invariant going Three
+pub returns-clause-miner : goal.returns-clause-miner
+returns-clause-miner c = λ s is going.
+    let h = is.works going in miner_of_net s c.args.self.now h Three c.args.self.now.miners.three h.are.three

@@ -1,15 +1,26 @@
-use Rattle.std.proofs.Common.{sym, subst}
-use Rattle.counted_net.specs.Cursors.{tally_on}
-use Rattle.link_schedule.specs.declared.miners.Miners.{Miners}
+use Rattle.std.proofs.Common.{refl, sym, ◌∙◌, ap, subst}
+use Rattle.std.specs.Prelude.{None}
 use Rattle.link_schedule.specs.Coming.{AreNet}
+use Rattle.link_schedule.specs.Miners.{MinerStates, fetched, streams, unfetched}
+use Rattle.link_schedule.specs.Streams.{net_of}
 use Rattle.link_schedule.proofs.Giving.{fresh_net}
+use Rattle.link_schedule.proofs.Passing.{none_fetched}
 use Rattle.link_schedule.proofs.net.Net3.new.Goals as goal
 
-pub invariant_of-result : goal.invariant_of-result
-invariant_of-result c =
-    λ h.
-    let m : Miners = record { one = c.args.miner1; two = c.args.miner2; three = c.args.miner3 } in
-    let alike = c.requires.alike in
-    let fresh = c.requires.fresh in
-    subst (λ ls. AreNet m ls (tally_on c.new.result)) (sym c.new-2.ensures.items)
-    (fresh_net m alike.0 alike.1 fresh.0 fresh.1 fresh.2 (tally_on c.new.result) c.new.ensures)
+pub returns-clause-net : goal.returns-clause-net
+returns-clause-net c = λ one two three made.
+    let w : MinerStates = record { one = unfetched one; two = unfetched two; three = unfetched three } in
+    record {
+      lost = refl;
+      recorded = c.new-2.ensures.items;
+      works = λ going. record {
+        states = w;
+        are = record { one = made.first; two = made.second; three = made.third };
+        joined =
+            subst (λ ls. AreNet (streams w) ls (fetched w)) (sym c.new-2.ensures.items)
+            (fresh_net (streams w) made.alike_second made.alike_third made.fresh_first made.fresh_second made.fresh_third (fetched w)
+            (none_fetched one two three));
+        same = ap (λ ls. net_of (streams w) ls None) c.new-2.ensures.items;
+        counted = λ l. c.new.ensures l ∙ sym (none_fetched one two three l);
+      };
+    }

@@ -1,14 +1,10 @@
-use Rattle.std.proofs.Common.{length, ◌∙◌, ap}
-use Rattle.link_schedule.specs.Streams.{stories_with, with_tapes}
-use Rattle.link_schedule.proofs.Giving.{held, net_at}
-use Rattle.link_schedule.proofs.Joining.{sent_is}
+use Rattle.std.proofs.Common.{◌∙◌}
+use Rattle.link_schedule.specs.Streams.{with_tapes}
+use Rattle.link_schedule.proofs.Nets.{all_sent, work_at}
 use Rattle.link_schedule.proofs.net.Net3.sent.Goals as goal
 
 pub returns : goal.returns
-returns c =
-    λ going tapes may.
-    let s = c.args.self.now in
-    let n = held c.self.inside in
-    let here = net_at s n c.self.view_is c.self.invariant going tapes may in
-    c.len.ensures
-    ∙ ap length (c.sent_on.ensures here.usable tapes here.may ∙ sent_is (with_tapes s tapes) (stories_with n.miners tapes) here.net.parts c.args.link)
+returns c = λ s is going tapes may none.
+    let h = is.works going in
+    all_sent (with_tapes s tapes) c.args.link c.on.result
+    (c.on.ensures ∙ h.counted c.args.link ∙ (work_at s c.args.self.now h tapes may).net.counted c.args.link) none

@@ -1,10 +1,9 @@
-use Rattle.miner_core.specs.Streams.{no_words}
-use Rattle.miner_core.proofs.Streaming.{made_whole, made_none}
+use Rattle.std.proofs.lemmas.Result.{MatchResult-weaker}
+use Rattle.miner_core.proofs.Miners.{made_whole_of}
 use Rattle.miner_core.proofs.miner.Miner.new.Goals as goal
 
-pub invariant_of-result : goal.invariant_of-result
-invariant_of-result g c = λ going.
-    made_none g.P.Party.me c.args.task c.args.dealt c.args.tape.items c.args.budget no_words c.in-Ok.inner c.in-Ok.ensures.made
+pub returns-clause-made : goal.returns-clause-made
+returns-clause-made g c = MatchResult-weaker c.keeping.result c.keeping.ensures.made (λ m h. made_whole_of _ _ _ _ _ _ _ m h) (λ l k. k)
 
-pub returns-in-Ok : goal.returns-in-Ok
-returns-in-Ok g c = made_whole g.P.Party.me c.args.task c.args.dealt c.args.tape.items c.args.budget no_words c.in-Ok.inner c.in-Ok.ensures.made
+pub returns-clause-past : goal.returns-clause-past
+returns-clause-past g c = MatchResult-weaker c.keeping.result c.keeping.ensures.made (λ m h. h.past_is) (λ l k. k)

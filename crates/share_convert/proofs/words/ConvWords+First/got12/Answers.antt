@@ -1,6 +1,6 @@
 use Rattle.std.proofs.Common.{rules, ◌≡◌, ◌*◌, ◌≤◌, ◌∙◌, take, length, vec_len, sym, ap, arith}
 use Rattle.std.proofs.lemmas.List.{with_items_is}
-use Rattle.share_ring.specs.Rings.{add_ring}
+use Rattle.proto_core.specs.Rings.{add_ring}
 use Rattle.proto_core.specs.Lists.{part}
 use Rattle.proto_core.specs.Elementwise.{minus}
 use Rattle.proto_core.proofs.Parts.{part-take}

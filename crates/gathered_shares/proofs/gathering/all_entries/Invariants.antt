@@ -1,6 +1,0 @@
-use Rattle.std.proofs.Common.{◌≡◌, ◌++◌, take}
-use Rattle.gathered_shares.specs.Gathering.{entries_in}
-use Rattle.gathered_shares.proofs.gathering.all_entries.Given as goal
-
-abbrev pub invariant-loop-file : goal.invariant-loop-file
-invariant-loop-file l = l.all.items ≡ l.fn.first.entries ++ entries_in (take l.file-index l.more)

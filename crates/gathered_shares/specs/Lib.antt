@@ -1,3 +1,0 @@
-pub mod Gathering
-pub mod Owners
-pub mod Vectors

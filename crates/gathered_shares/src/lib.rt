@@ -1,9 +1,0 @@
-//! Inputs of several owners, who deal apart: a miner puts the share files that they dealt it end to end, and has the file of one dealing of
-//! all inputs. No owner sees another's inputs, and no one has all of them.
-#![tactic(auto)]
-
-mod apart;
-mod gathering;
-
-pub use apart::dealing_apart_is_one_dealing;
-pub use gathering::{GatherErr, gather};

@@ -1,5 +1,0 @@
-use Rattle.joint_run.proofs.Sizes.{SameUpTo}
-use Rattle.joint_run.proofs.suiting.same_sizes.Given as goal
-
-abbrev pub invariant-loop-k : goal.invariant-loop-k
-invariant-loop-k l = SameUpTo l.xs l.ys l.k

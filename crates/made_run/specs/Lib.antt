@@ -1,4 +1,0 @@
-pub mod Sources
-pub mod Standing
-pub mod Simulators
-pub mod Made

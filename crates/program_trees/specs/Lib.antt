@@ -1,0 +1,13 @@
+pub mod Tree
+pub mod Statements
+pub mod Programs
+pub mod Heights
+pub mod Equations
+pub mod TypedTree
+pub mod TypedStatements
+pub mod TypedPrograms
+pub mod TypedEquations
+pub mod Operators
+pub mod Sound
+pub mod Shapes
+pub use Rattle.sc_text.specs.Lists

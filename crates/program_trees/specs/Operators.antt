@@ -1,0 +1,107 @@
+-- Which operator a sign means on operands of one data type, and what it gives.
+use Rattle.std.specs.Prelude.{Bool, true, false, Option, Some, None, option_map}
+use Rattle.program_trees.specs.declared.expression.DataType.{DataType}
+use Rattle.program_trees.specs.declared.expression.DataType.TheVariants.{Uint64}
+use Rattle.program_trees.specs.declared.expression.DataType.TheVariants as datatype
+use Rattle.program_trees.specs.declared.expression.Operator.{Operator}
+use Rattle.program_trees.specs.declared.expression.Operator.TheVariants as sign
+use Rattle.program_trees.specs.declared.kinds.Shape.{Shape}
+use Rattle.program_trees.specs.declared.operators.WordOperator.{WordOperator}
+use Rattle.program_trees.specs.declared.operators.WordOperator.TheVariants as word
+use Rattle.program_trees.specs.declared.operators.BoolOperator.{BoolOperator}
+use Rattle.program_trees.specs.declared.operators.BoolOperator.TheVariants as truth
+use Rattle.program_trees.specs.declared.operators.BinaryOperator.{BinaryOperator}
+use Rattle.program_trees.specs.declared.operators.BinaryOperator.TheVariants.{Words, Bools}
+use Rattle.program_trees.specs.declared.operators.Connective.{Connective}
+use Rattle.program_trees.specs.declared.operators.Connective.TheVariants.{AndAlso, OrElse}
+use Rattle.program_trees.specs.declared.operators.Operands.{Operands}
+use Rattle.program_trees.specs.declared.operators.Operands.TheVariants.{Scalars, ArrayAndScalar, ScalarAndArray, Arrays}
+use Rattle.program_trees.specs.declared.operators.Cast.{Cast}
+use Rattle.program_trees.specs.declared.operators.Cast.TheVariants.{WordToWord, WordToBool, BoolToWord, BoolToBool}
+use Rattle.program_trees.specs.Shapes.{shape_of}
+
+abbrev pub word_operator : Operator → Option WordOperator
+word_operator sign.Add = Some word.Add
+word_operator sign.Subtract = Some word.Subtract
+word_operator sign.Multiply = Some word.Multiply
+word_operator sign.Divide = Some word.Divide
+word_operator sign.Remainder = Some word.Remainder
+word_operator sign.Equal = Some word.Equal
+word_operator sign.NotEqual = Some word.NotEqual
+word_operator sign.Less = Some word.Less
+word_operator sign.LessOrEqual = Some word.LessOrEqual
+word_operator sign.Greater = Some word.Greater
+word_operator sign.GreaterOrEqual = Some word.GreaterOrEqual
+word_operator sign.And = Some word.And
+word_operator sign.Or = Some word.Or
+word_operator sign.Xor = Some word.Xor
+word_operator _ = None
+
+-- `&&` and `||` that can't cut short are `&` and `|`
+abbrev pub bool_operator : Operator → Option BoolOperator
+bool_operator sign.Equal = Some truth.Equal
+bool_operator sign.NotEqual = Some truth.NotEqual
+bool_operator sign.And = Some truth.And
+bool_operator sign.Or = Some truth.Or
+bool_operator sign.Xor = Some truth.Xor
+bool_operator sign.AndAlso = Some truth.And
+bool_operator sign.OrElse = Some truth.Or
+bool_operator _ = None
+
+abbrev pub operator_on : Operator → DataType → DataType → Option BinaryOperator
+operator_on op Uint64 Uint64 = option_map Words (word_operator op)
+operator_on op datatype.Bool datatype.Bool = option_map Bools (bool_operator op)
+operator_on op _ _ = None
+
+-- a comparison of words gives truth values, and another operator words
+abbrev pub word_result : WordOperator → DataType
+word_result word.Equal = datatype.Bool
+word_result word.NotEqual = datatype.Bool
+word_result word.Less = datatype.Bool
+word_result word.LessOrEqual = datatype.Bool
+word_result word.Greater = datatype.Bool
+word_result word.GreaterOrEqual = datatype.Bool
+word_result _ = Uint64
+
+abbrev pub element_made : BinaryOperator → DataType
+element_made (Words op) = word_result op
+element_made (Bools op) = datatype.Bool
+
+abbrev pub operands_of : Bool → Bool → Operands
+operands_of false false = Scalars
+operands_of true false = ArrayAndScalar
+operands_of false true = ScalarAndArray
+operands_of true true = Arrays
+
+abbrev pub result_shape : BinaryOperator → Operands → Shape
+result_shape op Scalars = shape_of (element_made op) false
+result_shape op ds = shape_of (element_made op) true
+
+-- a product with a public operand classifies nothing
+abbrev pub is_product : BinaryOperator → Bool
+is_product (Words word.Multiply) = true
+is_product (Bools truth.And) = true
+is_product op = false
+
+-- the operator that a connective is where both operands are evaluated
+abbrev pub connective : Connective → BoolOperator
+connective AndAlso = truth.And
+connective OrElse = truth.Or
+
+-- `&&` and `||` may cut short between scalars alone
+abbrev pub may_cut_short : Operator → Operands → Option Connective
+may_cut_short sign.AndAlso Scalars = Some AndAlso
+may_cut_short sign.OrElse Scalars = Some OrElse
+may_cut_short op ds = None
+
+abbrev pub cast_between : DataType → DataType → Cast
+cast_between Uint64 Uint64 = WordToWord
+cast_between Uint64 datatype.Bool = WordToBool
+cast_between datatype.Bool Uint64 = BoolToWord
+cast_between datatype.Bool datatype.Bool = BoolToBool
+
+abbrev pub cast_shape : Cast → (array : Bool) → Shape
+cast_shape WordToWord array = shape_of Uint64 array
+cast_shape WordToBool array = shape_of datatype.Bool array
+cast_shape BoolToWord array = shape_of Uint64 array
+cast_shape BoolToBool array = shape_of datatype.Bool array

@@ -1,0 +1,182 @@
+// Operators, casts, and what they give.
+ghost use Rattle.std.specs.Prelude.{◌≡◌};
+ghost use Rattle.program_trees.specs.Operators.{word_result, element_made, result_shape, is_product, connective, operands_of, cast_between, cast_shape};
+
+use crate::expression::DataType;
+use crate::kinds::Shape;
+
+/// An operator on uint64 words.
+#[derive(Clone, Copy)]
+pub enum WordOperator {
+    Add,
+    Subtract,
+    Multiply,
+    Divide,
+    Remainder,
+    Equal,
+    NotEqual,
+    Less,
+    LessOrEqual,
+    Greater,
+    GreaterOrEqual,
+    And,
+    Or,
+    Xor,
+}
+
+/// An operator on truth values. It evaluates both operands.
+#[derive(Clone, Copy)]
+pub enum BoolOperator {
+    Equal,
+    NotEqual,
+    And,
+    Or,
+    Xor,
+}
+
+/// An operator between two operands of one data type.
+#[derive(Clone, Copy)]
+pub enum BinaryOperator {
+    Words(WordOperator),
+    Bools(BoolOperator),
+}
+
+impl WordOperator {
+    // The data type of what it gives.
+    fn result(self) -> DataType
+        ensures { result ≡ word_result self }
+    {
+        match self {
+            WordOperator::Equal
+            | WordOperator::NotEqual
+            | WordOperator::Less
+            | WordOperator::LessOrEqual
+            | WordOperator::Greater
+            | WordOperator::GreaterOrEqual => DataType::Bool,
+            WordOperator::Add
+            | WordOperator::Subtract
+            | WordOperator::Multiply
+            | WordOperator::Divide
+            | WordOperator::Remainder
+            | WordOperator::And
+            | WordOperator::Or
+            | WordOperator::Xor => DataType::Uint64,
+        }
+    }
+}
+
+impl BinaryOperator {
+    /// The data type of what it gives.
+    pub fn result(self) -> DataType
+        ensures { result ≡ element_made self }
+    {
+        match self {
+            BinaryOperator::Words(operator) => operator.result(),
+            BinaryOperator::Bools(_) => DataType::Bool,
+        }
+    }
+
+    /// The shape of what it gives.
+    pub fn result_shape(self, operands: Operands) -> Shape
+        ensures { result ≡ result_shape self operands }
+    {
+        Shape {
+            element: self.result(),
+            array: !matches!(operands, Operands::Scalars),
+        }
+    }
+
+    /// Whether it is a product: one with a public operand classifies nothing.
+    pub fn is_product(self) -> bool
+        ensures { result ≡ is_product self }
+    {
+        matches!(
+            self,
+            BinaryOperator::Words(WordOperator::Multiply) | BinaryOperator::Bools(BoolOperator::And)
+        )
+    }
+}
+
+/// `&&` or `||` between two scalars: where the left one is public it may decide alone.
+#[derive(Clone, Copy)]
+pub enum Connective {
+    AndAlso,
+    OrElse,
+}
+
+impl Connective {
+    /// The operator that it is where both operands are evaluated.
+    pub fn operator(self) -> BoolOperator
+        ensures { result ≡ connective self }
+    {
+        match self {
+            Connective::AndAlso => BoolOperator::And,
+            Connective::OrElse => BoolOperator::Or,
+        }
+    }
+}
+
+/// Which of two operands are arrays.
+#[derive(Clone, Copy)]
+pub enum Operands {
+    Scalars,
+    ArrayAndScalar,
+    ScalarAndArray,
+    Arrays,
+}
+
+impl Operands {
+    /// Which of a left and a right operand are arrays.
+    pub fn of(left: bool, right: bool) -> Operands
+        ensures { result ≡ operands_of left right }
+    {
+        match (left, right) {
+            (false, false) => Operands::Scalars,
+            (true, false) => Operands::ArrayAndScalar,
+            (false, true) => Operands::ScalarAndArray,
+            (true, true) => Operands::Arrays,
+        }
+    }
+}
+
+/// An operation between two operands: its operator, with the line of its construct, and which operands are arrays.
+#[derive(Clone, Copy)]
+pub struct Operation {
+    pub line: u32,
+    pub operator: BinaryOperator,
+    pub operands: Operands,
+}
+
+/// A cast, by what it casts and to what.
+#[derive(Clone, Copy)]
+pub enum Cast {
+    WordToWord,
+    WordToBool,
+    BoolToWord,
+    BoolToBool,
+}
+
+impl Cast {
+    /// The cast from one data type to another.
+    pub fn between(given: DataType, wanted: DataType) -> Cast
+        ensures { result ≡ cast_between given wanted }
+    {
+        match (given, wanted) {
+            (DataType::Uint64, DataType::Uint64) => Cast::WordToWord,
+            (DataType::Uint64, DataType::Bool) => Cast::WordToBool,
+            (DataType::Bool, DataType::Uint64) => Cast::BoolToWord,
+            (DataType::Bool, DataType::Bool) => Cast::BoolToBool,
+        }
+    }
+
+    /// The shape of what it gives.
+    pub fn shape(self, array: bool) -> Shape
+        ensures { result ≡ cast_shape self array }
+    {
+        let element = match self {
+            Cast::WordToWord | Cast::BoolToWord => DataType::Uint64,
+            Cast::WordToBool | Cast::BoolToBool => DataType::Bool,
+        };
+        Shape { element, array }
+    }
+}

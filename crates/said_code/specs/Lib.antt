@@ -1,4 +1,0 @@
-pub mod Says
-pub mod Laws
-pub use Rattle.well_typed.specs.Programs
-pub use Rattle.well_typed.specs.Sources

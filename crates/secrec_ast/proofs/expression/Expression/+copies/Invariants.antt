@@ -1,7 +1,0 @@
-use Rattle.std.proofs.Common.{◌≡◌, take}
-use Rattle.std.specs.Prelude.{map}
-use Rattle.secrec_ast.specs.Tree.{expression}
-use Rattle.secrec_ast.proofs.expression.Expression.+copies.Given as goal
-
-abbrev pub invariant-copy-loop-argument : goal.invariant-copy-loop-argument
-invariant-copy-loop-argument l = map expression l.copies.items ≡ map expression (take l.argument-index l.argument-items)

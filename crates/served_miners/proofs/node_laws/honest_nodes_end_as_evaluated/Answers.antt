@@ -1,5 +1,0 @@
-use Rattle.served_miners.proofs.Honest.{ends_with_the_run}
-use Rattle.served_miners.proofs.node_laws.honest_nodes_end_as_evaluated.Goals as goal
-
-pub returns : goal.returns
-returns c = ends_with_the_run

@@ -1,0 +1,7 @@
+use Rattle.std.proofs.Common.{length}
+use Rattle.proto_core.proofs.Parts.{length-part}
+use Rattle.tape_twin.proofs.conversion.row_for_two.Goals as goal
+
+pub returns-clause-row : goal.returns-clause-row
+returns-clause-row c =
+    cc (length-part (length c.args.third.now) 0 c.args.words.now, length-part (length c.args.third.now) 1 c.args.words.now)

@@ -1,5 +1,0 @@
-use Rattle.writable_code.proofs.Programs.{accepted_writable}
-use Rattle.writable_code.proofs.laws.accepted_code_is_writable.Goals as goal
-
-pub returns : goal.returns
-returns c = accepted_writable
