@@ -11,7 +11,10 @@ use std::alloc::Global;
 use std::collections::BTreeMap;
 use std::fs::{self, OpenFile, OpenOptions};
 use std::io::{self, Write};
-use std::os::unix::fs::FileExt;
+use std::os::unix::fs::{FileExt, OpenOptionsExt};
+
+// The mode of a file that is made: its owner alone may read and write it. One that is there already keeps its own.
+const OWNER_ALONE: u32 = 0o600;
 
 /// The most bytes that a file may have to be read.
 const MAX_FILE: u64 = 4_294_967_296;
@@ -23,7 +26,8 @@ struct Opened<F: Drop> {
     file: F,
 }
 
-/// Files of the operating system. Nothing is told of them but the sizes that were answered; each error is counted.
+/// Files of the operating system. Nothing is told of them but the sizes that were answered; each error is counted. A file that is made is its
+/// owner's alone (mode 0600); one that is there keeps its mode.
 #[derive(Drop)]
 pub struct RealFiles<'a, R: std::rt::Files> {
     rt: &'a R,
@@ -48,6 +52,18 @@ fn open_file<R: std::rt::Files>(rt: &R, alloc: Global, path: &str) -> io::Result
     let file = fs::open(rt, path)?;
     let path = String::from_str(alloc, path)?;
     Ok(Opened { path, file })
+}
+
+// Makes a file, or empties the one that is there, and writes these bytes to it.
+fn write_to<R: std::rt::Files>(rt: &R, path: &str, bytes: &[u8]) -> io::Result<()> {
+    let mut options = OpenOptions::new();
+    options
+        .write(true)
+        .create(true)
+        .truncate(true)
+        .mode(OWNER_ALONE);
+    let mut file = options.open(rt, path)?;
+    file.write_all(bytes)
 }
 
 // Puts bytes after those of a file, which is there.
@@ -178,7 +194,7 @@ where
     }
 
     fn write(&mut self, _alloc: Global, path: &str, bytes: &[u8]) -> Result<(), FileErr> {
-        match fs::write(self.rt, path, bytes) {
+        match write_to(self.rt, path, bytes) {
             Ok(()) => Ok(()),
             Err(error) => {
                 self.faults = self.faults.saturating_add(1);
