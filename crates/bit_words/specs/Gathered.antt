@@ -1,6 +1,7 @@
 -- Truth values packed into words, and what is done with them there.
-use Rattle.std.specs.Prelude.{ℕ, ◌+◌, ◌-◌, ◌*◌, ◌==◌, nat_lt, if◌then◌else◌, List, [], ◌∷◌, length, map, get_or}
+use Rattle.std.specs.Prelude.{ℕ, ◌+◌, ◌-◌, ◌*◌, ◌%◌, ◌^◌, bit_xor, ◌==◌, nat_lt, if◌then◌else◌, List, [], ◌∷◌, length, map, get_or}
 use Rattle.std.specs.List.{range_with_len}
+use Rattle.std.specs.Int.{bit_at}
 use Rattle.bit_words.specs.Bits.{bit_of, words_with}
 
 -- the word at an index
@@ -26,6 +27,10 @@ bit_taken words i = bit_of words i ∷ []
 -- the bits of words, but for another one at a place
 abbrev pub changed_at : List ℕ → (place bit k : ℕ) → ℕ
 changed_at words i bit k = if k == i then bit else bit_of words k
+
+-- a word with the bit at a place given anew, by another's parity
+abbrev pub with_bit : (word place bit : ℕ) → ℕ
+with_bit x p b = bit_xor x ((bit_at x p + b) % 2 * 2 ^ p)
 
 -- one bit given anew by bit 0 of others; all other bits stay, those beyond the elements too
 unfoldable pub bit_put : List ℕ → ℕ → List ℕ → List ℕ

@@ -1,5 +1,5 @@
 // Truth values packed into words.
-ghost use Rattle.std.specs.Prelude.{◌≡◌, ◌≤◌, ◌+◌, ◌*◌, length, IfOk};
+ghost use Rattle.std.specs.Prelude.{◌≡◌, ◌≤◌, ◌<◌, ◌+◌, length, IfOk};
 ghost use Rattle.bit_words.specs.Bits as B;
 ghost use Rattle.bit_words.specs.Gathered as G;
 
@@ -131,40 +131,30 @@ pub fn bits_joined(
     words_with(alloc, n + m, &joined)
 }
 
-#[derive(Drop)]
-struct Changed<'a> {
-    words: &'a [u64],
-    place: usize,
-    bit: u64,
-}
-
-impl Bits for Changed<'_> {
-    ghost bits = { λ s. G.changed_at s.words.now s.place s.bit };
-
-    fn bit(&self, k: usize) -> u64 {
-        if k == self.place {
-            self.bit % 2
-        } else {
-            bit_of(self.words, k)
-        }
-    }
+/// A word with the bit at a place given anew.
+pub fn with_bit(word: u64, place: u64, bit: u64) -> u64
+    requires place { place < 64 }
+    requires bit { bit < 2 }
+    ensures { result ≡ G.with_bit word place bit }
+{
+    let turned = ((word >> place) % 2 + bit) % 2;
+    word ^ (turned << place)
 }
 
 /// One bit given anew by bit 0 of others; all other bits stay.
-#[tactic(auto, unfolding(crate::specs::Gathered::bit_put))]
+#[tactic(auto, using(crate::proofs::Putting::one_word_put))]
 pub fn bit_put(
     alloc: Global,
     words: &[u64],
     i: usize,
     others: &[u64],
 ) -> Result<Vec<u64>, AllocError>
-    requires { 64 * length words.now ≤ 4611686018427387904 }
     ensures { IfOk result (λ bits. bits.items ≡ G.bit_put words.now i others.now) }
 {
-    let changed = Changed {
-        words,
-        place: i,
-        bit: bit_of(others, 0),
-    };
-    words_with(alloc, 64 * words.len(), &changed)
+    let mut made = Vec::from_slice(alloc, words)?;
+    let place = i / 64;
+    if place < made.len() {
+        made[place] = with_bit(made[place], (i % 64) as u64, bit_of(others, 0));
+    }
+    Ok(made)
 }

@@ -1,10 +1,11 @@
 // Which gates suit the sizes of the values before them.
 ghost use Rattle.std.specs.Prelude.{◌≡◌, ◌<◌, ◌↔◌, length, IsTrue};
 ghost use Rattle.protocol_model.specs.Gates.{sizes_of};
+ghost use Rattle.gates.specs.Bits.{words_for};
 ghost use Rattle.gates.specs.Counts.{size_of};
 ghost use Rattle.shared_gates.specs.Model.{PairOf, SizesSuit};
 
-use gates::{Gate, Values};
+use gates::{Gate, Values, words_for};
 
 /// Whether there is a value of this number.
 #[tactic(auto, using(crate::proofs::Sizes::size_steps))]
@@ -34,6 +35,13 @@ fn is_single(values: &Values, number: u64) -> bool
     ensures { IsTrue result ↔ ((number < length (sizes_of values.now)) × (size_of (sizes_of values.now) number ≡ 1)) }
 {
     is_there(values, number) && size(values, number) == 1
+}
+
+/// Whether the value is there and has as many words as hold so many bits.
+fn holds_bits(values: &Values, number: u64, count: u64) -> bool
+    ensures { IsTrue result ↔ ((number < length (sizes_of values.now)) × (size_of (sizes_of values.now) number ≡ words_for count)) }
+{
+    is_there(values, number) && size(values, number) as u64 == words_for(count)
 }
 
 /// Whether the gate's operands are there and have the sizes that it takes, by what was dealt and the values before it.
@@ -69,13 +77,43 @@ pub fn suits(gate: &Gate, dealt: &Values, values: &Values) -> bool
                 && *index < size(values, *operand) as u64
                 && is_single(values, *element)
         }
-        Gate::Rep { operand, .. } => is_single(values, *operand),
+        Gate::Rep { operand, .. } | Gate::RepBit { operand, .. } => is_single(values, *operand),
+        Gate::Unpack { operand, count } => holds_bits(values, *operand, *count),
+        Gate::PartBit { operand, index } => {
+            is_there(values, *operand) && *index / 64 < size(values, *operand) as u64
+        }
+        Gate::PutBit {
+            operand,
+            index,
+            element,
+        } => {
+            is_there(values, *operand)
+                && *index / 64 < size(values, *operand) as u64
+                && is_single(values, *element)
+        }
+        Gate::CatBit {
+            left,
+            left_count,
+            right,
+            right_count,
+        } => holds_bits(values, *left, *left_count) && holds_bits(values, *right, *right_count),
+        Gate::SumEach {
+            operand,
+            size: parts,
+            count,
+        } => {
+            let len = size(values, *operand) as u128;
+            is_there(values, *operand) && len == u128::from(*parts) * u128::from(*count)
+        }
         Gate::Not { operand }
         | Gate::Shl { operand, .. }
         | Gate::Shr { operand, .. }
         | Gate::Low { operand }
         | Gate::Spread { operand }
+        | Gate::Pack { operand }
         | Gate::Sum { operand }
+        | Gate::Stretch { operand, .. }
+        | Gate::Tile { operand, .. }
         | Gate::Split { operand, .. }
         | Gate::Conv { operand }
         | Gate::Open { operand, .. }

@@ -1,5 +1,5 @@
 -- A gate depends on the values that it takes alone: whether it can run, the words that it draws, and what it makes.
-use Rattle.std.proofs.Common.{◌≡◌, ℕ, ◌+◌, Bool, ◌==◌, ◌&&◌, nat_lt, nat_le, if◌then◌else◌, List, [], ◌∷◌, ◌++◌, length, take, drop, refl, ◌∙◌, ap}
+use Rattle.std.proofs.Common.{◌≡◌, ℕ, ◌+◌, ◌/◌, Bool, ◌==◌, ◌&&◌, nat_lt, nat_le, if◌then◌else◌, List, [], ◌∷◌, ◌++◌, length, take, drop, refl, ◌∙◌, ap, ◌*◌}
 use Rattle.std.specs.Prelude.{Option, Some, None}
 use Rattle.proto_core.specs.Rings.{add_ring, xor_ring}
 use Rattle.proto_core.specs.declared.party.Number.{Number}
@@ -15,7 +15,9 @@ use Rattle.split_share.specs.Splitting.{split_protocol}
 use Rattle.gate_exchanges.specs.Blocked.{blocked}
 use Rattle.gates.specs.declared.gate.Gate.{Gate}
 use Rattle.gates.specs.declared.gate.Gate.TheVariants.{Input, Const, Add, Sub, MulPub, Mul, Xor, And, Not, Shl, Shr, Low, Cat, Part, Put, Rep, Spread}
-use Rattle.gates.specs.declared.gate.Gate.TheVariants.{Sum, Split, Conv, Open, Result}
+use Rattle.gates.specs.declared.gate.Gate.TheVariants.{Pack, Unpack, RepBit, PartBit, PutBit, CatBit}
+use Rattle.gates.specs.declared.gate.Gate.TheVariants.{Sum, Stretch, Tile, SumEach, Split, Conv, Open, Result}
+use Rattle.gates.specs.Bits.{words_for}
 use Rattle.gates.specs.Clear.{Values, value, ring_of}
 use Rattle.gates.specs.Counts.{size_of}
 use Rattle.gates.specs.Taken.{Numbers, Takes, HaveSame}
@@ -69,7 +71,16 @@ module _ (i : Number) (dealt values held : Values) (as_many : length held ≡ le
   same_suits (Put u index v) h = λ d. there u d && (there v d && (nat_lt index (size u h.0 d) && (size v h.1.0 d == 1)))
   same_suits (Rep u count) h = λ d. there u d && (size u h.0 d == 1)
   same_suits (Spread u) h = there u
+  same_suits (Pack u) h = there u
+  same_suits (Unpack u count) h = λ d. there u d && (size u h.0 d == words_for count)
+  same_suits (RepBit u count) h = λ d. there u d && (size u h.0 d == 1)
+  same_suits (PartBit u index) h = λ d. there u d && nat_lt (index / 64) (size u h.0 d)
+  same_suits (PutBit u index v) h = λ d. there u d && (there v d && (nat_lt (index / 64) (size u h.0 d) && (size v h.1.0 d == 1)))
+  same_suits (CatBit u n v m) h = λ d. there u d && (there v d && ((size u h.0 d == words_for n) && (size v h.1.0 d == words_for m)))
   same_suits (Sum u) h = there u
+  same_suits (Stretch u count) h = there u
+  same_suits (Tile u count) h = there u
+  same_suits (SumEach u parts count) h = λ d. there u d && (size u h.0 d == parts * count)
   same_suits (Split u negated) h = there u
   same_suits (Conv u) h = there u
   same_suits (Open ring u) h = there u
@@ -135,7 +146,16 @@ module _ (i : Number) (dealt values held : Values) (as_many : length held ≡ le
     same_made (Put u index v) h = two (Put 0 index 1) u v h.0 h.1.0
     same_made (Rep u count) h = one (Rep 0 count) u h.0
     same_made (Spread u) h = one (Spread 0) u h.0
+    same_made (Pack u) h = one (Pack 0) u h.0
+    same_made (Unpack u count) h = one (Unpack 0 count) u h.0
+    same_made (RepBit u count) h = one (RepBit 0 count) u h.0
+    same_made (PartBit u index) h = one (PartBit 0 index) u h.0
+    same_made (PutBit u index v) h = two (PutBit 0 index 1) u v h.0 h.1.0
+    same_made (CatBit u n v m) h = two (CatBit 0 n 1 m) u v h.0 h.1.0
     same_made (Sum u) h = one (Sum 0) u h.0
+    same_made (Stretch u count) h = one (Stretch 0 count) u h.0
+    same_made (Tile u count) h = one (Tile 0 count) u h.0
+    same_made (SumEach u parts count) h = one (SumEach 0 parts count) u h.0
     same_made (Split u negated) h = joined (split_protocol negated) u None h.0 refl
     same_made (Conv u) h = joined conv_protocol u None h.0 refl
     same_made (Open ring u) h = joined (open_protocol (ring_of ring)) u None h.0 refl

@@ -1,8 +1,10 @@
 -- Whether a gate suits the sizes of the values before it, as a test.
-use Rattle.std.specs.Prelude.{ℕ, ◌+◌, Bool, true, ◌==◌, ◌&&◌, nat_lt, nat_le, List, length}
+use Rattle.std.specs.Prelude.{ℕ, ◌+◌, ◌/◌, Bool, true, ◌==◌, ◌&&◌, nat_lt, nat_le, List, length, ◌*◌}
 use Rattle.gates.specs.declared.gate.Gate.{Gate}
 use Rattle.gates.specs.declared.gate.Gate.TheVariants.{Input, Const, Add, Sub, MulPub, Mul, Xor, And, Not, Shl, Shr, Low, Cat, Part, Put, Rep, Spread}
-use Rattle.gates.specs.declared.gate.Gate.TheVariants.{Sum, Split, Conv, Open, Result}
+use Rattle.gates.specs.declared.gate.Gate.TheVariants.{Pack, Unpack, RepBit, PartBit, PutBit, CatBit}
+use Rattle.gates.specs.declared.gate.Gate.TheVariants.{Sum, Stretch, Tile, SumEach, Split, Conv, Open, Result}
+use Rattle.gates.specs.Bits.{words_for}
 use Rattle.gates.specs.Counts.{size_of}
 
 -- there is a value of this number
@@ -32,7 +34,18 @@ suits dealt sizes (Part u from count) = is_there sizes u && nat_le (from + count
 suits dealt sizes (Put u index v) = is_there sizes u && (is_there sizes v && (nat_lt index (size_of sizes u) && (size_of sizes v == 1)))
 suits dealt sizes (Rep u count) = is_there sizes u && (size_of sizes u == 1)
 suits dealt sizes (Spread u) = is_there sizes u
+suits dealt sizes (Pack u) = is_there sizes u
+suits dealt sizes (Unpack u count) = is_there sizes u && (size_of sizes u == words_for count)
+suits dealt sizes (RepBit u count) = is_there sizes u && (size_of sizes u == 1)
+suits dealt sizes (PartBit u index) = is_there sizes u && nat_lt (index / 64) (size_of sizes u)
+suits dealt sizes (PutBit u index v) =
+    is_there sizes u && (is_there sizes v && (nat_lt (index / 64) (size_of sizes u) && (size_of sizes v == 1)))
+suits dealt sizes (CatBit u n v m) =
+    is_there sizes u && (is_there sizes v && ((size_of sizes u == words_for n) && (size_of sizes v == words_for m)))
 suits dealt sizes (Sum u) = is_there sizes u
+suits dealt sizes (Stretch u count) = is_there sizes u
+suits dealt sizes (Tile u count) = is_there sizes u
+suits dealt sizes (SumEach u size count) = is_there sizes u && (size_of sizes u == size * count)
 suits dealt sizes (Split u negated) = is_there sizes u
 suits dealt sizes (Conv u) = is_there sizes u
 suits dealt sizes (Open ring u) = is_there sizes u

@@ -1,5 +1,5 @@
 -- Values after those that fit change nothing, and evaluation gives values that fit.
-use Rattle.std.proofs.Common.{◌≡◌, ℕ, zero, suc, ◌+◌, ◌-◌, ◌%◌, ◌^◌, ◌<◌, ◌≤◌, Bool, true, false, Some, List, [], ◌∷◌, ◌++◌, length, refl, sym, ◌∙◌}
+use Rattle.std.proofs.Common.{◌≡◌, ℕ, zero, suc, ◌+◌, ◌-◌, ◌/◌, ◌%◌, ◌^◌, ◌<◌, ◌≤◌, Bool, true, false, Some, List, [], ◌∷◌, ◌++◌, length, refl, sym, ◌∙◌}
 use Rattle.std.proofs.Common.{ap, subst, inl, inr, arith, append_assoc, length-append}
 use Rattle.std.specs.Prelude.{slice_get}
 use Rattle.std.proofs.lemmas.List.{get_or_append_left, get_or_past, length-replicate, get_or-replicate, append-nil}
@@ -8,7 +8,8 @@ use Rattle.std.proofs.lemmas.Nat.{mod_below, pow_pos}
 use Rattle.proto_core.specs.Rings.{add_ring}
 use Rattle.gates.specs.declared.gate.Gate.{Gate}
 use Rattle.gates.specs.declared.gate.Gate.TheVariants.{Input, Const, Add, Sub, MulPub, Mul, Xor, And, Not, Shl, Shr, Low, Cat, Part, Put, Rep, Spread}
-use Rattle.gates.specs.declared.gate.Gate.TheVariants.{Sum, Split, Conv, Open, Result}
+use Rattle.gates.specs.declared.gate.Gate.TheVariants.{Pack, Unpack, RepBit, PartBit, PutBit, CatBit}
+use Rattle.gates.specs.declared.gate.Gate.TheVariants.{Sum, Stretch, Tile, SumEach, Split, Conv, Open, Result}
 use Rattle.gates.specs.Counts.{made_by, made_by_all}
 use Rattle.proto_core.specs.Words.{AreWords}
 use Rattle.gates.specs.Clear.{Values, value, clear_value, each_two, IsSplit, AreOperands, Suits, Makes, FitFrom, Fit}
@@ -75,7 +76,18 @@ module _ (values more : Values) where
   Suits-grown inputs next (Shr u count) le s = s
   Suits-grown inputs next (Low u) le s = s
   Suits-grown inputs next (Spread u) le s = s
+  Suits-grown inputs next (Pack u) le s = s
+  Suits-grown inputs next (Unpack u count) le s = (s.0, one-grown length next u le s.0 ∙ s.1)
+  Suits-grown inputs next (RepBit u count) le s = (s.0, one-grown length next u le s.0 ∙ s.1)
+  Suits-grown inputs next (PartBit u index) le s = (s.0, subst (λ n. index / 64 < n) (sym (one-grown length next u le s.0)) s.1)
+  Suits-grown inputs next (PutBit u index v) le s =
+      (s.0, s.1, subst (λ n. index / 64 < n) (sym (one-grown length next u le s.0)) s.2, one-grown length next v le s.1 ∙ s.3)
+  Suits-grown inputs next (CatBit u n v m) le s =
+      (s.0, s.1, one-grown length next u le s.0 ∙ s.2, one-grown length next v le s.1 ∙ s.3)
   Suits-grown inputs next (Sum u) le s = s
+  Suits-grown inputs next (Stretch u count) le s = s
+  Suits-grown inputs next (Tile u count) le s = s
+  Suits-grown inputs next (SumEach u size count) le s = (s.0, one-grown length next u le s.0 ∙ s.1)
   Suits-grown inputs next (Split u negated) le s = s
   Suits-grown inputs next (Conv u) le s = s
   Suits-grown inputs next (Open ring u) le s = s
@@ -103,7 +115,20 @@ module _ (values more : Values) where
   clear_value-grown inputs next (Shr u count) le s = one-grown (λ xs. clear_value inputs (xs ∷ []) (Shr 0 count)) next u le s
   clear_value-grown inputs next (Low u) le s = one-grown (λ xs. clear_value inputs (xs ∷ []) (Low 0)) next u le s
   clear_value-grown inputs next (Spread u) le s = one-grown (λ xs. clear_value inputs (xs ∷ []) (Spread 0)) next u le s
+  clear_value-grown inputs next (Pack u) le s = one-grown (λ xs. clear_value inputs (xs ∷ []) (Pack 0)) next u le s
+  clear_value-grown inputs next (Unpack u count) le s = one-grown (λ xs. clear_value inputs (xs ∷ []) (Unpack 0 count)) next u le s.0
+  clear_value-grown inputs next (RepBit u count) le s = one-grown (λ xs. clear_value inputs (xs ∷ []) (RepBit 0 count)) next u le s.0
+  clear_value-grown inputs next (PartBit u index) le s = one-grown (λ xs. clear_value inputs (xs ∷ []) (PartBit 0 index)) next u le s.0
+  clear_value-grown inputs next (PutBit u index v) le s =
+      ap (λ xs. clear_value inputs (xs ∷ value (values ++ more) v ∷ []) (PutBit 0 index 1)) (still u (omega (arith, s.0)))
+      ∙ ap (λ ys. clear_value inputs (value values u ∷ ys ∷ []) (PutBit 0 index 1)) (still v (omega (arith, s.1)))
+  clear_value-grown inputs next (CatBit u n v m) le s =
+      ap (λ xs. clear_value inputs (xs ∷ value (values ++ more) v ∷ []) (CatBit 0 n 1 m)) (still u (omega (arith, s.0)))
+      ∙ ap (λ ys. clear_value inputs (value values u ∷ ys ∷ []) (CatBit 0 n 1 m)) (still v (omega (arith, s.1)))
   clear_value-grown inputs next (Sum u) le s = one-grown (λ xs. clear_value inputs (xs ∷ []) (Sum 0)) next u le s
+  clear_value-grown inputs next (Stretch u count) le s = one-grown (λ xs. clear_value inputs (xs ∷ []) (Stretch 0 count)) next u le s
+  clear_value-grown inputs next (Tile u count) le s = one-grown (λ xs. clear_value inputs (xs ∷ []) (Tile 0 count)) next u le s
+  clear_value-grown inputs next (SumEach u size count) le s = one-grown (λ xs. clear_value inputs (xs ∷ []) (SumEach 0 size count)) next u le s.0
   clear_value-grown inputs next (Split u negated) le s = refl
   clear_value-grown inputs next (Conv u) le s = one-grown (λ xs. clear_value inputs (xs ∷ []) (Conv 0)) next u le s
   clear_value-grown inputs next (Open ring u) le s = still u (omega arith)

@@ -8,3 +8,6 @@ pub mod Growing
 pub mod WordSteps
 pub mod Held
 pub mod Taken
+pub use Rattle.bit_words.proofs.Packing
+pub use Rattle.bit_words.proofs.Sharing
+pub use Rattle.bit_words.proofs.Lengths

@@ -1,11 +1,12 @@
 -- Steps of the loops that evaluate gates.
-use Rattle.std.proofs.Common.{◌≡◌, ℕ, zero, suc, ◌+◌, ◌-◌, ◌*◌, ◌/◌, ◌%◌, ◌^◌, ◌<◌, ◌≤◌, List, [], ◌∷◌, ◌++◌, length, map, take, drop, set, get_or}
+use Rattle.std.proofs.Common.{◌≡◌, ℕ, zero, suc, ◌+◌, ◌-◌, ◌*◌, ◌/◌, ◌%◌, ◌^◌, ◌<◌, ◌≤◌, List, [], ◌∷◌, ◌++◌, length, map, take, drop, set, get_or, replicate}
+use Rattle.std.proofs.Common.{sum}
 use Rattle.std.proofs.Common.{refl, sym, ◌∙◌, ap, ap₂, arith, append_assoc, length-drop}
 use Rattle.std.specs.Prelude.{min}
 use Rattle.std.specs.List.{zip, flat_map, range_with_len}
 use Rattle.std.specs.Int.{bit_at}
 use Rattle.std.proofs.Math.Nat.{add-mul-mod_self_right}
-use Rattle.std.proofs.lemmas.List.{get_or-take, length-take-le, take_more, take_min, drop_min, set_past, length-map, append-nil}
+use Rattle.std.proofs.lemmas.List.{get_or-take, length-take-le, take_more, take_min, drop_min, set_past, length-map, append-nil, map-id}
 use Rattle.std.proofs.lemmas.List.FromFn.{map-range_with_len_more}
 use Rattle.std.proofs.lemmas.Slice.Zip.{length-zip}
 use Rattle.std.proofs.lemmas.Nat.{pow-add, pow_pos, shr_below}
@@ -61,6 +62,12 @@ pub ruleset part_steps = (take_min, drop_min)
 pub set_past_end : (xs : List ℕ) (i y : ℕ) → length xs ≤ i → xs ≡ set xs i y
 set_past_end xs i y le = sym (set_past xs i y le)
 
+-- ---- lists, part after part
+
+flat_push : {X : Type 0} (f : X → List ℕ) (ys : List X) (y : X) → flat_map f (ys ++ y ∷ []) ≡ flat_map f ys ++ f y
+flat_push f [] y = append-nil (f y)
+flat_push f (x ∷ ys) y = ap (λ l. f x ++ l) (flat_push f ys y) ∙ sym (append_assoc (f x) (flat_map f ys) (f y))
+
 -- ---- bits
 
 pub bits_more : (x n : ℕ) → map (bit_at x) (range_with_len 0 (n + 1)) ≡ map (bit_at x) (range_with_len 0 n) ++ bit_at x n ∷ []
@@ -73,8 +80,41 @@ bits_whole x n le ge = let whole : n ≡ 64 = omega arith in ap (λ k. map (bit_
 pub ruleset bit_steps = (bits_more, bits_whole, append_assoc)
 
 pub spread_more : (xs : List ℕ) (i : ℕ) → i < length xs → flat_map bits_of (take (i + 1) xs) ≡ flat_map bits_of (take i xs) ++ bits_of (get_or xs i 0)
-spread_more xs i lt = ap (flat_map bits_of) (take_more xs i 0 lt) ∙ spread_push (take i xs) (get_or xs i 0)
-  where
-    spread_push : (ys : List ℕ) (y : ℕ) → flat_map bits_of (ys ++ y ∷ []) ≡ flat_map bits_of ys ++ bits_of y
-    spread_push [] y = append-nil (bits_of y)
-    spread_push (x ∷ ys) y = ap (λ l. bits_of x ++ l) (spread_push ys y) ∙ sym (append_assoc (bits_of x) (flat_map bits_of ys) (bits_of y))
+spread_more xs i lt = ap (flat_map bits_of) (take_more xs i 0 lt) ∙ flat_push bits_of (take i xs) (get_or xs i 0)
+
+-- ---- words several times, and the sums of parts
+
+pub stretch_more : (count : ℕ) (xs : List ℕ) (i : ℕ) → i < length xs
+    → flat_map (λ x. replicate count x) (take (i + 1) xs) ≡ flat_map (λ x. replicate count x) (take i xs) ++ replicate count (get_or xs i 0)
+stretch_more count xs i lt =
+    ap (flat_map (λ x. replicate count x)) (take_more xs i 0 lt) ∙ flat_push (λ x. replicate count x) (take i xs) (get_or xs i 0)
+
+pub range_push : (n : ℕ) → range_with_len 0 (n + 1) ≡ range_with_len 0 n ++ n ∷ []
+range_push n =
+    sym (map-id (range_with_len 0 (n + 1)))
+    ∙ map-range_with_len_more (λ k. k) 0 n n (omega arith)
+    ∙ ap (λ l. l ++ n ∷ []) (map-id (range_with_len 0 n))
+
+pub tile_more : (xs : List ℕ) (n : ℕ) → flat_map (λ k. xs) (range_with_len 0 (n + 1)) ≡ flat_map (λ k. xs) (range_with_len 0 n) ++ xs
+tile_more xs n = ap (flat_map (λ k. xs)) (range_push n) ∙ flat_push (λ k. xs) (range_with_len 0 n) n
+
+abbrev pub total_at : (size : ℕ) → List ℕ → ℕ → ℕ
+total_at size xs k = sum (take size (drop (k * size) xs)) % 2 ^ 64
+
+pub totals_more : (size : ℕ) (xs : List ℕ) (n : ℕ)
+    → map (total_at size xs) (range_with_len 0 (n + 1)) ≡ map (total_at size xs) (range_with_len 0 n) ++ total_at size xs n ∷ []
+totals_more size xs n = map-range_with_len_more (total_at size xs) 0 n n (omega arith)
+
+-- where parts begin, and how long they are, in a list that may end before
+pub next_from : (size k len from n : ℕ) → from ≡ min (k * size) n → len ≡ min size (n - from) → from + len ≡ min ((k + 1) * size) n
+next_from size k len from n e1 e2 = let more : (k + 1) * size ≡ k * size + size = grind arith in omega arith
+
+pub total_of_part : (size k len from : ℕ) (xs : List ℕ) → from ≡ min (k * size) (length xs) → len ≡ min size (length xs - from)
+    → sum (take len (drop from xs)) % 2 ^ 64 ≡ total_at size xs k
+total_of_part size k len from xs e1 e2 =
+    let rest : length (drop (k * size) xs) ≡ length xs - k * size = length-drop (k * size) xs in
+    let long : len ≡ min size (length (drop (k * size) xs)) = omega arith in
+    ap (λ ys. sum (take len ys) % 2 ^ 64) (ap (λ n. drop n xs) e1 ∙ drop_min (k * size) xs)
+    ∙ ap (λ ys. sum ys % 2 ^ 64) (ap (λ n. take n (drop (k * size) xs)) long ∙ take_min size (drop (k * size) xs))
+
+pub ruleset total_steps = (totals_more, total_of_part, next_from)

@@ -12,7 +12,10 @@ use Rattle.gates.specs.declared.ring_kind.RingKind.{RingKind}
 use Rattle.gates.specs.declared.ring_kind.RingKind.TheVariants.{Arithmetic, Boolean}
 use Rattle.gates.specs.declared.gate.Gate.{Gate}
 use Rattle.gates.specs.declared.gate.Gate.TheVariants.{Input, Const, Add, Sub, MulPub, Mul, Xor, And, Not, Shl, Shr, Low, Cat, Part, Put, Rep, Spread}
-use Rattle.gates.specs.declared.gate.Gate.TheVariants.{Sum, Split, Conv, Open, Result}
+use Rattle.gates.specs.declared.gate.Gate.TheVariants.{Pack, Unpack, RepBit, PartBit, PutBit, CatBit}
+use Rattle.gates.specs.declared.gate.Gate.TheVariants.{Sum, Stretch, Tile, SumEach, Split, Conv, Open, Result}
+use Rattle.bit_words.specs.Bits.{words_for}
+use Rattle.bit_words.specs.Gathered.{packed, unpacked, bits_repeated, bit_taken, bit_put, bits_joined}
 use Rattle.gates.specs.Counts.{made_by, made_by_all}
 
 abbrev pub Values : Type 0
@@ -56,7 +59,16 @@ clear_value inputs values (Part u from count) = take count (drop from (value val
 clear_value inputs values (Put u index v) = set (value values u) index (first_word (value values v))
 clear_value inputs values (Rep u count) = replicate count (first_word (value values u))
 clear_value inputs values (Spread u) = flat_map bits_of (value values u)
+clear_value inputs values (Pack u) = packed (value values u)
+clear_value inputs values (Unpack u count) = unpacked (value values u) count
+clear_value inputs values (RepBit u count) = bits_repeated (value values u) count
+clear_value inputs values (PartBit u index) = bit_taken (value values u) index
+clear_value inputs values (PutBit u index v) = bit_put (value values u) index (value values v)
+clear_value inputs values (CatBit u n v m) = bits_joined (value values u) n (value values v) m
 clear_value inputs values (Sum u) = sum (value values u) % 2 ^ 64 ∷ []
+clear_value inputs values (Stretch u count) = flat_map (λ x. replicate count x) (value values u)
+clear_value inputs values (Tile u count) = flat_map (λ k. value values u) (range_with_len 0 count)
+clear_value inputs values (SumEach u size count) = map (λ k. sum (take size (drop (k * size) (value values u))) % 2 ^ 64) (range_with_len 0 count)
 clear_value inputs values (Split u negated) = []
 clear_value inputs values (Conv u) = map (λ x. x % 2) (value values u)
 clear_value inputs values (Open ring u) = value values u
@@ -101,7 +113,18 @@ Suits inputs values next (Shl u count) = IsOperand next u
 Suits inputs values next (Shr u count) = IsOperand next u
 Suits inputs values next (Low u) = IsOperand next u
 Suits inputs values next (Spread u) = IsOperand next u
+Suits inputs values next (Pack u) = IsOperand next u
+Suits inputs values next (Unpack u count) = IsOperand next u × (length (value values u) ≡ words_for count)
+Suits inputs values next (RepBit u count) = IsOperand next u × (length (value values u) ≡ 1)
+Suits inputs values next (PartBit u index) = IsOperand next u × (index / 64 < length (value values u))
+Suits inputs values next (PutBit u index v) =
+    IsOperand next u × IsOperand next v × (index / 64 < length (value values u)) × (length (value values v) ≡ 1)
+Suits inputs values next (CatBit u n v m) =
+    IsOperand next u × IsOperand next v × (length (value values u) ≡ words_for n) × (length (value values v) ≡ words_for m)
 Suits inputs values next (Sum u) = IsOperand next u
+Suits inputs values next (Stretch u count) = IsOperand next u
+Suits inputs values next (Tile u count) = IsOperand next u
+Suits inputs values next (SumEach u size count) = IsOperand next u × (length (value values u) ≡ size * count)
 Suits inputs values next (Split u negated) = IsOperand next u
 Suits inputs values next (Conv u) = IsOperand next u
 Suits inputs values next (Open ring u) = IsOperand next u

@@ -8,3 +8,6 @@ pub mod Taken
 pub mod inner
 pub mod Vectors
 pub use Rattle.proto_core.specs.Rings
+pub use Rattle.bit_words.specs.Bits
+pub use Rattle.bit_words.specs.Gathered
+pub use Rattle.bit_words.specs.Laws

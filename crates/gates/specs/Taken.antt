@@ -2,7 +2,8 @@
 use Rattle.std.specs.Prelude.{◌≡◌, ◌≤◌, ◌⊎◌, ◌||◌, ℕ, Bool, false, nat_eq, List, [], ◌∷◌, length}
 use Rattle.gates.specs.declared.gate.Gate.{Gate}
 use Rattle.gates.specs.declared.gate.Gate.TheVariants.{Input, Const, Add, Sub, MulPub, Mul, Xor, And, Not, Shl, Shr, Low, Cat, Part, Put, Rep, Spread}
-use Rattle.gates.specs.declared.gate.Gate.TheVariants.{Sum, Split, Conv, Open, Result}
+use Rattle.gates.specs.declared.gate.Gate.TheVariants.{Pack, Unpack, RepBit, PartBit, PutBit, CatBit}
+use Rattle.gates.specs.declared.gate.Gate.TheVariants.{Sum, Stretch, Tile, SumEach, Split, Conv, Open, Result}
 use Rattle.gates.specs.declared.operands.Operands.{Operands}
 use Rattle.gates.specs.declared.operands.Operands.TheVariants.{Zero, One, Two}
 use Rattle.gates.specs.Clear.{Values, value}
@@ -26,7 +27,16 @@ operands (Part u from count) = u ∷ []
 operands (Put u index v) = u ∷ v ∷ []
 operands (Rep u count) = u ∷ []
 operands (Spread u) = u ∷ []
+operands (Pack u) = u ∷ []
+operands (Unpack u count) = u ∷ []
+operands (RepBit u count) = u ∷ []
+operands (PartBit u index) = u ∷ []
+operands (PutBit u index v) = u ∷ v ∷ []
+operands (CatBit u n v m) = u ∷ v ∷ []
 operands (Sum u) = u ∷ []
+operands (Stretch u count) = u ∷ []
+operands (Tile u count) = u ∷ []
+operands (SumEach u size count) = u ∷ []
 operands (Split u negated) = u ∷ []
 operands (Conv u) = u ∷ []
 operands (Open ring u) = u ∷ []

@@ -1,7 +1,11 @@
 -- Worked values of single gates, on the values (1, 2^64 - 1) and (3, 5).
 use Rattle.std.specs.Prelude.{◌≡◌, [], ◌∷◌, refl, length, take, drop}
 use Rattle.gates.specs.declared.ring_kind.RingKind.TheVariants.{Arithmetic, Boolean}
-use Rattle.gates.specs.declared.gate.Gate.TheVariants.{Add, Sub, MulPub, Mul, Xor, And, Not, Shl, Shr, Low, Cat, Part, Put, Rep, Sum, Spread}
+use Rattle.gates.specs.declared.gate.Gate.TheVariants.{Add, Sub, MulPub, Mul, Xor, And, Not, Shl, Shr, Low, Cat, Part, Put, Rep, Sum, Spread, Stretch, Tile}
+use Rattle.gates.specs.declared.gate.Gate.TheVariants.{SumEach}
+use Rattle.gates.specs.declared.gate.Gate.TheVariants.{Pack, Unpack, RepBit, PartBit, PutBit, CatBit}
+use Rattle.bit_words.specs.Bits.{words_with, number_with}
+use Rattle.bit_words.specs.Gathered.{packed, unpacked, bits_repeated, bit_taken, bit_put, bits_joined}
 use Rattle.gates.specs.Clear.{Values, clear_value, bits_of}
 use Rattle.gates.specs.Blocks.{block_sizes}
 
@@ -72,6 +76,20 @@ added_up : clear_value [] two (Sum 0) ≡ 0 ∷ []
 unfolding two
 added_up = refl
 
+each_three_times : clear_value [] two (Stretch 1 3) ≡ 3 ∷ 3 ∷ 3 ∷ 5 ∷ 5 ∷ 5 ∷ []
+unfolding two
+each_three_times = refl
+
+all_three_times : clear_value [] two (Tile 1 3) ≡ 3 ∷ 5 ∷ 3 ∷ 5 ∷ 3 ∷ 5 ∷ []
+unfolding two
+all_three_times = refl
+
+part_by_part : clear_value [] ((1 ∷ 2 ∷ 3 ∷ 4 ∷ 5 ∷ 18446744073709551615 ∷ []) ∷ []) (SumEach 0 3 2) ≡ 6 ∷ 8 ∷ []
+part_by_part = refl
+
+no_words_in_a_part : clear_value [] ([] ∷ []) (SumEach 0 0 2) ≡ 0 ∷ 0 ∷ []
+no_words_in_a_part = refl
+
 spread_out : length (clear_value [] two (Spread 1)) ≡ 128
 unfolding two bits_of
 spread_out = refl
@@ -83,6 +101,32 @@ bits_of_the_first = refl
 bits_of_the_next : take 3 (drop 64 (clear_value [] two (Spread 1))) ≡ 1 ∷ 0 ∷ 1 ∷ []
 unfolding two bits_of
 bits_of_the_next = refl
+
+-- both words of the second value are odd
+packed_bits : clear_value [] two (Pack 1) ≡ 3 ∷ []
+unfolding two packed words_with number_with
+packed_bits = refl
+
+single_bits : clear_value [] two (Unpack 2 5) ≡ 1 ∷ 0 ∷ 0 ∷ 1 ∷ 0 ∷ []
+unfolding two unpacked
+single_bits = refl
+
+bit_again : clear_value [] two (RepBit 2 3) ≡ 7 ∷ []
+unfolding two bits_repeated words_with number_with
+bit_again = refl
+
+-- bit 66 is bit 2 of the second word
+one_bit : clear_value [] two (PartBit 1 66) ≡ 1 ∷ []
+unfolding two bit_taken
+one_bit = refl
+
+bit_given : clear_value [] two (PutBit 1 65 2) ≡ 3 ∷ 7 ∷ []
+unfolding two bit_put words_with number_with
+bit_given = refl
+
+bits_after_bits : clear_value [] two (CatBit 2 4 2 2) ≡ 25 ∷ []
+unfolding two bits_joined words_with number_with
+bits_after_bits = refl
 
 blocks_of_513 : block_sizes 513 ≡ 512 ∷ 1 ∷ []
 blocks_of_513 = refl

@@ -3,9 +3,10 @@ ghost use Rattle.std.specs.Prelude.{◌≡◌, ◌++◌, OnOk, IfOk};
 ghost use Rattle.gates.specs.Clear.{clear_value};
 ghost use Rattle.gates.specs.Evaluated.{evaluated, made};
 
+use crate::bits::{bit_again, bit_at, bits_followed, one_bit_given, packed_bits, single_bits};
 use crate::clear_words::{
-    complements, differences, first_word, joined, low_bits, part, products, repeated, shifted_down,
-    shifted_up, spread, sums, total, with_word,
+    complements, differences, each_repeated, first_word, joined, low_bits, part, products,
+    repeated, shifted_down, shifted_up, spread, sums, tiled, total, totals, with_word,
 };
 use crate::gate::Gate;
 use crate::ring_kind::RingKind;
@@ -86,7 +87,49 @@ impl Gate {
                 *count as usize,
             ),
             Gate::Spread { operand } => spread(alloc, values.value(*operand)),
+            Gate::Pack { operand } => packed_bits(alloc, values.value(*operand)),
+            Gate::Unpack { operand, count } => {
+                single_bits(alloc, values.value(*operand), *count)
+            }
+            Gate::RepBit { operand, count } => bit_again(alloc, values.value(*operand), *count),
+            Gate::PartBit { operand, index } => bit_at(alloc, values.value(*operand), *index),
+            Gate::PutBit {
+                operand,
+                index,
+                element,
+            } => one_bit_given(
+                alloc,
+                values.value(*operand),
+                *index,
+                values.value(*element),
+            ),
+            Gate::CatBit {
+                left,
+                left_count,
+                right,
+                right_count,
+            } => bits_followed(
+                alloc,
+                values.value(*left),
+                *left_count,
+                values.value(*right),
+                *right_count,
+            ),
             Gate::Sum { operand } => repeated(alloc, total(values.value(*operand)), 1),
+            Gate::Stretch { operand, count } => {
+                each_repeated(alloc, values.value(*operand), *count as usize)
+            }
+            Gate::Tile { operand, count } => tiled(alloc, values.value(*operand), *count as usize),
+            Gate::SumEach {
+                operand,
+                size,
+                count,
+            } => totals(
+                alloc,
+                values.value(*operand),
+                *size as usize,
+                *count as usize,
+            ),
             Gate::Split { .. } => Ok(Words::new(Vec::new(alloc))),
             Gate::Conv { operand } => low_bits(alloc, values.value(*operand)),
             Gate::Open { operand, .. } => joined(alloc, values.value(*operand), &[]),

@@ -1,6 +1,6 @@
 // The operations of gates on clear words.
 ghost use Rattle.std.specs.Prelude.{◌≡◌, ◌+◌, ◌*◌, ◌/◌, ◌^◌, ◌%◌, ◌<◌, ◌≤◌, [], ◌∷◌, ◌++◌, length, map, take, drop, set, sum, replicate, OnOk, IfOk};
-ghost use Rattle.std.specs.List.{flat_map};
+ghost use Rattle.std.specs.List.{flat_map, range_with_len};
 ghost use Rattle.std.specs.Int.{w64, bit_not};
 ghost use Rattle.gates.specs.Clear.{bits_of, each_two, first_word};
 
@@ -184,6 +184,48 @@ pub(crate) fn total(xs: &[u64]) -> u64
         total = total.wrapping_add(*x);
     }
     total
+}
+
+/// Each word, `count` times in a row.
+#[tactic(auto, using(crate::proofs::WordSteps::stretch_more))]
+pub(crate) fn each_repeated(alloc: Global, xs: &[u64], count: usize) -> Result<Words, AllocError>
+    ensures { IfOk result (λ words. words ≡ flat_map (λ x. replicate count x) xs.now) }
+{
+    let mut words = Vec::new(alloc);
+    for x in xs {
+        words.extend_from_slice(repeated(alloc, *x, count)?.as_slice())?;
+    }
+    Ok(Words::new(words))
+}
+
+/// All words, `count` times.
+pub(crate) fn tiled(alloc: Global, xs: &[u64], count: usize) -> Result<Words, AllocError>
+    ensures { IfOk result (λ words. words ≡ flat_map (λ k. xs.now) (range_with_len 0 count)) }
+{
+    let mut words = Vec::new(alloc);
+    for _time in 0..count {
+        words.extend_from_slice(xs)?;
+    }
+    Ok(Words::new(words))
+}
+
+/// The sums, modulo 2^64, of `count` parts, each of `size` words.
+pub(crate) fn totals(
+    alloc: Global,
+    xs: &[u64],
+    size: usize,
+    count: usize,
+) -> Result<Words, AllocError>
+    ensures { IfOk result (λ words. words ≡ map (λ k. sum (take size (drop (k * size) xs.now)) % 2 ^ 64) (range_with_len 0 count)) }
+{
+    let mut words = Vec::new(alloc);
+    let mut from = 0;
+    for _part in 0..count {
+        let len = size.min(xs.len() - from);
+        words.push(total(&xs[from..from + len]))?;
+        from += len;
+    }
+    Ok(Words::new(words))
 }
 
 /// The first word, and 0 where there is none.

@@ -92,9 +92,57 @@ pub enum Gate {
     Spread {
         operand: u64,
     },
+    /// Bit 0 of each word, 64 of them in a word.
+    Pack {
+        operand: u64,
+    },
+    /// The first `count` bits of a value, each as a word of its own.
+    Unpack {
+        operand: u64,
+        count: u64,
+    },
+    /// Bit 0 of a value of one word, `count` times, 64 of them in a word.
+    RepBit {
+        operand: u64,
+        count: u64,
+    },
+    /// The bit of number `index` of a value, as a word.
+    PartBit {
+        operand: u64,
+        index: u64,
+    },
+    /// A value with the bit of number `index` given by bit 0 of another value of one word.
+    PutBit {
+        operand: u64,
+        index: u64,
+        element: u64,
+    },
+    /// The first `left_count` bits of a value, followed by the first `right_count` of another, 64 of them in a word.
+    CatBit {
+        left: u64,
+        left_count: u64,
+        right: u64,
+        right_count: u64,
+    },
     /// The sum of all words of a value, modulo 2^64.
     Sum {
         operand: u64,
+    },
+    /// Each word of a value, `count` times in a row.
+    Stretch {
+        operand: u64,
+        count: u64,
+    },
+    /// All words of a value, `count` times.
+    Tile {
+        operand: u64,
+        count: u64,
+    },
+    /// The sums, modulo 2^64, of `count` parts of a value, each of `size` words.
+    SumEach {
+        operand: u64,
+        size: u64,
+        count: u64,
     },
     /// Two values which add up to the operand modulo 2^64, or, negated, whose difference it is.
     Split {
@@ -203,7 +251,57 @@ impl Gate {
                 count: *count,
             },
             Gate::Spread { operand } => Gate::Spread { operand: *operand },
+            Gate::Pack { operand } => Gate::Pack { operand: *operand },
+            Gate::Unpack { operand, count } => Gate::Unpack {
+                operand: *operand,
+                count: *count,
+            },
+            Gate::RepBit { operand, count } => Gate::RepBit {
+                operand: *operand,
+                count: *count,
+            },
+            Gate::PartBit { operand, index } => Gate::PartBit {
+                operand: *operand,
+                index: *index,
+            },
+            Gate::PutBit {
+                operand,
+                index,
+                element,
+            } => Gate::PutBit {
+                operand: *operand,
+                index: *index,
+                element: *element,
+            },
+            Gate::CatBit {
+                left,
+                left_count,
+                right,
+                right_count,
+            } => Gate::CatBit {
+                left: *left,
+                left_count: *left_count,
+                right: *right,
+                right_count: *right_count,
+            },
             Gate::Sum { operand } => Gate::Sum { operand: *operand },
+            Gate::Stretch { operand, count } => Gate::Stretch {
+                operand: *operand,
+                count: *count,
+            },
+            Gate::Tile { operand, count } => Gate::Tile {
+                operand: *operand,
+                count: *count,
+            },
+            Gate::SumEach {
+                operand,
+                size,
+                count,
+            } => Gate::SumEach {
+                operand: *operand,
+                size: *size,
+                count: *count,
+            },
             Gate::Split { operand, negated } => Gate::Split {
                 operand: *operand,
                 negated: *negated,

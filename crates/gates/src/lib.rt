@@ -4,6 +4,7 @@
 //! makes get the next ones. What a gate means on clear values stands in `specs/Clear.antt`: which values fit a list of gates.
 #![tactic(auto)]
 
+mod bits;
 mod clear;
 mod clear_words;
 mod cutting;
@@ -16,6 +17,7 @@ mod span;
 mod values;
 mod words;
 
+pub use bit_words::words_for;
 pub use clear::evaluated;
 pub use cutting::{BLOCK_LEN, blocks};
 pub use gate::Gate;

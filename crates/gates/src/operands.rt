@@ -52,8 +52,14 @@ impl Gate {
             | Gate::Mul { left, right }
             | Gate::Xor { left, right }
             | Gate::And { left, right }
-            | Gate::Cat { left, right } => Operands::Two(*left, *right),
+            | Gate::Cat { left, right }
+            | Gate::CatBit { left, right, .. } => Operands::Two(*left, *right),
             Gate::Put {
+                operand,
+                element,
+                ..
+            }
+            | Gate::PutBit {
                 operand,
                 element,
                 ..
@@ -66,7 +72,14 @@ impl Gate {
             | Gate::Part { operand, .. }
             | Gate::Rep { operand, .. }
             | Gate::Spread { operand }
+            | Gate::Pack { operand }
+            | Gate::Unpack { operand, .. }
+            | Gate::RepBit { operand, .. }
+            | Gate::PartBit { operand, .. }
             | Gate::Sum { operand }
+            | Gate::Stretch { operand, .. }
+            | Gate::Tile { operand, .. }
+            | Gate::SumEach { operand, .. }
             | Gate::Split { operand, .. }
             | Gate::Conv { operand }
             | Gate::Open { operand, .. }

@@ -1,10 +1,11 @@
 -- What gates make depends on the values that they take alone.
-use Rattle.std.proofs.Common.{◌≡◌, ℕ, zero, suc, ◌+◌, ◌<◌, ◌≤◌, List, [], ◌∷◌, length, Some, refl, sym, ap, ◌∙◌, subst, arith}
+use Rattle.std.proofs.Common.{◌≡◌, ℕ, zero, suc, ◌+◌, ◌/◌, ◌<◌, ◌≤◌, List, [], ◌∷◌, length, Some, refl, sym, ap, ◌∙◌, subst, arith}
 use Rattle.std.specs.Prelude.{slice_get}
 use Rattle.std.proofs.lemmas.Option.{none-some, same_Some}
 use Rattle.gates.specs.declared.gate.Gate.{Gate}
 use Rattle.gates.specs.declared.gate.Gate.TheVariants.{Input, Const, Add, Sub, MulPub, Mul, Xor, And, Not, Shl, Shr, Low, Cat, Part, Put, Rep, Spread}
-use Rattle.gates.specs.declared.gate.Gate.TheVariants.{Sum, Split, Conv, Open, Result}
+use Rattle.gates.specs.declared.gate.Gate.TheVariants.{Pack, Unpack, RepBit, PartBit, PutBit, CatBit}
+use Rattle.gates.specs.declared.gate.Gate.TheVariants.{Sum, Stretch, Tile, SumEach, Split, Conv, Open, Result}
 use Rattle.gates.specs.Clear.{Values, value, clear_value, IsSplit, AreOperands, Suits, Makes}
 use Rattle.gates.specs.Counts.{made_by}
 use Rattle.named_values.specs.Named.{Takes}
@@ -39,7 +40,16 @@ module _ (inputs xs ys : Values) where
   clear_same (Put u index v) h = let e = h.0 in let f = h.1.0 in cc
   clear_same (Rep u count) h = let e = h.0 in cc
   clear_same (Spread u) h = let e = h.0 in cc
+  clear_same (Pack u) h = let e = h.0 in cc
+  clear_same (Unpack u count) h = let e = h.0 in cc
+  clear_same (RepBit u count) h = let e = h.0 in cc
+  clear_same (PartBit u index) h = let e = h.0 in cc
+  clear_same (PutBit u index v) h = let e = h.0 in let f = h.1.0 in cc
+  clear_same (CatBit u n v m) h = let e = h.0 in let f = h.1.0 in cc
   clear_same (Sum u) h = let e = h.0 in cc
+  clear_same (Stretch u count) h = let e = h.0 in cc
+  clear_same (Tile u count) h = ap (λ zs. clear_value inputs (zs ∷ []) (Tile 0 count)) h.0
+  clear_same (SumEach u size count) h = ap (λ zs. clear_value inputs (zs ∷ []) (SumEach 0 size count)) h.0
   clear_same (Split u negated) h = refl
   clear_same (Conv u) h = let e = h.0 in cc
   clear_same (Open ring u) h = h.0
@@ -66,7 +76,16 @@ module _ (inputs xs ys : Values) where
   suits_same next (Shr u count) h a = a
   suits_same next (Low u) h a = a
   suits_same next (Spread u) h a = a
+  suits_same next (Pack u) h a = a
+  suits_same next (Unpack u count) h a = (a.0, ap length (sym h.0) ∙ a.1)
+  suits_same next (RepBit u count) h a = (a.0, ap length (sym h.0) ∙ a.1)
+  suits_same next (PartBit u index) h a = (a.0, subst (λ z. index / 64 < length z) h.0 a.1)
+  suits_same next (PutBit u index v) h a = (a.0, a.1, subst (λ z. index / 64 < length z) h.0 a.2, ap length (sym h.1.0) ∙ a.3)
+  suits_same next (CatBit u n v m) h a = (a.0, a.1, ap length (sym h.0) ∙ a.2, ap length (sym h.1.0) ∙ a.3)
   suits_same next (Sum u) h a = a
+  suits_same next (Stretch u count) h a = a
+  suits_same next (Tile u count) h a = a
+  suits_same next (SumEach u size count) h a = (a.0, ap length (sym h.0) ∙ a.1)
   suits_same next (Split u negated) h a = a
   suits_same next (Conv u) h a = a
   suits_same next (Open ring u) h a = a

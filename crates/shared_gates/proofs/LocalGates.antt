@@ -1,6 +1,7 @@
 -- A gate that sends nothing makes shares of what it makes of clear values.
-use Rattle.std.proofs.Common.{◌≡◌, ℕ, zero, suc, ◌+◌, ◌*◌, ◌/◌, ◌%◌, ◌<◌, ◌^◌, List, [], ◌∷◌, ◌++◌, length, drop, map, sum, refl, sym, ◌∙◌, ap, subst, arith}
-use Rattle.std.specs.List.{flat_map}
+use Rattle.std.proofs.Common.{◌≡◌, ℕ, zero, suc, ◌+◌, ◌*◌, ◌/◌, ◌%◌, ◌<◌, ◌≤◌, ◌^◌, List, [], ◌∷◌, ◌++◌, length, drop, take, map, sum, replicate, refl, sym}
+use Rattle.std.proofs.Common.{◌∙◌, ap, subst, arith}
+use Rattle.std.specs.List.{flat_map, range_with_len}
 use Rattle.std.specs.Int.{w64, bit_at, bit_not}
 use Rattle.std.proofs.lemmas.Nat.{mod_below, pow_pos}
 use Rattle.std.proofs.lemmas.List.FromFn.{length-map-range_with_len, get_or-map-range_with_len}
@@ -16,9 +17,13 @@ use Rattle.gates.specs.declared.ring_kind.RingKind.{RingKind}
 use Rattle.gates.specs.declared.ring_kind.RingKind.TheVariants.{Arithmetic, Boolean}
 use Rattle.gates.specs.declared.gate.Gate.{Gate}
 use Rattle.gates.specs.declared.gate.Gate.TheVariants.{Input, Const, Add, Sub, MulPub, Mul, Xor, And, Not, Shl, Shr, Low, Cat, Part, Put, Rep, Spread}
-use Rattle.gates.specs.declared.gate.Gate.TheVariants.{Sum, Split, Conv, Open, Result}
+use Rattle.gates.specs.declared.gate.Gate.TheVariants.{Pack, Unpack, RepBit, PartBit, PutBit, CatBit}
+use Rattle.gates.specs.declared.gate.Gate.TheVariants.{Sum, Stretch, Tile, SumEach, Split, Conv, Open, Result}
 use Rattle.gates.specs.Clear.{Values, value, ring_of, bits_of, first_word, clear_value, Suits}
 use Rattle.gates.proofs.Columns.{Column, Column-of, Column-map}
+use Rattle.gates.specs.Gathered.{packed, unpacked, bits_repeated, bit_taken, bit_put, bits_joined}
+use Rattle.gates.specs.Laws.{AddUp}
+use Rattle.gates.proofs.Sharing.{packed-sum, unpacked-sum, repeated-sum, taken-sum, put-sum, joined-sum}
 use Rattle.protocol_model.proofs.Sizes.{past_end}
 use Rattle.blocked_protocol.proofs.Fitting.{no_words}
 use Rattle.blocked_protocol.proofs.BlockViews.{same_words}
@@ -146,6 +151,34 @@ shares-spread (x ∷ xs) s h =
         sym (flat_map-cons bits_of (at (s i) 0) (drop 1 (s i)))
         ∙ ap (λ t. flat_map bits_of t) (first_and_rest (s i) (length xs) (h.sizes i))
 
+-- ---- packed bits
+
+-- shares under xor add up, and lists that do are shares
+pub adding : (xs : List ℕ) (s : Number → List ℕ) → AreShares xor_ring xs s → AddUp (s One) (s Two) (s Three) xs
+adding xs s h =
+    record {
+      first = h.sizes One;
+      second = h.sizes Two;
+      third = h.sizes Three;
+      words_first = h.words One;
+      words_second = h.words Two;
+      words_third = h.words Three;
+      sums = h.sum;
+    }
+
+pub shares-adding : (xs : List ℕ) (s : Number → List ℕ) → AddUp (s One) (s Two) (s Three) xs → AreShares xor_ring xs s
+shares-adding xs s t = record { sizes = sizes; words = words; sum = t.sums }
+  where
+    sizes : (i : Number) → length (s i) ≡ length xs
+    sizes One = t.first
+    sizes Two = t.second
+    sizes Three = t.third
+
+    words : (i : Number) → AreWords (s i)
+    words One = t.words_first
+    words Two = t.words_second
+    words Three = t.words_third
+
 -- ---- the sum of all words
 
 added_up :
@@ -193,6 +226,51 @@ shares-sum xs s h =
 
     single : (x : ℕ) → Column 1 (λ k. x) (x ∷ [])
     single x = record { size = refl; words = λ k lt. at_first x k lt }
+
+-- ---- words several times, and the sums of parts
+
+shares-none : (r : Ring) → AreShares r [] (λ i. [])
+shares-none r = record { sizes = λ i. refl; words = λ i k. past_end k; sum = λ k lt. absurd (below_none k lt) }
+  where
+    below_none : (k : ℕ) → k < 0 → ⊥
+    below_none k lt = omega arith
+
+shares-stretch : (r : Ring) (count : ℕ) (xs : List ℕ) (s : Number → List ℕ) → AreShares r xs s
+    → AreShares r (flat_map (λ x. replicate count x) xs) (λ i. flat_map (λ x. replicate count x) (s i))
+shares-stretch r count [] s h =
+    subst (λ t. AreShares r [] (λ i. flat_map (λ x. replicate count x) (t i))) (same_words (λ i. []) s (λ i. no_words (s i) (h.sizes i))) (shares-none r)
+shares-stretch r count (x ∷ xs) s h =
+    subst (λ t. AreShares r (replicate count x ++ flat_map (λ y. replicate count y) xs) t)
+    (same_words (λ i. replicate count (at (s i) 0) ++ flat_map (λ y. replicate count y) (drop 1 (s i))) (λ i. flat_map (λ y. replicate count y) (s i))
+    (λ i. ap (flat_map (λ y. replicate count y)) (first_and_rest (s i) (length xs) (h.sizes i))))
+    (shares-append r (replicate count x) (flat_map (λ y. replicate count y) xs) (λ i. replicate count (at (s i) 0))
+    (λ i. flat_map (λ y. replicate count y) (drop 1 (s i)))
+    (shares-replicate r count x (λ i. at (s i) 0) (λ i. h.words i 0) (h.sum 0 (omega arith)))
+    (shares-stretch r count xs (λ i. drop 1 (s i)) (shares-rest r x xs s h)))
+
+shares-tile : (r : Ring) (from count : ℕ) (xs : List ℕ) (s : Number → List ℕ) → AreShares r xs s
+    → AreShares r (flat_map (λ k. xs) (range_with_len from count)) (λ i. flat_map (λ k. s i) (range_with_len from count))
+shares-tile r from zero xs s h = shares-none r
+shares-tile r from (suc n) xs s h =
+    shares-append r xs (flat_map (λ k. xs) (range_with_len (from + 1) n)) s (λ i. flat_map (λ k. s i) (range_with_len (from + 1) n)) h
+    (shares-tile r (from + 1) n xs s h)
+
+abbrev totals : (size from count : ℕ) → List ℕ → List ℕ
+totals size from count xs = map (λ k. sum (take size (drop (k * size) xs)) % 2 ^ 64) (range_with_len from count)
+
+shares-totals : (size from count : ℕ) (xs : List ℕ) (s : Number → List ℕ) → from * size + size * count ≤ length xs → AreShares add_ring xs s
+    → AreShares add_ring (totals size from count xs) (λ i. totals size from count (s i))
+shares-totals size from zero xs s le h = shares-none add_ring
+shares-totals size from (suc n) xs s le h =
+    let more : size * suc n ≡ size + size * n = grind arith in
+    let next : (from + 1) * size ≡ from * size + size = grind arith in
+    let within : from * size + size ≤ length xs = omega arith in
+    let later : (from + 1) * size + size * n ≤ length xs = omega arith in
+    shares-append add_ring (sum (take size (drop (from * size) xs)) % 2 ^ 64 ∷ []) (totals size (from + 1) n xs)
+    (λ i. sum (take size (drop (from * size) (s i))) % 2 ^ 64 ∷ []) (λ i. totals size (from + 1) n (s i))
+    (shares-sum (take size (drop (from * size) xs)) (λ i. take size (drop (from * size) (s i)))
+    (shares-part add_ring (from * size) size xs s within h))
+    (shares-totals size (from + 1) n xs s later h)
 
 -- ---- each gate
 
@@ -277,8 +355,37 @@ module _ (dealt_kinds kinds : List Kind) (inputs values : Values) (dealt shares 
       (λ i. element.words i 0) (element.sum 0 some))
   local-held (Spread u) local kinded suits =
       makes Boolean _ _ kinded.1.0 (shares-spread (value values u) (share_at shares u) (of_ring Boolean u suits kinded.0))
+  local-held (Pack u) local kinded suits =
+      makes Boolean _ _ kinded.1.0
+      (shares-adding _ (λ i. packed (share_at shares u i)) (packed-sum (adding _ _ (of_ring Boolean u suits kinded.0))))
+  local-held (Unpack u count) local kinded suits =
+      makes Boolean _ _ kinded.1.0
+      (shares-adding _ (λ i. unpacked (share_at shares u i) count) (unpacked-sum (adding _ _ (of_ring Boolean u suits.0 kinded.0)) count))
+  local-held (RepBit u count) local kinded suits =
+      makes Boolean _ _ kinded.1.0
+      (shares-adding _ (λ i. bits_repeated (share_at shares u i) count) (repeated-sum (adding _ _ (of_ring Boolean u suits.0 kinded.0)) count))
+  local-held (PartBit u index) local kinded suits =
+      makes Boolean _ _ kinded.1.0
+      (shares-adding _ (λ i. bit_taken (share_at shares u i) index) (taken-sum (adding _ _ (of_ring Boolean u suits.0 kinded.0)) index))
+  local-held (PutBit u index v) local kinded suits =
+      makes Boolean _ _ kinded.1.1.0
+      (shares-adding _ (λ i. bit_put (share_at shares u i) index (share_at shares v i))
+      (put-sum (adding _ _ (of_ring Boolean u suits.0 kinded.0)) (adding _ _ (of_ring Boolean v suits.1 kinded.1.0)) index))
+  local-held (CatBit u n v m) local kinded suits =
+      makes Boolean _ _ kinded.1.1.0
+      (shares-adding _ (λ i. bits_joined (share_at shares u i) n (share_at shares v i) m)
+      (joined-sum (adding _ _ (of_ring Boolean u suits.0 kinded.0)) (adding _ _ (of_ring Boolean v suits.1 kinded.1.0)) n m))
   local-held (Sum u) local kinded suits =
       makes Arithmetic _ _ kinded.1.0 (shares-sum (value values u) (share_at shares u) (of_ring Arithmetic u suits kinded.0))
+  local-held (Stretch u count) local kinded suits =
+      makes kinded.0 _ _ kinded.1.1.0
+      (shares-stretch (ring_of kinded.0) count (value values u) (share_at shares u) (of_ring kinded.0 u suits kinded.1.0))
+  local-held (Tile u count) local kinded suits =
+      makes kinded.0 _ _ kinded.1.1.0
+      (shares-tile (ring_of kinded.0) 0 count (value values u) (share_at shares u) (of_ring kinded.0 u suits kinded.1.0))
+  local-held (SumEach u size count) local kinded suits =
+      makes Arithmetic _ _ kinded.1.0
+      (shares-totals size 0 count (value values u) (share_at shares u) (omega (arith, suits.1)) (of_ring Arithmetic u suits.0 kinded.0))
   local-held (Split u negated) local kinded suits = absurd local
   local-held (Conv u) local kinded suits = absurd local
   local-held (Open ring u) local kinded suits = absurd local

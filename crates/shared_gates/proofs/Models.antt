@@ -1,7 +1,9 @@
 -- The gates of a run are sound and private, and their sizes are as they want them.
-use Rattle.std.proofs.Common.{◌≡◌, ℕ, zero, suc, ◌+◌, ◌*◌, ◌<◌, ◌≤◌, List, [], ◌∷◌, ◌++◌, length, refl, sym, ◌∙◌, ap, subst, arith, length-append, length-drop}
-use Rattle.std.specs.Prelude.{Some, slice_get}
-use Rattle.std.specs.List.{flat_map}
+use Rattle.std.proofs.Common.{◌≡◌, ℕ, zero, suc, ◌+◌, ◌*◌, ◌/◌, ◌<◌, ◌≤◌, List, [], ◌∷◌, ◌++◌, length, refl, sym, ◌∙◌, ap, subst, arith, length-append}
+use Rattle.std.proofs.Common.{length-drop}
+use Rattle.std.specs.Prelude.{Some, slice_get, replicate, sum, take, drop, ◌%◌, ◌^◌}
+use Rattle.std.specs.List.{flat_map, range_with_len}
+use Rattle.std.proofs.lemmas.List.FromFn.{length-map-range_with_len}
 use Rattle.std.specs.Int.{w64, bit_not}
 use Rattle.std.proofs.lemmas.List.{length-map, length-take-le, length-set, length-replicate}
 use Rattle.std.proofs.lemmas.List.Concat.{flat_map-cons}
@@ -12,9 +14,13 @@ use Rattle.protocol_model.specs.Gates.{nth_value, sizes_of, Sized, AreSound, Are
 use Rattle.gates.specs.Blocks.{block_sizes}
 use Rattle.gates.specs.declared.gate.Gate.{Gate}
 use Rattle.gates.specs.declared.gate.Gate.TheVariants.{Input, Const, Add, Sub, MulPub, Mul, Xor, And, Not, Shl, Shr, Low, Cat, Part, Put, Rep, Spread}
-use Rattle.gates.specs.declared.gate.Gate.TheVariants.{Sum, Split, Conv, Open, Result}
+use Rattle.gates.specs.declared.gate.Gate.TheVariants.{Pack, Unpack, RepBit, PartBit, PutBit, CatBit}
+use Rattle.gates.specs.declared.gate.Gate.TheVariants.{Sum, Stretch, Tile, SumEach, Split, Conv, Open, Result}
 use Rattle.gates.specs.Clear.{Values, value, each_two, bits_of, Suits}
+use Rattle.gates.specs.Bits.{words_for}
 use Rattle.gates.specs.Counts.{size_of}
+use Rattle.gates.proofs.Packing.{length-packed, length-unpacked}
+use Rattle.gates.proofs.Lengths.{length-repeated, length-taken, length-put, length-joined}
 use Rattle.gates.proofs.Columns.{Column-of, Column-each_two}
 use Rattle.blocked_protocol.proofs.Sizes.{block_sizes-cut}
 use Rattle.blocked_protocol.proofs.WholeGates.{mul_whole, open_whole, reshare_whole, conv_whole, split_whole}
@@ -101,6 +107,21 @@ length-spread (x ∷ xs) =
     ∙ ap (λ n. 64 + n) (length-spread xs)
     ∙ omega arith
 
+length-stretch : (count : ℕ) (xs : List ℕ) → length (flat_map (λ x. replicate count x) xs) ≡ length xs * count
+length-stretch count [] = omega arith
+length-stretch count (x ∷ xs) =
+    let more : suc (length xs) * count ≡ count + length xs * count = grind arith in
+    length-append (replicate count x) (flat_map (λ y. replicate count y) xs)
+    ∙ ap (λ n. n + length (flat_map (λ y. replicate count y) xs)) (length-replicate count x)
+    ∙ ap (λ n. count + n) (length-stretch count xs)
+    ∙ sym more
+
+length-tile : (xs : List ℕ) (from count : ℕ) → length (flat_map (λ k. xs) (range_with_len from count)) ≡ length xs * count
+length-tile xs from zero = omega arith
+length-tile xs from (suc n) =
+    let more : length xs * suc n ≡ length xs + length xs * n = grind arith in
+    length-append xs (flat_map (λ k. xs) (range_with_len (from + 1) n)) ∙ ap (λ m. length xs + m) (length-tile xs (from + 1) n) ∙ sym more
+
 length-const : (i : Number) (list : List ℕ) → length (const_share i list) ≡ length list
 length-const One list = refl
 length-const Two list = length-map list (λ x. 0)
@@ -143,7 +164,16 @@ module _ (ds sizes : List ℕ) (dealt own : Values) (dealt_sizes : sizes_of deal
   local-size i (Put u index v) local suit = length-set (value own u) index _ ∙ size_here u
   local-size i (Rep u count) local suit = length-replicate count _
   local-size i (Spread u) local suit = length-spread (value own u) ∙ ap (λ n. n * 64) (size_here u)
+  local-size i (Pack u) local suit = length-packed (value own u) ∙ ap words_for (size_here u)
+  local-size i (Unpack u count) local suit = length-unpacked (value own u) count
+  local-size i (RepBit u count) local suit = length-repeated (value own u) count
+  local-size i (PartBit u index) local suit = length-taken (value own u) index
+  local-size i (PutBit u index v) local suit = length-put (value own u) index (value own v) ∙ size_here u
+  local-size i (CatBit u n v m) local suit = length-joined (value own u) n (value own v) m
   local-size i (Sum u) local suit = refl
+  local-size i (Stretch u count) local suit = length-stretch count (value own u) ∙ ap (λ n. n * count) (size_here u)
+  local-size i (Tile u count) local suit = length-tile (value own u) 0 count ∙ ap (λ n. n * count) (size_here u)
+  local-size i (SumEach u size count) local suit = length-map-range_with_len (λ k. sum (take size (drop (k * size) (value own u))) % 2 ^ 64) 0 count
   local-size i (Split u negated) local suit = absurd local
   local-size i (Conv u) local suit = absurd local
   local-size i (Open ring u) local suit = absurd local
@@ -215,7 +245,17 @@ module _ (ds sizes : List ℕ) (inputs values : Values) (inputs_sizes : sizes_of
       (there u suit.0, there v suit.1, subst (λ n. index < n) (sym (size_there u)) suit.2, size_there v ∙ suit.3)
   suits-sizes (Rep u count) suit = (there u suit.0, size_there u ∙ suit.1)
   suits-sizes (Spread u) suit = there u suit
+  suits-sizes (Pack u) suit = there u suit
+  suits-sizes (Unpack u count) suit = (there u suit.0, size_there u ∙ suit.1)
+  suits-sizes (RepBit u count) suit = (there u suit.0, size_there u ∙ suit.1)
+  suits-sizes (PartBit u index) suit = (there u suit.0, subst (λ n. index / 64 < n) (sym (size_there u)) suit.1)
+  suits-sizes (PutBit u index v) suit =
+      (there u suit.0, there v suit.1, subst (λ n. index / 64 < n) (sym (size_there u)) suit.2, size_there v ∙ suit.3)
+  suits-sizes (CatBit u n v m) suit = (there u suit.0, there v suit.1, size_there u ∙ suit.2, size_there v ∙ suit.3)
   suits-sizes (Sum u) suit = there u suit
+  suits-sizes (Stretch u count) suit = there u suit
+  suits-sizes (Tile u count) suit = there u suit
+  suits-sizes (SumEach u size count) suit = (there u suit.0, size_there u ∙ suit.1)
   suits-sizes (Split u negated) suit = there u suit
   suits-sizes (Conv u) suit = there u suit
   suits-sizes (Open ring u) suit = there u suit

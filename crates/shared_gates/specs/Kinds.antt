@@ -4,7 +4,8 @@ use Rattle.gates.specs.declared.ring_kind.RingKind.{RingKind}
 use Rattle.gates.specs.declared.ring_kind.RingKind.TheVariants.{Arithmetic, Boolean}
 use Rattle.gates.specs.declared.gate.Gate.{Gate}
 use Rattle.gates.specs.declared.gate.Gate.TheVariants.{Input, Const, Add, Sub, MulPub, Mul, Xor, And, Not, Shl, Shr, Low, Cat, Part, Put, Rep, Spread}
-use Rattle.gates.specs.declared.gate.Gate.TheVariants.{Sum, Split, Conv, Open, Result}
+use Rattle.gates.specs.declared.gate.Gate.TheVariants.{Pack, Unpack, RepBit, PartBit, PutBit, CatBit}
+use Rattle.gates.specs.declared.gate.Gate.TheVariants.{Sum, Stretch, Tile, SumEach, Split, Conv, Open, Result}
 use Rattle.gates.specs.Counts.{made_by}
 use Rattle.proto_core.specs.Lists.{AreWords}
 use Rattle.shared_gates.specs.Shares.{Kind, Shared, Known, kind_at}
@@ -37,7 +38,16 @@ Kinded dealt kinds next (Part u from count) = SharedAlike kinds (u ∷ next ∷ 
 Kinded dealt kinds next (Put u index v) = SharedAlike kinds (u ∷ v ∷ next ∷ [])
 Kinded dealt kinds next (Rep u count) = SharedAlike kinds (u ∷ next ∷ [])
 Kinded dealt kinds next (Spread u) = AllShared Boolean kinds (u ∷ next ∷ [])
+Kinded dealt kinds next (Pack u) = AllShared Boolean kinds (u ∷ next ∷ [])
+Kinded dealt kinds next (Unpack u count) = AllShared Boolean kinds (u ∷ next ∷ [])
+Kinded dealt kinds next (RepBit u count) = AllShared Boolean kinds (u ∷ next ∷ [])
+Kinded dealt kinds next (PartBit u index) = AllShared Boolean kinds (u ∷ next ∷ [])
+Kinded dealt kinds next (PutBit u index v) = AllShared Boolean kinds (u ∷ v ∷ next ∷ [])
+Kinded dealt kinds next (CatBit u n v m) = AllShared Boolean kinds (u ∷ v ∷ next ∷ [])
 Kinded dealt kinds next (Sum u) = AllShared Arithmetic kinds (u ∷ next ∷ [])
+Kinded dealt kinds next (Stretch u count) = SharedAlike kinds (u ∷ next ∷ [])
+Kinded dealt kinds next (Tile u count) = SharedAlike kinds (u ∷ next ∷ [])
+Kinded dealt kinds next (SumEach u size count) = AllShared Arithmetic kinds (u ∷ next ∷ [])
 Kinded dealt kinds next (Split u negated) = AllShared Arithmetic kinds (u ∷ []) × AllShared Boolean kinds (next ∷ (next + 1) ∷ [])
 Kinded dealt kinds next (Conv u) = AllShared Boolean kinds (u ∷ []) × AllShared Arithmetic kinds (next ∷ [])
 Kinded dealt kinds next (Open ring u) = AllShared ring kinds (u ∷ []) × (kind_at kinds next ≡ Known)

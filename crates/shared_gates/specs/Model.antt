@@ -1,5 +1,5 @@
 -- Gates as the three miners run them: each interactive one is a protocol on all elements, block after block.
-use Rattle.std.specs.Prelude.{◌≡◌, ℕ, ◌+◌, ◌*◌, ◌<◌, ◌≤◌, List, [], ◌∷◌, ◌++◌, Some, None, length}
+use Rattle.std.specs.Prelude.{◌≡◌, ℕ, ◌+◌, ◌*◌, ◌/◌, ◌<◌, ◌≤◌, List, [], ◌∷◌, ◌++◌, Some, None, length}
 use Rattle.proto_core.specs.Parties.{of_three}
 use Rattle.proto_core.specs.Rings.{add_ring, xor_ring}
 use Rattle.proto_core.specs.declared.party.Number.{Number}
@@ -14,7 +14,9 @@ use Rattle.blocked_protocol.specs.Splitting.{split_protocol}
 use Rattle.blocked_protocol.specs.Blocked.{blocked}
 use Rattle.gates.specs.declared.gate.Gate.{Gate}
 use Rattle.gates.specs.declared.gate.Gate.TheVariants.{Input, Const, Add, Sub, MulPub, Mul, Xor, And, Not, Shl, Shr, Low, Cat, Part, Put, Rep, Spread}
-use Rattle.gates.specs.declared.gate.Gate.TheVariants.{Sum, Split, Conv, Open, Result}
+use Rattle.gates.specs.declared.gate.Gate.TheVariants.{Pack, Unpack, RepBit, PartBit, PutBit, CatBit}
+use Rattle.gates.specs.declared.gate.Gate.TheVariants.{Sum, Stretch, Tile, SumEach, Split, Conv, Open, Result}
+use Rattle.gates.specs.Bits.{words_for}
 use Rattle.gates.specs.Clear.{Values, ring_of}
 use Rattle.gates.specs.Counts.{size_of, Miner, Miner1, Miner2, Miner3}
 use Rattle.shared_gates.specs.LocalGates.{local_share}
@@ -40,7 +42,16 @@ size_made dealt sizes (Part u from count) = count
 size_made dealt sizes (Put u index v) = size_of sizes u
 size_made dealt sizes (Rep u count) = count
 size_made dealt sizes (Spread u) = size_of sizes u * 64
+size_made dealt sizes (Pack u) = words_for (size_of sizes u)
+size_made dealt sizes (Unpack u count) = count
+size_made dealt sizes (RepBit u count) = words_for count
+size_made dealt sizes (PartBit u index) = 1
+size_made dealt sizes (PutBit u index v) = size_of sizes u
+size_made dealt sizes (CatBit u n v m) = words_for (n + m)
 size_made dealt sizes (Sum u) = 1
+size_made dealt sizes (Stretch u count) = size_of sizes u * count
+size_made dealt sizes (Tile u count) = size_of sizes u * count
+size_made dealt sizes (SumEach u size count) = count
 size_made dealt sizes (Split u negated) = size_of sizes u
 size_made dealt sizes (Conv u) = size_of sizes u
 size_made dealt sizes (Open ring u) = size_of sizes u
@@ -75,7 +86,18 @@ SizesSuit dealt sizes (Part u from count) = (u < length sizes) × (from + count 
 SizesSuit dealt sizes (Put u index v) = (u < length sizes) × (v < length sizes) × (index < size_of sizes u) × (size_of sizes v ≡ 1)
 SizesSuit dealt sizes (Rep u count) = (u < length sizes) × (size_of sizes u ≡ 1)
 SizesSuit dealt sizes (Spread u) = u < length sizes
+SizesSuit dealt sizes (Pack u) = u < length sizes
+SizesSuit dealt sizes (Unpack u count) = (u < length sizes) × (size_of sizes u ≡ words_for count)
+SizesSuit dealt sizes (RepBit u count) = (u < length sizes) × (size_of sizes u ≡ 1)
+SizesSuit dealt sizes (PartBit u index) = (u < length sizes) × (index / 64 < size_of sizes u)
+SizesSuit dealt sizes (PutBit u index v) =
+    (u < length sizes) × (v < length sizes) × (index / 64 < size_of sizes u) × (size_of sizes v ≡ 1)
+SizesSuit dealt sizes (CatBit u n v m) =
+    (u < length sizes) × (v < length sizes) × (size_of sizes u ≡ words_for n) × (size_of sizes v ≡ words_for m)
 SizesSuit dealt sizes (Sum u) = u < length sizes
+SizesSuit dealt sizes (Stretch u count) = u < length sizes
+SizesSuit dealt sizes (Tile u count) = u < length sizes
+SizesSuit dealt sizes (SumEach u size count) = (u < length sizes) × (size_of sizes u ≡ size * count)
 SizesSuit dealt sizes (Split u negated) = u < length sizes
 SizesSuit dealt sizes (Conv u) = u < length sizes
 SizesSuit dealt sizes (Open ring u) = u < length sizes

@@ -3,7 +3,8 @@ use Rattle.std.proofs.Common.{◌≡◌, ℕ, zero, suc, ◌+◌, ◌<◌, ◌�
 use Rattle.gates.specs.declared.ring_kind.RingKind.{RingKind}
 use Rattle.gates.specs.declared.gate.Gate.{Gate}
 use Rattle.gates.specs.declared.gate.Gate.TheVariants.{Input, Const, Add, Sub, MulPub, Mul, Xor, And, Not, Shl, Shr, Low, Cat, Part, Put, Rep, Spread}
-use Rattle.gates.specs.declared.gate.Gate.TheVariants.{Sum, Split, Conv, Open, Result}
+use Rattle.gates.specs.declared.gate.Gate.TheVariants.{Pack, Unpack, RepBit, PartBit, PutBit, CatBit}
+use Rattle.gates.specs.declared.gate.Gate.TheVariants.{Sum, Stretch, Tile, SumEach, Split, Conv, Open, Result}
 use Rattle.gates.specs.Counts.{made_by, made_by_all}
 use Rattle.shared_gates.specs.Shares.{Kind, kind_at}
 use Rattle.shared_gates.specs.Kinds.{AllShared, Kinded, AllKinded}
@@ -55,7 +56,16 @@ module _ (dealt kinds more : List Kind) where
   kinded-still next (Put u index v) lt h = (h.0, shared-still h.0 kinds more (u ∷ v ∷ next ∷ []) h.1)
   kinded-still next (Rep u count) lt h = (h.0, shared-still h.0 kinds more (u ∷ next ∷ []) h.1)
   kinded-still next (Spread u) lt h = shared-still _ kinds more (u ∷ next ∷ []) h
+  kinded-still next (Pack u) lt h = shared-still _ kinds more (u ∷ next ∷ []) h
+  kinded-still next (Unpack u count) lt h = shared-still _ kinds more (u ∷ next ∷ []) h
+  kinded-still next (RepBit u count) lt h = shared-still _ kinds more (u ∷ next ∷ []) h
+  kinded-still next (PartBit u index) lt h = shared-still _ kinds more (u ∷ next ∷ []) h
+  kinded-still next (PutBit u index v) lt h = shared-still _ kinds more (u ∷ v ∷ next ∷ []) h
+  kinded-still next (CatBit u n v m) lt h = shared-still _ kinds more (u ∷ v ∷ next ∷ []) h
   kinded-still next (Sum u) lt h = shared-still _ kinds more (u ∷ next ∷ []) h
+  kinded-still next (Stretch u count) lt h = (h.0, shared-still h.0 kinds more (u ∷ next ∷ []) h.1)
+  kinded-still next (Tile u count) lt h = (h.0, shared-still h.0 kinds more (u ∷ next ∷ []) h.1)
+  kinded-still next (SumEach u size count) lt h = shared-still _ kinds more (u ∷ next ∷ []) h
   kinded-still next (Split u negated) lt h = (shared-still _ kinds more (u ∷ []) h.0, shared-still _ kinds more (next ∷ (next + 1) ∷ []) h.1)
   kinded-still next (Conv u) lt h = (shared-still _ kinds more (u ∷ []) h.0, shared-still _ kinds more (next ∷ []) h.1)
   kinded-still next (Open ring u) lt h = (shared-still ring kinds more (u ∷ []) h.0, kind-grown kinds more next lt ∙ h.1)
