@@ -1,3 +1,4 @@
 pub mod EqualityLaws
 pub mod BitExtractLaws
 pub mod CompareLaws
+pub mod PackedLaws

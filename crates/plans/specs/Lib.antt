@@ -7,8 +7,12 @@ pub mod BitExtractVectors
 pub mod Compare
 pub mod CompareLaw
 pub mod CompareVectors
+pub mod Packed
+pub mod PackedVectors
 pub use Rattle.gates.specs.Clear
 pub use Rattle.gates.specs.Counts
 pub use Rattle.gates.specs.Rings
+pub use Rattle.gates.specs.Bits
+pub use Rattle.gates.specs.Gathered
 pub use Rattle.gates.specs.declared.gate.Gate
 pub use Rattle.gates.specs.declared.ring_kind.RingKind

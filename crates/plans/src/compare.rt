@@ -2,6 +2,7 @@
 ghost use Rattle.std.specs.Prelude.{◌≡◌, ◌+◌, ◌≤◌, ◌^◌, ◌++◌, OnOk, IfOk};
 ghost use Rattle.plans.specs.Compare.{less_plan, order_start, order_step};
 ghost use Rattle.plans.specs.CompareLaw.{TellsLess, TakesWords};
+ghost use Rattle.plans.specs.Packed.{packed_less_plan, PacksLess};
 
 use crate::bit_extract;
 use gates::Gate;
@@ -145,4 +146,27 @@ pub fn plan(
     ensures words { IfOk result (λ gates. TakesWords first left right n gates.items) }
 {
     gates_of(alloc, first, left, right, n)
+}
+
+/// The same gates, and one more that packs what they make: the last value, of number `first + 110`, has a bit for each two numbers, which is
+/// 1 exactly where the first is less than the second. They draw the same words. Memory is the only error.
+#[tactic(auto, using(crate::proofs::PackedLaws::packs_less_from))]
+pub fn packed_plan(
+    alloc: Global,
+    first: u64,
+    left: u64,
+    right: u64,
+    n: u64,
+) -> Result<Vec<Gate>, AllocError>
+    requires numbers { first + 111 ≤ 2 ^ 64 }
+    requires elements { n ≤ 1048576 }
+    ensures gates { IfOk result (λ gates. gates.items ≡ packed_less_plan first left right n) }
+    ensures less { IfOk result (λ gates. PacksLess first left right n gates.items) }
+    ensures words { IfOk result (λ gates. TakesWords first left right n gates.items) }
+{
+    let mut gates = gates_of(alloc, first, left, right, n)?;
+    gates.push(Gate::Pack {
+        operand: first + 109,
+    })?;
+    Ok(gates)
 }

@@ -2,6 +2,7 @@
 ghost use Rattle.std.specs.Prelude.{◌≡◌, ◌+◌, ◌≤◌, ◌^◌, IfOk};
 ghost use Rattle.plans.specs.Equality.{eq_plan};
 ghost use Rattle.plans.specs.EqualityLaw.{TestsForZero, TakesWords};
+ghost use Rattle.plans.specs.Packed.{packed_eq_plan, PacksZeroTests};
 
 use gates::Gate;
 use std::alloc::{AllocError, Global};
@@ -56,4 +57,26 @@ pub fn plan(alloc: Global, first: u64, difference: u64, n: u64) -> Result<Vec<Ga
     ensures words { IfOk result (λ gates. TakesWords first difference n gates.items) }
 {
     gates_of(alloc, first, difference)
+}
+
+/// The same gates, and one more that packs what they make: the last value, of number `first + 17`, has a bit for each word, which is 1
+/// exactly where the word is 0. They draw the same words. Memory is the only error.
+#[tactic(auto, using(crate::proofs::PackedLaws::packs_zero_tests_from, crate::proofs::PackedLaws::zero_tests_take_from))]
+pub fn packed_plan(
+    alloc: Global,
+    first: u64,
+    difference: u64,
+    n: u64,
+) -> Result<Vec<Gate>, AllocError>
+    requires numbers { first + 18 ≤ 2 ^ 64 }
+    requires elements { n ≤ 1048576 }
+    ensures gates { IfOk result (λ gates. gates.items ≡ packed_eq_plan first difference) }
+    ensures zero_test { IfOk result (λ gates. PacksZeroTests first difference gates.items) }
+    ensures words { IfOk result (λ gates. TakesWords first difference n gates.items) }
+{
+    let mut gates = gates_of(alloc, first, difference)?;
+    gates.push(Gate::Pack {
+        operand: first + 16,
+    })?;
+    Ok(gates)
 }

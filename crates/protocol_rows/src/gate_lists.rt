@@ -61,6 +61,57 @@ fn listed() -> [Gate; 8] {
     ]
 }
 
+// Gates on truth values that are packed into words, over the same input.
+fn packing() -> [Gate; 7] {
+    [
+        Gate::Input { number: 0 },
+        Gate::Pack { operand: 0 },
+        Gate::Unpack {
+            operand: 1,
+            count: 3,
+        },
+        Gate::PartBit {
+            operand: 1,
+            index: 1,
+        },
+        Gate::RepBit {
+            operand: 3,
+            count: 65,
+        },
+        Gate::PutBit {
+            operand: 4,
+            index: 64,
+            element: 1,
+        },
+        Gate::CatBit {
+            left: 1,
+            left_count: 2,
+            right: 3,
+            right_count: 1,
+        },
+    ]
+}
+
+// Gates that repeat the words of the input, and add them up part by part.
+fn repeating() -> [Gate; 4] {
+    [
+        Gate::Input { number: 0 },
+        Gate::Stretch {
+            operand: 0,
+            count: 3,
+        },
+        Gate::Tile {
+            operand: 0,
+            count: 3,
+        },
+        Gate::SumEach {
+            operand: 2,
+            size: 3,
+            count: 2,
+        },
+    ]
+}
+
 fn inputs(alloc: Global) -> Result<Values, AllocError> {
     let mut inputs = Values::new(alloc);
     inputs.push(Words::new(vec![in alloc; 6, 1]?))?;
@@ -68,14 +119,22 @@ fn inputs(alloc: Global) -> Result<Values, AllocError> {
 }
 
 // The values of gates over an input of two words, with 9 for the word that is drawn.
-fn values(alloc: Global) -> Result<Values, AllocError> {
+fn values(alloc: Global, gates: &[Gate]) -> Result<Values, AllocError> {
     let inputs = inputs(alloc)?;
-    evaluated(alloc, 9, &inputs, Values::new(alloc), &listed())
+    evaluated(alloc, 9, &inputs, Values::new(alloc), gates)
 }
 
-fn tell_values(lines: &mut Lines, values: &Values) {
-    for number in [1u64, 5, 7, 8] {
-        line(lines, "value", values.value(number));
+fn tell_values(lines: &mut Lines, values: &Values, numbers: &[u64]) {
+    for number in numbers {
+        line(lines, "value", values.value(*number));
+    }
+}
+
+// The lines of some of the values that gates make.
+fn tell_evaluated(alloc: Global, lines: &mut Lines, gates: &[Gate], numbers: &[u64]) {
+    match values(alloc, gates) {
+        Ok(values) => tell_values(lines, &values, numbers),
+        Err(AllocError) => lines.run_short(),
     }
 }
 
@@ -97,8 +156,7 @@ pub fn tell(alloc: Global, lines: &mut Lines) {
         Ok(list) => tell_copies(alloc, lines, list),
         Err(AllocError) => lines.run_short(),
     }
-    match values(alloc) {
-        Ok(values) => tell_values(lines, &values),
-        Err(AllocError) => lines.run_short(),
-    }
+    tell_evaluated(alloc, lines, &listed(), &[1, 5, 7, 8]);
+    tell_evaluated(alloc, lines, &packing(), &[1, 2, 3, 4, 5, 6]);
+    tell_evaluated(alloc, lines, &repeating(), &[1, 2, 3]);
 }

@@ -1,4 +1,4 @@
-// Plans of equality, bits and order, with what they make of clear values.
+// Plans of equality, bits, order and look-up, with what they make of clear values.
 use crate::lines::line;
 use gates::{Gate, Values, Words, evaluated};
 use plans::{bit_extract, compare, equality};
@@ -58,7 +58,7 @@ fn tell_plan(
     }
 }
 
-/// The lines of the three plans.
+/// The lines of the plans, and of two with packed results.
 pub fn tell(alloc: Global, lines: &mut Lines) {
     let words = [[0, TOP, 5]];
     let numbers = [[TOP, 1, 5], [1, TOP, 5]];
@@ -68,4 +68,10 @@ pub fn tell(alloc: Global, lines: &mut Lines) {
     tell_plan(alloc, lines, "bits", plan, &words);
     let plan = compare::plan(alloc, 2, 0, 1, 3);
     tell_plan(alloc, lines, "less", plan, &numbers);
+    let plan = equality::packed_plan(alloc, 1, 0, 3);
+    tell_plan(alloc, lines, "packed equality", plan, &words);
+    let plan = compare::packed_plan(alloc, 2, 0, 1, 3);
+    tell_plan(alloc, lines, "packed less", plan, &numbers);
+    let plan = oblivious_index::plan(alloc, 2, 0, 1, 3, 3);
+    tell_plan(alloc, lines, "lookup", plan, &[[10, 20, 30], [1, 3, 0]]);
 }

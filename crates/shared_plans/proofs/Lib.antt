@@ -1,6 +1,7 @@
 pub mod KindedPlans
 pub mod SizedPlans
 pub mod GateLists
+pub mod KindedLookup
 pub mod RunLists
 pub mod GateRunLaws
 pub mod PlanRuns

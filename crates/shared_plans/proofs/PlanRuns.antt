@@ -2,16 +2,17 @@
 use Rattle.std.proofs.Common.{◌≡◌, ℕ, ◌+◌, ◌<◌, ◌≤◌, Some, List, [], ◌∷◌, ◌++◌, length, map, refl, sym, ◌∙◌, ap, subst, arith, length-append}
 use Rattle.std.specs.Prelude.{slice_get}
 use Rattle.std.proofs.lemmas.List.{get_or_append_left}
-use Rattle.proto_core.specs.Rings.{add_ring, xor_ring}
+use Rattle.proto_core.specs.Rings.{add_ring}
 use Rattle.proto_core.specs.declared.party.Number.{Number}
 use Rattle.protocol_model.specs.Gates.{AreSound, needed}
 use Rattle.protocol_model.specs.Gates as model
 use Rattle.protocol_model.specs.Runs.{Tapes, Ready, run_values, run_opened}
 use Rattle.protocol_model.proofs.Sizes.{needed-append}
-use Rattle.gates.specs.declared.ring_kind.RingKind.TheVariants.{Arithmetic, Boolean}
+use Rattle.gates.specs.declared.ring_kind.RingKind.{RingKind}
+use Rattle.gates.specs.declared.ring_kind.RingKind.TheVariants.{Arithmetic}
 use Rattle.gates.specs.declared.gate.Gate.{Gate}
 use Rattle.gates.specs.declared.gate.Gate.TheVariants.{Mul, And, Split, Conv, Open, Result}
-use Rattle.gates.specs.Clear.{Values, value, FitFrom}
+use Rattle.gates.specs.Clear.{Values, value, ring_of, FitFrom}
 use Rattle.gates.specs.Counts.{Miner, size_of, made_by_all, words_of_all}
 use Rattle.gates.proofs.Sizes.{FitFrom-append, size_of-value}
 use Rattle.gates.proofs.Columns.{stands}
@@ -172,15 +173,15 @@ module _ (r : GateRun) (plan : List Gate) (own : List Kind) (words : Miner → �
 
     -- and where one of the plan's values is told, the miners hold shares of it
     pub result-shares :
-        (j : ℕ) (result : List ℕ) → j < made_by_all plan → kind_at own j ≡ Shared Boolean →
-        slice_get out.computed.more (value_count r + j) ≡ Some result → AreShares xor_ring result (shares_of longer tapes (value_count r + j))
-    result-shares j result lt kind is =
+        (ring : RingKind) (j : ℕ) (result : List ℕ) → j < made_by_all plan → kind_at own j ≡ Shared ring →
+        slice_get out.computed.more (value_count r + j) ≡ Some result → AreShares (ring_of ring) result (shares_of longer tapes (value_count r + j))
+    result-shares ring j result lt kind is =
         let last = value_count r + j in
         let made : made_by_all longer.gates ≡ value_count r + made_by_all plan = made-then r.gates plan in
         let in_longer : last < length out.computed.more = omega (arith, out.computed.count) in
-        let last_kind : kind_at longer.kinds last ≡ Shared Boolean =
-        subst (λ n. kind_at longer.kinds (n + j) ≡ Shared Boolean) good.counted (kind-behind r.kinds own j ∙ kind) in
-        subst (λ xs. AreShares xor_ring xs (shares_of longer tapes last)) (stands out.computed.more last is)
+        let last_kind : kind_at longer.kinds last ≡ Shared ring =
+        subst (λ n. kind_at longer.kinds (n + j) ≡ Shared ring) good.counted (kind-behind r.kinds own j ∙ kind) in
+        subst (λ xs. AreShares (ring_of ring) xs (shares_of longer tapes last)) (stands out.computed.more last is)
         (subst (λ k. Holds k (value out.computed.more last) (shares_of longer tapes last)) last_kind (out.computed.held last in_longer))
 
     pub fits-plan : FitFrom r.inputs out.computed.more (value_count r) plan

@@ -1,12 +1,15 @@
 -- Each plan after a run: it suits, and its last value is shared.
-use Rattle.std.proofs.Common.{◌≡◌, ℕ, ◌+◌, ◌<◌, ◌^◌, Some, List, ◌∷◌, length, map, refl, sym, ◌∙◌, ap, subst, inl, inr, arith}
+use Rattle.std.proofs.Common.{◌≡◌, ℕ, ◌+◌, ◌*◌, ◌<◌, ◌≤◌, ◌^◌, ◌⊎◌, Some, List, ◌∷◌, length, map, refl, sym, ◌∙◌, ap, subst, inl, inr, arith}
 use Rattle.std.specs.Prelude.{slice_get}
 use Rattle.std.proofs.lemmas.Bool.{cases_lt}
+use Rattle.std.proofs.lemmas.List.{get_or_past}
 use Rattle.std.proofs.lemmas.Bool.Decides.{nat_tests}
 use Rattle.proto_core.specs.Rings.{add_ring, xor_ring}
 use Rattle.proto_core.specs.RingsKeepLaws.{add_ring_laws}
+use Rattle.proto_core.specs.Lists.{AreWords}
 use Rattle.proto_core.specs.declared.party.Number.{Number}
 use Rattle.protocol_model.specs.Runs.{Tapes}
+use Rattle.gates.specs.declared.ring_kind.RingKind.TheVariants.{Arithmetic, Boolean}
 use Rattle.gates.specs.declared.gate.Gate.{Gate}
 use Rattle.gates.specs.declared.gate.Gate.TheVariants.{Sub}
 use Rattle.gates.proofs.Columns.{word, stands, Column-of, Column-same, Column-ext, Column-map, Column-each_two, same_columns}
@@ -22,13 +25,17 @@ use Rattle.plans.proofs.BitExtractLaws as bits_laws
 use Rattle.plans.specs.Compare.{less_plan}
 use Rattle.plans.specs.CompareLaw as compare
 use Rattle.plans.proofs.CompareLaws as compare_laws
+use Rattle.oblivious_index.specs.Lookup.{looked, lookup_plan}
+use Rattle.oblivious_index.specs.LookupLaw as lookup
+use Rattle.oblivious_index.proofs.LookupLaws as lookup_laws
 use Rattle.shared_gates.specs.Shares.{AreShares}
 use Rattle.shared_plans.specs.GateRuns.{GateRun, IsWellFormed, dealt_sizes, value_count, value_sizes, shares_of, IsNumber, Reach}
 use Rattle.shared_plans.specs.Outcomes.{Follows}
 use Rattle.shared_plans.specs.Plans.{zero_test_kinds, equality_kinds, bits_kinds, comparison_kinds, then_zero_test, then_equality, then_bits}
-use Rattle.shared_plans.specs.Plans.{then_comparison, equal_test}
+use Rattle.shared_plans.specs.Plans.{then_comparison, equal_test, lookup_kinds, then_lookup}
 use Rattle.shared_plans.proofs.KindedPlans.{zero-test-kinded, equality-kinded, bits-kinded, comparison-kinded}
-use Rattle.shared_plans.proofs.SizedPlans.{At, suited-sizes, zero-test-suited, equality-suited, bits-suited, comparison-suited}
+use Rattle.shared_plans.proofs.KindedLookup.{lookup-kinded}
+use Rattle.shared_plans.proofs.SizedPlans.{At, suited-sizes, zero-test-suited, equality-suited, bits-suited, comparison-suited, lookup-suited}
 use Rattle.shared_plans.proofs.GateRunLaws.{sizes-count}
 use Rattle.shared_plans.proofs.PlanRuns.{number-below, outcome, operand-value, operand-size, result-shares, fits-plan}
 
@@ -36,6 +43,16 @@ use Rattle.shared_plans.proofs.PlanRuns.{number-below, outcome, operand-value, o
 
 shares-words : (xs : List ℕ) (s : Number → List ℕ) → AreShares add_ring xs s → (k : ℕ) → k < length xs → word xs k < 2 ^ 64
 shares-words xs s shares k lt = subst (λ x. x < 2 ^ 64) (shares.sum k lt) (add_ring_laws.add_word _ _)
+
+all-words : (xs : List ℕ) (s : Number → List ℕ) → AreShares add_ring xs s → AreWords xs
+all-words xs s shares k = by_place (cases_lt k (length xs))
+  where
+    small : (x : ℕ) → x ≡ 0 → x < 2 ^ 64
+    small x e = omega arith
+
+    by_place : (k < length xs) ⊎ (length xs ≤ k) → word xs k < 2 ^ 64
+    by_place (inl below) = shares-words xs s shares k below
+    by_place (inr past) = small (word xs k) (get_or_past xs k 0 past)
 
 both_yes : (d x y : ℕ) → d ≡ 0 → x ≡ y → zero_test d ≡ equal_test x y
 both_yes d x y none same = grind (arith, nat_tests)
@@ -103,7 +120,7 @@ module _ (r : GateRun) (good : IsWellFormed r) where
       let follows = zero-test-follows n word number in
       let out = outcome r plan zero_test_kinds words good follows tapes reach in
       let clear = operand-value r plan zero_test_kinds words good follows tapes reach word n number us shares in
-      result-shares r plan zero_test_kinds words good follows tapes reach 16 (map zero_test us) (omega arith) refl
+      result-shares r plan zero_test_kinds words good follows tapes reach Boolean 16 (map zero_test us) (omega arith) refl
       (equality_laws.tests_for_zero first word r.inputs out.computed.more (fits-plan r plan zero_test_kinds words good follows tapes reach)
       ∙ ap (λ xs. Some (map zero_test xs)) (sym clear))
 
@@ -145,7 +162,7 @@ module _ (r : GateRun) (good : IsWellFormed r) where
       let size_u : length us ≡ n = ap length clear_u ∙ operand-size r plan equality_kinds words good follows tapes reach u n number_u in
       let size_v : length vs ≡ n = ap length clear_v ∙ operand-size r plan equality_kinds words good follows tapes reach v n number_v in
       let last : first + 17 ≡ first + 1 + 16 = omega arith in
-      result-shares r plan equality_kinds words good follows tapes reach 17 (each_two equal_test us vs) (omega arith) refl
+      result-shares r plan equality_kinds words good follows tapes reach Boolean 17 (each_two equal_test us vs) (omega arith) refl
       (ap (slice_get out.computed.more) last
       ∙ equality_laws.tests_for_zero (first + 1) first r.inputs out.computed.more fit.2
       ∙ ap (λ xs. Some (map zero_test xs))
@@ -182,7 +199,7 @@ module _ (r : GateRun) (good : IsWellFormed r) where
       let follows = bits-follow n word number in
       let out = outcome r plan bits_kinds words good follows tapes reach in
       let clear = operand-value r plan bits_kinds words good follows tapes reach word n number us shares in
-      result-shares r plan bits_kinds words good follows tapes reach 53 us (omega arith) refl
+      result-shares r plan bits_kinds words good follows tapes reach Boolean 53 us (omega arith) refl
       (bits_laws.gives_bits first word n r.inputs out.computed.more (operand-size r plan bits_kinds words good follows tapes reach word n number)
       (fits-plan r plan bits_kinds words good follows tapes reach)
       ∙ ap (λ xs. Some xs) (sym clear))
@@ -219,10 +236,55 @@ module _ (r : GateRun) (good : IsWellFormed r) where
       let out = outcome r plan comparison_kinds words good follows tapes reach in
       let clear_u = operand-value r plan comparison_kinds words good follows tapes reach u n number_u us shares_u in
       let clear_v = operand-value r plan comparison_kinds words good follows tapes reach v n number_v vs shares_v in
-      result-shares r plan comparison_kinds words good follows tapes reach 109 (each_two less_test us vs) (omega arith) refl
+      result-shares r plan comparison_kinds words good follows tapes reach Boolean 109 (each_two less_test us vs) (omega arith) refl
       (compare_laws.tells_less first u v n r.inputs out.computed.more
       (operand-size r plan comparison_kinds words good follows tapes reach u n number_u)
       (operand-size r plan comparison_kinds words good follows tapes reach v n number_v)
       (fits-plan r plan comparison_kinds words good follows tapes reach)
       ∙ ap (λ xs. Some (each_two less_test xs (value out.computed.more v))) (sym clear_u)
       ∙ ap (λ xs. Some (each_two less_test us xs)) (sym clear_v))
+
+  -- ---- look-up
+
+  pub lookup-follows :
+      (n m array index : ℕ) → n < 2 ^ 64 → IsNumber r n array → IsNumber r m index →
+      Follows r (lookup_plan (value_count r) array index n m) lookup_kinds (λ miner. lookup.words_taken miner (n * m))
+  unfolding lookup_kinds
+  lookup-follows n m array index small number_a number_i =
+      record {
+        kinded =
+            lookup-kinded r.dealt_kinds r.kinds (value_count r) array index n m good.counted (lookup_laws.places-words n m small) number_a.kind number_i.kind;
+        suits =
+            suited-sizes (dealt_sizes r) (value_sizes r) (lookup_plan (value_count r) array index n m)
+            (lookup-suited (dealt_sizes r) (value_sizes r) (value_count r) array index n m (sizes-count r good) (stands-at array n number_a)
+            (stands-at index m number_i));
+        counted = refl;
+        opens_none = tt;
+        takes = λ inputs values miner same fit.
+            lookup_laws.takes_words_from (value_count r) array index n m (lookup_plan (value_count r) array index n m) refl inputs values miner
+            (same array (number-below r good array n number_a) ∙ number_a.size) (same index (number-below r good index m number_i) ∙ number_i.size) fit;
+      }
+
+  pub lookup-shared :
+      (n m array index : ℕ) (tapes : Tapes) → n < 2 ^ 64 → IsNumber r n array → IsNumber r m index →
+      Reach r (λ miner. lookup.words_taken miner (n * m)) tapes →
+      (xs ks : List ℕ) → AreShares add_ring xs (shares_of r tapes array) → AreShares add_ring ks (shares_of r tapes index) →
+      AreShares add_ring (looked xs ks) (shares_of (then_lookup r array index n m) tapes (value_count r + 23))
+  unfolding lookup_kinds
+  lookup-shared n m array index tapes small number_a number_i reach xs ks shares_a shares_i =
+      let first = value_count r in
+      let plan = lookup_plan first array index n m in
+      let words = λ (miner : Miner). lookup.words_taken miner (n * m) in
+      let follows = lookup-follows n m array index small number_a number_i in
+      let out = outcome r plan lookup_kinds words good follows tapes reach in
+      let clear_a = operand-value r plan lookup_kinds words good follows tapes reach array n number_a xs shares_a in
+      let clear_i = operand-value r plan lookup_kinds words good follows tapes reach index m number_i ks shares_i in
+      result-shares r plan lookup_kinds words good follows tapes reach Arithmetic 23 (looked xs ks) (omega arith) refl
+      (lookup_laws.looks_up_from first array index n m plan small refl r.inputs out.computed.more
+      (operand-size r plan lookup_kinds words good follows tapes reach array n number_a)
+      (operand-size r plan lookup_kinds words good follows tapes reach index m number_i)
+      (subst AreWords clear_a (all-words xs (shares_of r tapes array) shares_a))
+      (subst AreWords clear_i (all-words ks (shares_of r tapes index) shares_i))
+      (fits-plan r plan lookup_kinds words good follows tapes reach)
+      ∙ ap (λ l. Some (looked l (value out.computed.more index))) (sym clear_a)
+      ∙ ap (λ l. Some (looked xs l)) (sym clear_i))

@@ -1,13 +1,17 @@
 -- The gates of each plan suit the sizes of the values before them.
 use Rattle.std.proofs.Common.{◌≡◌, ℕ, ◌+◌, ◌*◌, ◌<◌, List, [], ◌∷◌, ◌++◌, length, refl, sym, ◌∙◌, ap, subst, arith, length-append, append_assoc, true, false}
+use Rattle.std.proofs.Math.Nat.{mul_comm}
 use Rattle.std.proofs.lemmas.List.{get_or_append_left, get_or-append-add}
 use Rattle.proto_core.proofs.Beginnings.{append-none}
 use Rattle.gates.specs.declared.gate.Gate.{Gate}
 use Rattle.gates.specs.declared.gate.Gate.TheVariants.{Sub, Cat, Xor, And, Not, Shl, Shr, Low, Part, Split}
+use Rattle.gates.specs.declared.gate.Gate.TheVariants.{Const, Stretch, Tile, Conv, Mul, SumEach}
 use Rattle.gates.specs.Counts.{size_of}
 use Rattle.plans.specs.Equality as equality
 use Rattle.plans.specs.BitExtract as bits
 use Rattle.plans.specs.Compare as compare
+use Rattle.oblivious_index.specs.Lookup.{places, lookup_plan}
+use Rattle.oblivious_index.proofs.LookupLaws.{length-places}
 use Rattle.shared_gates.specs.Model.{sizes_made, PairOf, SizesSuit, AllSizesSuit}
 
 -- ---- sizes by number
@@ -70,31 +74,39 @@ gate-suited dealt sizes more made gate gates suit e later =
 behind-nothing : (dealt sizes : List ℕ) (gates : List Gate) → Suited dealt (sizes ++ []) gates → Suited dealt sizes gates
 behind-nothing dealt sizes gates suited = subst (λ s. Suited dealt s gates) (append-none sizes) suited
 
+-- what some gates leave to those after them: they made so many values, and the last, of number m, has n elements
+abbrev EndsAt : (dealt sizes : List ℕ) (n made m : ℕ) → List Gate → Type 0
+EndsAt dealt sizes n made m rest = (more : List ℕ) → length more ≡ made → At (sizes ++ more) m n → Suited dealt (sizes ++ more) rest
+
 -- ---- equality
 
 joining-suited :
-    (dealt sizes : List ℕ) (n : ℕ) (counts : List ℕ) (same : ℕ) → length sizes ≡ same + 1 → At sizes same n →
-    Suited dealt sizes (equality.joining same counts)
-joining-suited dealt sizes n [] same count at_same =
+    (dealt : List ℕ) (n : ℕ) (counts sizes : List ℕ) (same made m : ℕ) (rest : List Gate) → length sizes ≡ same + 1 → At sizes same n →
+    made ≡ 2 * length counts + 1 → m ≡ same + made → EndsAt dealt sizes n made m rest → Suited dealt sizes (equality.joining same counts ++ rest)
+joining-suited dealt n [] sizes same made m rest count at_same e last later =
     let before = at-grown sizes [] same n at_same in
-    behind-nothing dealt sizes (Low same ∷ [])
-    (gate-suited dealt sizes [] (n ∷ []) (Low same) [] before.below (alone _ n before.size) (none-suited dealt (sizes ++ n ∷ [])))
-joining-suited dealt sizes n (width ∷ counts) same count at_same =
+    behind-nothing dealt sizes (Low same ∷ rest)
+    (gate-suited dealt sizes [] (n ∷ []) (Low same) rest before.below (alone _ n before.size)
+    (later (n ∷ []) (omega arith) (at-behind sizes (n ∷ []) (same + 1) 0 m n count (omega arith) (omega arith) refl)))
+joining-suited dealt n (width ∷ counts) sizes same made m rest count at_same e last later =
     let two : List ℕ = n ∷ n ∷ [] in
     let before = at-grown sizes [] same n at_same in
     let here = at-grown sizes (n ∷ []) same n at_same in
     let shifted = at-behind sizes (n ∷ []) (same + 1) 0 (same + 1) n count (omega arith) (omega arith) refl in
-    let rest = equality.joining (same + 1 + 1) counts in
-    behind-nothing dealt sizes (Shr same width ∷ And same (same + 1) ∷ rest)
-    (gate-suited dealt sizes [] (n ∷ []) (Shr same width) (And same (same + 1) ∷ rest) before.below (alone _ n before.size)
-    (gate-suited dealt sizes (n ∷ []) (n ∷ []) (And same (same + 1)) rest (pair-of _ same (same + 1) n here shifted) (alone _ n here.size)
-    (joining-suited dealt (sizes ++ two) n counts (same + 1 + 1) (omega (arith, length-append sizes two))
-    (at-behind sizes two (same + 1) 1 (same + 1 + 1) n count refl (omega arith) refl))))
+    let joins = equality.joining (same + 1 + 1) counts ++ rest in
+    behind-nothing dealt sizes (Shr same width ∷ And same (same + 1) ∷ joins)
+    (gate-suited dealt sizes [] (n ∷ []) (Shr same width) (And same (same + 1) ∷ joins) before.below (alone _ n before.size)
+    (gate-suited dealt sizes (n ∷ []) (n ∷ []) (And same (same + 1)) joins (pair-of _ same (same + 1) n here shifted) (alone _ n here.size)
+    (joining-suited dealt n counts (sizes ++ two) (same + 1 + 1) (2 * length counts + 1) m rest (omega (arith, length-append sizes two))
+    (at-behind sizes two (same + 1) 1 (same + 1 + 1) n count refl (omega arith) refl) refl (omega arith)
+    (λ more long at_m.
+    subst (λ s. Suited dealt s rest) (sym (append_assoc sizes two more))
+    (later (two ++ more) (omega (arith, length-append two more)) (subst (λ s. At s m n) (append_assoc sizes two more) at_m))))))
 
-pub zero-test-suited :
-    (dealt sizes : List ℕ) (first word n : ℕ) → length sizes ≡ first → At sizes word n →
-    Suited dealt sizes (equality.eq_plan first word)
-zero-test-suited dealt sizes first word n count number =
+zero-test-suited-then :
+    (dealt sizes : List ℕ) (first word n : ℕ) (rest : List Gate) → length sizes ≡ first → At sizes word n →
+    EndsAt dealt sizes n 17 (first + 16) rest → Suited dealt sizes (equality.eq_plan first word ++ rest)
+zero-test-suited-then dealt sizes first word n rest count number later =
     let before = at-grown sizes [] word n number in
     let two : List ℕ = n ∷ n ∷ [] in
     let three : List ℕ = n ∷ n ∷ n ∷ [] in
@@ -103,12 +115,23 @@ zero-test-suited dealt sizes first word n count number =
     let y = at-behind sizes two first 1 (first + 1) n count refl (omega arith) refl in
     let differing = at-behind sizes three first 2 (first + 2) n count refl (omega arith) refl in
     let same = at-behind sizes four first 3 (first + 2 + 1) n count (omega arith) (omega arith) refl in
-    let rest = equality.joining (first + 2 + 1) equality.shifts in
-    behind-nothing dealt sizes (equality.eq_plan first word)
-    (gate-suited dealt sizes [] two (Split word true) (Xor first (first + 1) ∷ Not (first + 2) ∷ rest) before.below (ap (λ k. k ∷ k ∷ []) before.size)
-    (gate-suited dealt sizes two (n ∷ []) (Xor first (first + 1)) (Not (first + 2) ∷ rest) (pair-of _ first (first + 1) n x y) (alone _ n x.size)
-    (gate-suited dealt sizes three (n ∷ []) (Not (first + 2)) rest differing.below (alone _ n differing.size)
-    (joining-suited dealt (sizes ++ four) n equality.shifts (first + 2 + 1) (omega (arith, length-append sizes four)) same))))
+    let joins = equality.joining (first + 2 + 1) equality.shifts ++ rest in
+    behind-nothing dealt sizes (equality.eq_plan first word ++ rest)
+    (gate-suited dealt sizes [] two (Split word true) (Xor first (first + 1) ∷ Not (first + 2) ∷ joins) before.below (ap (λ k. k ∷ k ∷ []) before.size)
+    (gate-suited dealt sizes two (n ∷ []) (Xor first (first + 1)) (Not (first + 2) ∷ joins) (pair-of _ first (first + 1) n x y) (alone _ n x.size)
+    (gate-suited dealt sizes three (n ∷ []) (Not (first + 2)) joins differing.below (alone _ n differing.size)
+    (joining-suited dealt n equality.shifts (sizes ++ four) (first + 2 + 1) 13 (first + 16) rest (omega (arith, length-append sizes four)) same (omega arith)
+    (omega arith)
+    (λ more long at_m.
+    subst (λ s. Suited dealt s rest) (sym (append_assoc sizes four more))
+    (later (four ++ more) (omega (arith, length-append four more)) (subst (λ s. At s (first + 16) n) (append_assoc sizes four more) at_m)))))))
+
+pub zero-test-suited :
+    (dealt sizes : List ℕ) (first word n : ℕ) → length sizes ≡ first → At sizes word n →
+    Suited dealt sizes (equality.eq_plan first word)
+zero-test-suited dealt sizes first word n count number =
+    subst (Suited dealt sizes) (append-none (equality.eq_plan first word))
+    (zero-test-suited-then dealt sizes first word n [] count number (λ more long at_m. none-suited dealt (sizes ++ more)))
 
 pub equality-suited :
     (dealt sizes : List ℕ) (first u v n : ℕ) → length sizes ≡ first → At sizes u n → At sizes v n →
@@ -167,10 +190,6 @@ carry-suited dealt sizes n next g p width rest count at_g at_p later =
     (gate-suited dealt sizes s7 (n ∷ []) (Part (next + 4) n n) rest (joined7.below, omega (arith, joined7.size)) refl
     (later s8 refl (at-behind sizes s8 next 6 (next + 6) n count refl (omega arith) refl)
     (at-behind sizes s8 next 7 (next + 7) n count refl (omega arith) refl))))))))))
-
--- what all joins leave behind: their last value is of number m
-abbrev EndsAt : (dealt sizes : List ℕ) (n made m : ℕ) → List Gate → Type 0
-EndsAt dealt sizes n made m rest = (more : List ℕ) → length more ≡ made → At (sizes ++ more) m n → Suited dealt (sizes ++ more) rest
 
 carrying-suited :
     (dealt : List ℕ) (n : ℕ) (widths sizes : List ℕ) (h next g p made m : ℕ) (rest : List Gate) → length sizes ≡ next → At sizes h n →
@@ -333,3 +352,57 @@ comparison-suited dealt sizes first u v n count at_u at_v =
     (λ more long at_m.
     start-suited dealt ((sizes ++ one) ++ more) first n (omega (arith, length-append (sizes ++ one) more))
     (subst (λ k. At ((sizes ++ one) ++ more) k m) (omega arith) at_m))))
+
+-- ---- look-up
+
+-- the elements n m times over, the tests as numbers, their products, and the sums of these
+sums-suited :
+    (dealt sizes : List ℕ) (next array tests n m : ℕ) → length sizes ≡ next → At sizes array n → At sizes tests (n * m) →
+    Suited dealt sizes (Conv tests ∷ Tile array m ∷ Mul (next + 1) next ∷ SumEach (next + 2) n m ∷ [])
+sums-suited dealt sizes next array tests n m count at_array at_tests =
+    let k = n * m in
+    let s1 : List ℕ = k ∷ [] in
+    let s2 : List ℕ = k ∷ k ∷ [] in
+    let s3 : List ℕ = k ∷ k ∷ k ∷ [] in
+    let tests0 = at-grown sizes [] tests k at_tests in
+    let array1 = at-grown sizes s1 array n at_array in
+    let factors = at-behind sizes s2 next 0 next k count (omega arith) (omega arith) refl in
+    let elements = at-behind sizes s2 next 1 (next + 1) k count refl (omega arith) refl in
+    let products = at-behind sizes s3 next 2 (next + 2) k count refl (omega arith) refl in
+    behind-nothing dealt sizes (Conv tests ∷ Tile array m ∷ Mul (next + 1) next ∷ SumEach (next + 2) n m ∷ [])
+    (gate-suited dealt sizes [] s1 (Conv tests) _ tests0.below (alone _ k tests0.size)
+    (gate-suited dealt sizes s1 s1 (Tile array m) _ array1.below (alone _ k (ap (λ z. z * m) array1.size))
+    (gate-suited dealt sizes s2 s1 (Mul (next + 1) next) _ (pair-of _ (next + 1) next k elements factors) (alone _ k elements.size)
+    (gate-suited dealt sizes s3 (m ∷ []) (SumEach (next + 2) n m) [] (products.below, products.size) refl
+    (none-suited dealt (sizes ++ (s3 ++ m ∷ [])))))))
+
+pub lookup-suited :
+    (dealt sizes : List ℕ) (first array index n m : ℕ) → length sizes ≡ first → At sizes array n → At sizes index m →
+    Suited dealt sizes (lookup_plan first array index n m)
+lookup-suited dealt sizes first array index n m count at_array at_index =
+    let k = n * m in
+    let s1 : List ℕ = k ∷ [] in
+    let s2 : List ℕ = k ∷ k ∷ [] in
+    let s3 : List ℕ = k ∷ k ∷ k ∷ [] in
+    let index0 = at-grown sizes [] index m at_index in
+    let indices = at-behind sizes s2 first 0 first k count (omega arith) (omega arith) refl in
+    let all_places = at-behind sizes s2 first 1 (first + 1) k count refl (omega arith) refl in
+    let difference = at-behind sizes s3 first 2 (first + 2) k count refl (omega arith) refl in
+    let array3 = at-grown sizes s3 array n at_array in
+    let longer : length (sizes ++ s3) ≡ first + 3 = omega (arith, length-append sizes s3) in
+    let last : List Gate = Conv (first + 19) ∷ Tile array m ∷ Mul (first + 21) (first + 20) ∷ SumEach (first + 22) n m ∷ [] in
+    let same_last : Conv (first + 3 + 16) ∷ Tile array m ∷ Mul (first + 20 + 1) (first + 20) ∷ SumEach (first + 20 + 2) n m ∷ [] ≡ last =
+    numbered (first + 3 + 16) (first + 19) (first + 20 + 1) (first + 21) (first + 20 + 2) (first + 22) (omega arith) (omega arith) (omega arith) in
+    behind-nothing dealt sizes (lookup_plan first array index n m)
+    (gate-suited dealt sizes [] s1 (Stretch index n) _ index0.below (alone _ k (ap (λ z. z * n) index0.size ∙ mul_comm m n))
+    (gate-suited dealt sizes s1 s1 (Const (places n m)) _ tt (alone _ k (length-places n m))
+    (gate-suited dealt sizes s2 s1 (Sub first (first + 1)) _ (pair-of _ first (first + 1) k indices all_places) (alone _ k indices.size)
+    (zero-test-suited-then dealt (sizes ++ s3) (first + 3) (first + 2) k last longer difference
+    (λ more long at_m.
+    subst (Suited dealt ((sizes ++ s3) ++ more)) same_last
+    (sums-suited dealt ((sizes ++ s3) ++ more) (first + 20) array (first + 3 + 16) n m (omega (arith, length-append (sizes ++ s3) more))
+    (at-grown (sizes ++ s3) more array n array3) at_m))))))
+  where
+    numbered : (a b c d e f : ℕ) → a ≡ b → c ≡ d → e ≡ f →
+        Conv a ∷ Tile array m ∷ Mul c (first + 20) ∷ SumEach e n m ∷ [] ≡ Conv b ∷ Tile array m ∷ Mul d (first + 20) ∷ SumEach f n m ∷ []
+    numbered a b c d e f x y z = cc

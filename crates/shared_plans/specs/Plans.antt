@@ -1,10 +1,11 @@
--- The plans of equality, bit extraction and comparison after a run of gates, over values of n elements.
-use Rattle.std.specs.Prelude.{ℕ, ◌+◌, List, ◌∷◌, replicate, ◌==◌, if◌then◌else◌}
+-- The plans of equality, bit extraction, comparison and look-up after a run of gates, over values of n elements.
+use Rattle.std.specs.Prelude.{ℕ, ◌+◌, List, ◌∷◌, ◌++◌, replicate, ◌==◌, if◌then◌else◌}
 use Rattle.gates.specs.declared.ring_kind.RingKind.TheVariants.{Arithmetic, Boolean}
 use Rattle.gates.specs.declared.gate.Gate.TheVariants.{Sub}
 use Rattle.plans.specs.Equality.{eq_plan}
 use Rattle.plans.specs.BitExtract.{bits_plan}
 use Rattle.plans.specs.Compare.{less_plan}
+use Rattle.oblivious_index.specs.Lookup.{lookup_plan}
 use Rattle.shared_gates.specs.Shares.{Kind, Shared}
 use Rattle.shared_plans.specs.GateRuns.{GateRun, value_count, then_gates}
 
@@ -26,6 +27,10 @@ bits_kinds = replicate 54 (Shared Boolean)
 unfoldable pub comparison_kinds : List Kind
 comparison_kinds = Shared Arithmetic ∷ replicate 109 (Shared Boolean)
 
+-- the indices, the places and their differences; the tests of these; the tests as numbers, the elements, the products and the sums
+unfoldable pub lookup_kinds : List Kind
+lookup_kinds = replicate 3 (Shared Arithmetic) ++ (replicate 17 (Shared Boolean) ++ replicate 4 (Shared Arithmetic))
+
 -- ---- after a run
 
 abbrev pub then_zero_test : GateRun → ℕ → GateRun
@@ -40,6 +45,10 @@ then_bits r n word = then_gates r (bits_plan (value_count r) word n) bits_kinds
 
 abbrev pub then_comparison : GateRun → ℕ → ℕ → ℕ → GateRun
 then_comparison r n u v = then_gates r (less_plan (value_count r) u v n) comparison_kinds
+
+-- in an array of n elements m places are looked up
+abbrev pub then_lookup : (r : GateRun) (array index n m : ℕ) → GateRun
+then_lookup r array index n m = then_gates r (lookup_plan (value_count r) array index n m) lookup_kinds
 
 -- whether two words are the same: 1 for yes, 0 for no
 abbrev pub equal_test : ℕ → ℕ → ℕ

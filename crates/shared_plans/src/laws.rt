@@ -1,4 +1,4 @@
-ghost use Rattle.std.specs.Prelude.{◌≡◌, ◌<◌, ℕ, ◌+◌, List, ◌++◌, length, map};
+ghost use Rattle.std.specs.Prelude.{◌≡◌, ◌<◌, ℕ, ◌+◌, ◌*◌, ◌^◌, List, ◌++◌, length, map};
 ghost use Rattle.proto_core.specs.Rings.{add_ring, xor_ring};
 ghost use Rattle.proto_core.specs.declared.party.Number.{Number};
 ghost use Rattle.protocol_model.specs.Runs.{Tapes};
@@ -13,13 +13,15 @@ ghost use Rattle.plans.specs.BitExtract.{bits_plan};
 ghost use Rattle.plans.specs.BitExtractLaw.{words_taken as bits_words};
 ghost use Rattle.plans.specs.Compare.{less_plan};
 ghost use Rattle.plans.specs.CompareLaw.{words_taken as comparison_words};
+ghost use Rattle.oblivious_index.specs.Lookup.{looked};
+ghost use Rattle.oblivious_index.specs.LookupLaw.{words_taken as lookup_words};
 ghost use Rattle.shared_gates.specs.Shares.{AreShares, Kind, Shared, kind_at};
 ghost use Rattle.shared_gates.specs.Kinds.{AllKinded};
 ghost use Rattle.shared_gates.specs.Model.{AllSizesSuit, miner_of};
 ghost use Rattle.shared_plans.specs.GateRuns.{GateRun, IsWellFormed, value_count, then_gates, shares_of, words_drawn, IsNumber, Reach};
 ghost use Rattle.shared_plans.specs.Outcomes.{Follows, Outcome};
 ghost use Rattle.shared_plans.specs.Plans.{zero_test_kinds, bits_kinds, comparison_kinds, then_zero_test, then_equality, then_bits, then_comparison};
-ghost use Rattle.shared_plans.specs.Plans.{equal_test};
+ghost use Rattle.shared_plans.specs.Plans.{then_lookup, equal_test};
 
 /// Law: gates after any well-formed run whose values they suit, and that open none. The longer run is well formed and draws as
 /// many words more as they take. On any tapes that are long enough the three miners come to its end with shares of values that
@@ -105,4 +107,17 @@ pub fn comparison_on_shares()
         Reach r (λ miner. comparison_words miner n) tapes → (us vs : List ℕ) → AreShares add_ring us (shares_of r tapes u) →
         AreShares add_ring vs (shares_of r tapes v) →
         AreShares xor_ring (each_two less_test us vs) (shares_of (then_comparison r n u v) tapes (value_count r + 109)) }
+{}
+
+/// Law: likewise the plan of a look-up of `m` places in an array of `n` numbers, fewer than 2^64; the shares of the last value add up, modulo
+/// 2^64, to the array's element at each place, and to 0 where the array has none there.
+pub fn lookup_on_shares()
+    ensures words { (r : GateRun) (n m array index : ℕ) → n < 2 ^ 64 → IsWellFormed r → IsNumber r n array → IsNumber r m index →
+        (i : Number) → words_drawn (then_lookup r array index n m) i ≡ words_drawn r i + lookup_words (miner_of i) (n * m) }
+    ensures outcome { (r : GateRun) (n m array index : ℕ) (tapes : Tapes) → n < 2 ^ 64 → IsWellFormed r → IsNumber r n array →
+        IsNumber r m index → Reach r (λ miner. lookup_words miner (n * m)) tapes → Outcome r (then_lookup r array index n m) tapes }
+    ensures result { (r : GateRun) (n m array index : ℕ) (tapes : Tapes) → n < 2 ^ 64 → IsWellFormed r → IsNumber r n array →
+        IsNumber r m index → Reach r (λ miner. lookup_words miner (n * m)) tapes → (xs ks : List ℕ) →
+        AreShares add_ring xs (shares_of r tapes array) → AreShares add_ring ks (shares_of r tapes index) →
+        AreShares add_ring (looked xs ks) (shares_of (then_lookup r array index n m) tapes (value_count r + 23)) }
 {}

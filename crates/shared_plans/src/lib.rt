@@ -1,4 +1,4 @@
-//! What three miners come to with the plans of `equality`, `bit_extract` and `compare` after any gates.
+//! What three miners come to with the plans of `equality`, `bit_extract`, `compare` and of a look-up after any gates.
 //!
 //! There is nothing to run here: definitions in `specs/`, and the laws that follow from them.
 #![tactic(auto)]
@@ -7,5 +7,5 @@ mod laws;
 
 pub use laws::{
     bits_on_shares, bits_suit, comparison_on_shares, comparison_suits, equality_on_shares,
-    gates_behind_runs, zero_test_on_shares, zero_test_suits,
+    gates_behind_runs, lookup_on_shares, zero_test_on_shares, zero_test_suits,
 };
