@@ -11,13 +11,15 @@ use std::marker::Model;
 /// Lists of words, each at a number, in one vector: each is a place and a length in it. Clauses see the list of each number, which has no words
 /// where none stands.
 ///
-/// A list that comes stands last. Where more than half of the vector is in no list, it is closed up.
+/// A list that comes stands last. Where more than half of the vector is in no list, it is closed up into the vector that was left at the last
+/// time, so the two change places and neither is given back.
 #[derive(Drop, Debug)]
 pub(crate) struct FlatLists {
     alloc: Global,
     words: Vec<u64>,
     spans: BTreeMap<u64, Span>,
     live: usize,
+    spare: Vec<u64>,
 }
 
 impl Model for FlatLists {
@@ -41,19 +43,23 @@ impl FlatLists {
             words: Vec::new(alloc),
             spans: BTreeMap::new(alloc),
             live: 0,
+            spare: Vec::new(alloc),
         }
     }
 
-    /// No list, and room for so many words.
-    fn with_room(alloc: Global, room: usize) -> Result<Self, AllocError>
+    /// No list, in a vector whose words are not needed, with room for this number of them.
+    fn with_room(alloc: Global, spare: Vec<u64>, room: usize) -> Result<Self, AllocError>
         ensures { IfOk result (λ lists. (k : ℕ) → list_at lists k ≡ []) }
     {
-        let words = Vec::with_capacity(alloc, room)?;
+        let mut words = spare;
+        words.clear();
+        words.reserve(room)?;
         Ok(FlatLists {
             alloc,
             words,
             spans: BTreeMap::new(alloc),
             live: 0,
+            spare: Vec::new(alloc),
         })
     }
 
@@ -132,7 +138,9 @@ impl FlatLists {
     {
         if self.words.len() - self.live > self.live {
             let room = self.live.saturating_mul(2);
-            if let Ok(lists) = closed_up(self.alloc, &self.words, &self.spans, room) {
+            let spare = std::mem::replace(&mut self.spare, Vec::new(self.alloc));
+            if let Ok(mut lists) = closed_up(self.alloc, spare, &self.words, &self.spans, room) {
+                std::mem::swap(&mut lists.spare, &mut self.words);
                 *self = lists;
             }
         }
@@ -151,9 +159,10 @@ fn live_words(spans: &BTreeMap<u64, Span>) -> usize
     live
 }
 
-/// The same lists, one after another.
+/// The same lists, one after another, in a vector whose words are not needed.
 fn closed_up(
     alloc: Global,
+    spare: Vec<u64>,
     words: &[u64],
     spans: &BTreeMap<u64, Span>,
     room: usize,
@@ -161,7 +170,7 @@ fn closed_up(
     requires { AreSpans words.now (found spans.now.entries) }
     ensures { IfOk result (λ lists. (k : ℕ) → list_at lists k ≡ words_at words.now (found spans.now.entries) k) }
 {
-    let mut lists = FlatLists::with_room(alloc, room)?;
+    let mut lists = FlatLists::with_room(alloc, spare, room)?;
     for (number, span) in spans {
         lists.put(*number, span.of(words))?;
     }
