@@ -1,7 +1,7 @@
 -- What code in memory is as raw code.
 use Rattle.std.specs.Prelude.{ℕ, map, Bool, Option, None, Some, if◌then◌else◌}
-use Rattle.bytecode.specs.declared.operator.BinaryOperator.{BinaryOperator}
-use Rattle.bytecode.specs.declared.operator.BinaryOperator.TheVariants as operators
+use Rattle.program_trees.specs.declared.operators.WordOperator.{WordOperator}
+use Rattle.program_trees.specs.declared.operators.WordOperator.TheVariants as sign
 use Rattle.bytecode.specs.declared.instruction.Register.{Register}
 use Rattle.bytecode.specs.declared.instruction.Instruction.{Instruction}
 use Rattle.bytecode.specs.declared.instruction.Instruction.TheVariants as instructions
@@ -12,21 +12,22 @@ use Rattle.bytecode.specs.Decoded.{Head}
 use Rattle.bytecode.specs.Raw.{Raw, Literal, Move, Store, Binary, Not, Cast, Classify, Fill, At, Put, Size, Cat, Sum, Bits, Declassify, Argument}
 use Rattle.bytecode.specs.Raw.{Publish, Assert, Branch, Jump, Call, Return, ReturnNone, RawFunction, RawCode}
 
-abbrev pub operator_byte : BinaryOperator → ℕ
-operator_byte operators.Add = 0
-operator_byte operators.Subtract = 1
-operator_byte operators.Multiply = 2
-operator_byte operators.Divide = 3
-operator_byte operators.Remainder = 4
-operator_byte operators.Equal = 5
-operator_byte operators.NotEqual = 6
-operator_byte operators.Less = 7
-operator_byte operators.LessOrEqual = 8
-operator_byte operators.Greater = 9
-operator_byte operators.GreaterOrEqual = 10
-operator_byte operators.And = 11
-operator_byte operators.Or = 12
-operator_byte operators.Xor = 13
+-- the byte of an operator's sign
+abbrev pub operator_byte : WordOperator → ℕ
+operator_byte sign.Add = 0
+operator_byte sign.Subtract = 1
+operator_byte sign.Multiply = 2
+operator_byte sign.Divide = 3
+operator_byte sign.Remainder = 4
+operator_byte sign.Equal = 5
+operator_byte sign.NotEqual = 6
+operator_byte sign.Less = 7
+operator_byte sign.LessOrEqual = 8
+operator_byte sign.Greater = 9
+operator_byte sign.GreaterOrEqual = 10
+operator_byte sign.And = 11
+operator_byte sign.Or = 12
+operator_byte sign.Xor = 13
 
 -- 65535 for none
 abbrev pub result_register : Option Register → ℕ
@@ -40,7 +41,7 @@ abbrev pub raw_instruction : Instruction → Raw
 raw_instruction (instructions.Literal d x) = Literal d.0 x
 raw_instruction (instructions.Move d r) = Move d.0 r.0
 raw_instruction (instructions.Store d r) = Store d.0 r.0
-raw_instruction (instructions.Binary o d a b line) = Binary (operator_byte o) d.0 a.0 b.0 line
+raw_instruction (instructions.Binary s d a b line) = Binary (operator_byte s) d.0 a.0 b.0 line
 raw_instruction (instructions.Not d r) = Not d.0 r.0
 raw_instruction (instructions.Cast d r) = Cast d.0 r.0
 raw_instruction (instructions.Classify d r) = Classify d.0 r.0

@@ -27,13 +27,13 @@ impl Instruction {
             Instruction::Move { to, source } => Ok(Instruction::Move { to, source }),
             Instruction::Store { to, source } => Ok(Instruction::Store { to, source }),
             Instruction::Binary {
-                operator,
+                sign,
                 to,
                 left,
                 right,
                 line,
             } => Ok(Instruction::Binary {
-                operator,
+                sign,
                 to,
                 left,
                 right,

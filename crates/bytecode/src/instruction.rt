@@ -1,4 +1,4 @@
-use crate::operator::BinaryOperator;
+use program_trees::WordOperator;
 
 /// A register of a function, by its place.
 #[derive(Clone, Copy)]
@@ -35,8 +35,9 @@ pub enum Instruction {
         to: Register,
         source: Register,
     },
+    /// The operator of this sign between operands of their data type.
     Binary {
-        operator: BinaryOperator,
+        sign: WordOperator,
         to: Register,
         left: Register,
         right: Register,
@@ -145,7 +146,7 @@ impl Drop for Instruction {
             | Instruction::Move { to: _, source: _ }
             | Instruction::Store { to: _, source: _ }
             | Instruction::Binary {
-                operator: _,
+                sign: _,
                 to: _,
                 left: _,
                 right: _,

@@ -29,4 +29,3 @@ pub use fault::{DecodeErr, DecodeFault, FaultKind};
 pub use instruction::{FunctionPlace, Instruction, JumpTarget, NO_RESULT, NamePlace, Register};
 pub use kind::Kind;
 pub use laws::{read_code_is_written, written_code_is_read_again};
-pub use operator::BinaryOperator;

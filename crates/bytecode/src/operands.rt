@@ -10,7 +10,7 @@ ghost use Rattle.bytecode.specs.Writable.{arguments_at};
 use crate::fault::Stopped;
 use crate::instruction::{FunctionPlace, Instruction, JumpTarget, NO_RESULT, NamePlace, Register};
 use crate::lists::push;
-use crate::operator::operator_of;
+use crate::operator::sign_of;
 use crate::reader::Reader;
 use crate::tag::{Tag, tag_of};
 use crate::test::Test;
@@ -48,7 +48,7 @@ fn made(tag: Tag, o: Operands) -> Instruction
             source: Register(o.second),
         },
         Tag::Binary => Instruction::Binary {
-            operator: operator_of(o.operator),
+            sign: sign_of(o.operator),
             to: Register(o.first),
             left: Register(o.second),
             right: Register(o.third),

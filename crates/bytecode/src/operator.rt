@@ -1,68 +1,50 @@
+// The bytes of operators: each is that of the operator's sign.
 ghost use Rattle.std.specs.Prelude.{◌≡◌, ◌<◌};
 ghost use Rattle.bytecode.specs.InMemory.{operator_byte};
 
-/// An operator between two registers.
-#[derive(Clone, Copy)]
-pub enum BinaryOperator {
-    Add,
-    Subtract,
-    Multiply,
-    Divide,
-    Remainder,
-    Equal,
-    NotEqual,
-    Less,
-    LessOrEqual,
-    Greater,
-    GreaterOrEqual,
-    And,
-    Or,
-    Xor,
-}
+use program_trees::WordOperator;
 
-impl BinaryOperator {
-    /// The operator's byte.
-    pub fn byte(self) -> u8
-        ensures { result ≡ operator_byte self }
-    {
-        match self {
-            BinaryOperator::Add => 0,
-            BinaryOperator::Subtract => 1,
-            BinaryOperator::Multiply => 2,
-            BinaryOperator::Divide => 3,
-            BinaryOperator::Remainder => 4,
-            BinaryOperator::Equal => 5,
-            BinaryOperator::NotEqual => 6,
-            BinaryOperator::Less => 7,
-            BinaryOperator::LessOrEqual => 8,
-            BinaryOperator::Greater => 9,
-            BinaryOperator::GreaterOrEqual => 10,
-            BinaryOperator::And => 11,
-            BinaryOperator::Or => 12,
-            BinaryOperator::Xor => 13,
-        }
+/// The byte of a sign.
+pub(crate) fn byte_of(sign: WordOperator) -> u8
+    ensures { result ≡ operator_byte sign }
+{
+    match sign {
+        WordOperator::Add => 0,
+        WordOperator::Subtract => 1,
+        WordOperator::Multiply => 2,
+        WordOperator::Divide => 3,
+        WordOperator::Remainder => 4,
+        WordOperator::Equal => 5,
+        WordOperator::NotEqual => 6,
+        WordOperator::Less => 7,
+        WordOperator::LessOrEqual => 8,
+        WordOperator::Greater => 9,
+        WordOperator::GreaterOrEqual => 10,
+        WordOperator::And => 11,
+        WordOperator::Or => 12,
+        WordOperator::Xor => 13,
     }
 }
 
-/// The operator of a byte that is one.
-pub(crate) fn operator_of(byte: u8) -> BinaryOperator
+/// The sign of a byte that is an operator's.
+pub(crate) fn sign_of(byte: u8) -> WordOperator
     requires { byte < 14 }
     ensures { operator_byte result ≡ byte }
 {
     match byte {
-        0 => BinaryOperator::Add,
-        1 => BinaryOperator::Subtract,
-        2 => BinaryOperator::Multiply,
-        3 => BinaryOperator::Divide,
-        4 => BinaryOperator::Remainder,
-        5 => BinaryOperator::Equal,
-        6 => BinaryOperator::NotEqual,
-        7 => BinaryOperator::Less,
-        8 => BinaryOperator::LessOrEqual,
-        9 => BinaryOperator::Greater,
-        10 => BinaryOperator::GreaterOrEqual,
-        11 => BinaryOperator::And,
-        12 => BinaryOperator::Or,
-        _ => BinaryOperator::Xor,
+        0 => WordOperator::Add,
+        1 => WordOperator::Subtract,
+        2 => WordOperator::Multiply,
+        3 => WordOperator::Divide,
+        4 => WordOperator::Remainder,
+        5 => WordOperator::Equal,
+        6 => WordOperator::NotEqual,
+        7 => WordOperator::Less,
+        8 => WordOperator::LessOrEqual,
+        9 => WordOperator::Greater,
+        10 => WordOperator::GreaterOrEqual,
+        11 => WordOperator::And,
+        12 => WordOperator::Or,
+        _ => WordOperator::Xor,
     }
 }

@@ -6,6 +6,7 @@ ghost use Rattle.bytecode.specs.declared.instruction.Register.{Register};
 
 use crate::instruction::{Instruction, NO_RESULT, Register};
 use crate::numbers::{Number, push_numbers};
+use crate::operator::byte_of;
 use std::alloc::AllocError;
 
 fn push_single(text: &mut Vec<u8>, tag: u8, operand: u16) -> Result<(), AllocError>
@@ -144,12 +145,12 @@ pub(crate) fn push_instruction(
         Instruction::Move { to, source } => push_pair(text, 0x02, to.0, source.0),
         Instruction::Store { to, source } => push_pair(text, 0x03, to.0, source.0),
         Instruction::Binary {
-            operator,
+            sign,
             to,
             left,
             right,
             line,
-        } => push_binary(text, operator.byte(), to.0, left.0, right.0, line),
+        } => push_binary(text, byte_of(sign), to.0, left.0, right.0, line),
         Instruction::Not { to, source } => push_pair(text, 0x05, to.0, source.0),
         Instruction::Cast { to, source } => push_pair(text, 0x06, to.0, source.0),
         Instruction::Classify { to, source } => push_pair(text, 0x07, to.0, source.0),

@@ -10,7 +10,6 @@ use Rattle.program_trees.specs.declared.operators.Cast.{Cast}
 use Rattle.program_trees.specs.declared.operators.Cast.TheVariants.{WordToWord, WordToBool, BoolToWord, BoolToBool}
 use Rattle.program_trees.specs.declared.operators.Operands.{Operands}
 use Rattle.program_trees.specs.declared.operators.Operands.TheVariants.{Scalars, ArrayAndScalar, ScalarAndArray, Arrays}
-use Rattle.program_trees.specs.declared.operators.WordOperator.TheVariants as word
 use Rattle.program_trees.specs.declared.operators.BoolOperator.TheVariants as truth
 use Rattle.program_trees.specs.declared.operators.BinaryOperator.{BinaryOperator}
 use Rattle.program_trees.specs.declared.operators.BinaryOperator.TheVariants.{Words, Bools}
@@ -19,6 +18,7 @@ use Rattle.code_model.specs.Operations.{result_shape}
 use Rattle.bytecode.specs.declared.kind.Kind.{Kind}
 use Rattle.verified_code.specs.Fitting.{same_truth, same_element, same_kind, kind_at, public_scalar, is_there, operator_at}
 use Rattle.verified_code.specs.Fitting.{operator_exists, secrecy_fits, result_kind, binary_fits}
+use Rattle.verified_code.proofs.Bytes.{sign_back, byte_low}
 use Rattle.code_model.specs.Words.{truth_word}
 use Rattle.code_model.specs.Kinds.{kind_of}
 use Rattle.code_model.specs.Kinded.{HasKind, left_array, right_array, cast_source, cast_target}
@@ -66,20 +66,7 @@ three_of t x y z a b c e f g h = ap (λ w. t w y z) e ∙ ap (λ w. t a w z) f �
 -- ---- OPERATORS
 
 pub operator_back : (op : BinaryOperator) → operator_at (operand_element op) (operator_number op) ≡ op
-operator_back (Words word.Add) = refl
-operator_back (Words word.Subtract) = refl
-operator_back (Words word.Multiply) = refl
-operator_back (Words word.Divide) = refl
-operator_back (Words word.Remainder) = refl
-operator_back (Words word.Equal) = refl
-operator_back (Words word.NotEqual) = refl
-operator_back (Words word.Less) = refl
-operator_back (Words word.LessOrEqual) = refl
-operator_back (Words word.Greater) = refl
-operator_back (Words word.GreaterOrEqual) = refl
-operator_back (Words word.And) = refl
-operator_back (Words word.Or) = refl
-operator_back (Words word.Xor) = refl
+operator_back (Words op) = ap Words (sign_back op)
 operator_back (Bools truth.Equal) = refl
 operator_back (Bools truth.NotEqual) = refl
 operator_back (Bools truth.And) = refl
@@ -87,20 +74,7 @@ operator_back (Bools truth.Or) = refl
 operator_back (Bools truth.Xor) = refl
 
 exists : (op : BinaryOperator) → operator_exists (operand_element op) (operator_number op) ≡ true
-exists (Words word.Add) = refl
-exists (Words word.Subtract) = refl
-exists (Words word.Multiply) = refl
-exists (Words word.Divide) = refl
-exists (Words word.Remainder) = refl
-exists (Words word.Equal) = refl
-exists (Words word.NotEqual) = refl
-exists (Words word.Less) = refl
-exists (Words word.LessOrEqual) = refl
-exists (Words word.Greater) = refl
-exists (Words word.GreaterOrEqual) = refl
-exists (Words word.And) = refl
-exists (Words word.Or) = refl
-exists (Words word.Xor) = refl
+exists (Words op) = byte_low op
 exists (Bools truth.Equal) = refl
 exists (Bools truth.NotEqual) = refl
 exists (Bools truth.And) = refl

@@ -2,10 +2,9 @@
 use Rattle.std.specs.Prelude.{ℕ, ◌+◌, List, [], ◌∷◌, ◌++◌, fold, map, Option, Some, None, if◌then◌else◌}
 use Rattle.std.specs.List.{flat_map, list_any}
 use Rattle.std.specs.Str.{bytes_eq}
-use Rattle.program_trees.specs.declared.operators.WordOperator.TheVariants as word
-use Rattle.program_trees.specs.declared.operators.BoolOperator.TheVariants as truth
 use Rattle.program_trees.specs.declared.operators.BinaryOperator.{BinaryOperator}
-use Rattle.program_trees.specs.declared.operators.BinaryOperator.TheVariants.{Words, Bools}
+use Rattle.program_trees.specs.Operators.{sign_of}
+use Rattle.bytecode.specs.InMemory.{operator_byte}
 use Rattle.bytecode.specs.Raw.{Raw, RawFunction, RawCode}
 use Rattle.bytecode.specs.Raw as raw
 use Rattle.verified_code.specs.Steps.{Step, Function, Literal, Move, Store, Binary, Not, Cast, Classify, Fill, At, Put, Size, Cat, Sum, Bits, Declassify}
@@ -14,27 +13,9 @@ use Rattle.code_model.specs.Words.{truth_word}
 
 -- ---- NUMBERS
 
--- an operator's byte; words and bools have the same for the same sign
+-- an operator's byte: that of its sign
 abbrev pub operator_number : BinaryOperator → ℕ
-operator_number (Words word.Add) = 0
-operator_number (Words word.Subtract) = 1
-operator_number (Words word.Multiply) = 2
-operator_number (Words word.Divide) = 3
-operator_number (Words word.Remainder) = 4
-operator_number (Words word.Equal) = 5
-operator_number (Words word.NotEqual) = 6
-operator_number (Words word.Less) = 7
-operator_number (Words word.LessOrEqual) = 8
-operator_number (Words word.Greater) = 9
-operator_number (Words word.GreaterOrEqual) = 10
-operator_number (Words word.And) = 11
-operator_number (Words word.Or) = 12
-operator_number (Words word.Xor) = 13
-operator_number (Bools truth.Equal) = 5
-operator_number (Bools truth.NotEqual) = 6
-operator_number (Bools truth.And) = 11
-operator_number (Bools truth.Or) = 12
-operator_number (Bools truth.Xor) = 13
+operator_number op = operator_byte (sign_of op)
 
 -- the number that stands for no register
 abbrev pub nowhere : ℕ

@@ -8,11 +8,8 @@ use Rattle.std.proofs.lemmas.List.{length-map}
 use Rattle.program_trees.specs.declared.expression.DataType.{DataType}
 use Rattle.program_trees.specs.declared.expression.DataType.TheVariants.{Uint64}
 use Rattle.program_trees.specs.declared.expression.DataType.TheVariants as datatype
-use Rattle.program_trees.specs.declared.operators.WordOperator.TheVariants as word
-use Rattle.program_trees.specs.declared.operators.BoolOperator.TheVariants as truth
 use Rattle.program_trees.specs.declared.operators.BinaryOperator.{BinaryOperator}
-use Rattle.program_trees.specs.declared.operators.BinaryOperator.TheVariants.{Words, Bools}
-use Rattle.program_trees.specs.Operators.{element_made, operands_of, cast_between}
+use Rattle.program_trees.specs.Operators.{element_made, is_product, operands_of, cast_between}
 use Rattle.language_model.specs.Operations as row
 use Rattle.bytecode.specs.declared.kind.Kind.{Kind}
 use Rattle.bytecode.specs.Raw.{Raw, RawFunction, RawCode}
@@ -29,7 +26,7 @@ use Rattle.verified_code.specs.Steps.{Step, Function}
 use Rattle.code_model.specs.Kinds.{kind_of}
 use Rattle.code_model.specs.Kinded.{HasKind, ArgumentsHave, ResultFits, StepFits, is_return, IsFitting, left_array, right_array, cast_source, cast_target}
 use Rattle.gate_laws.specs.Dealt.{bound}
-use Rattle.gate_laws.specs.Rows.{element_taken, has_gates, secrecy_suits}
+use Rattle.gate_laws.specs.Rows.{element_taken, secrecy_suits}
 use Rattle.gate_laws.specs.Machines.{StepTakes}
 use Rattle.code_model.specs.Laws.{AreFitting}
 use Rattle.gate_laws.specs.Machines.{AreTaking}
@@ -79,48 +76,10 @@ there_kind kinds r h = found_kind kinds r (ltb-true r (length kinds) h)
 
 -- ---- operators
 
-product_same : (op : BinaryOperator) → fitting.is_product op ≡ row.is_product op
-product_same (Words word.Multiply) = refl
-product_same (Bools truth.And) = refl
-product_same (Words word.Add) = refl
-product_same (Words word.Subtract) = refl
-product_same (Words word.Divide) = refl
-product_same (Words word.Remainder) = refl
-product_same (Words word.Equal) = refl
-product_same (Words word.NotEqual) = refl
-product_same (Words word.Less) = refl
-product_same (Words word.LessOrEqual) = refl
-product_same (Words word.Greater) = refl
-product_same (Words word.GreaterOrEqual) = refl
-product_same (Words word.And) = refl
-product_same (Words word.Or) = refl
-product_same (Words word.Xor) = refl
-product_same (Bools truth.Equal) = refl
-product_same (Bools truth.NotEqual) = refl
-product_same (Bools truth.Or) = refl
-product_same (Bools truth.Xor) = refl
-
-gates_same : (op : BinaryOperator) → may_be_private op ≡ has_gates op
-gates_same (Words word.Multiply) = refl
-gates_same (Words word.Add) = refl
-gates_same (Words word.Subtract) = refl
-gates_same (Words word.Divide) = refl
-gates_same (Words word.Remainder) = refl
-gates_same (Words word.Equal) = refl
-gates_same (Words word.NotEqual) = refl
-gates_same (Words word.Less) = refl
-gates_same (Words word.LessOrEqual) = refl
-gates_same (Words word.Greater) = refl
-gates_same (Words word.GreaterOrEqual) = refl
-gates_same (Words word.And) = refl
-gates_same (Words word.Or) = refl
-gates_same (Words word.Xor) = refl
-gates_same (Bools op) = refl
-
 secrecy_same : (op : BinaryOperator) (a b : Bool) → secrecy_fits op a b ≡ true → secrecy_suits op a b
-secrecy_same op true true h = sym (gates_same op) ∙ h
-secrecy_same op true false h = sym (product_same op) ∙ (and_parts (fitting.is_product op) (may_be_private op) h).0
-secrecy_same op false true h = sym (product_same op) ∙ (and_parts (fitting.is_product op) (may_be_private op) h).0
+secrecy_same op true true h = h
+secrecy_same op true false h = (and_parts (is_product op) (may_be_private op) h).0
+secrecy_same op false true h = (and_parts (is_product op) (may_be_private op) h).0
 secrecy_same op false false h = tt
 
 taken_same : (e : DataType) (o : ℕ) → e ≡ element_taken (operator_at e o)

@@ -3,12 +3,12 @@ use Rattle.std.specs.Prelude.{◌≡◌, Bool, true, false, length}
 use Rattle.program_trees.specs.declared.expression.DataType.{DataType}
 use Rattle.program_trees.specs.declared.expression.DataType.TheVariants.{Uint64}
 use Rattle.program_trees.specs.declared.expression.DataType.TheVariants as datatype
-use Rattle.program_trees.specs.declared.operators.WordOperator.TheVariants as word
 use Rattle.program_trees.specs.declared.operators.BinaryOperator.{BinaryOperator}
 use Rattle.program_trees.specs.declared.operators.BinaryOperator.TheVariants.{Words, Bools}
 use Rattle.program_trees.specs.declared.operators.Operands.{Operands}
 use Rattle.language_model.specs.Values.{Value, is_secret}
 use Rattle.language_model.specs.Operations.{is_product}
+use Rattle.verified_code.specs.Fitting.{may_be_private}
 use Rattle.code_model.specs.Kinded.{left_array, right_array}
 use Rattle.gate_laws.specs.Facts.{IsProper}
 
@@ -16,14 +16,9 @@ abbrev pub element_taken : BinaryOperator → DataType
 element_taken (Words op) = Uint64
 element_taken (Bools op) = datatype.Bool
 
--- division, remainder and the operators on the bits of words have no gates
+-- what may have private operands has gates
 abbrev pub has_gates : BinaryOperator → Bool
-has_gates (Words word.Divide) = false
-has_gates (Words word.Remainder) = false
-has_gates (Words word.And) = false
-has_gates (Words word.Or) = false
-has_gates (Words word.Xor) = false
-has_gates op = true
+has_gates = may_be_private
 
 -- both operands are private, or both public, or this is a product; and a private one has gates
 abbrev pub secrecy_suits : BinaryOperator → (left right : Bool) → Type 0

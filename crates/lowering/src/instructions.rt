@@ -1,10 +1,9 @@
 // The instruction of a step, where its numbers are small enough.
 ghost use Rattle.std.specs.Prelude.{◌≡◌, ◌++◌, ◌&&◌, IfErr, IfOk, map};
 ghost use Rattle.std.specs.List.{flat_map, list_all};
-ghost use Rattle.bytecode.specs.InMemory.{operator_byte, raw_function, raw_instruction, result_register};
+ghost use Rattle.bytecode.specs.InMemory.{raw_function, raw_instruction, result_register};
 ghost use Rattle.bytecode.specs.Written.{body_numbers, head_numbers, instruction_numbers};
-ghost use Rattle.program_trees.specs.declared.operators.BinaryOperator.TheVariants.{Bools, Words};
-ghost use Rattle.code_model.specs.Instructions.{instruction, operator_number, raw_function as raw_of, register_or_nowhere};
+ghost use Rattle.code_model.specs.Instructions.{instruction, raw_function as raw_of, register_or_nowhere};
 ghost use Rattle.lowered_expressions.specs.Views.{step_seen};
 ghost use Rattle.lowering.specs.inner.Naming.{texts};
 ghost use Rattle.lowering.specs.Narrow.{IsJust, are_short, capped, capped_instruction, is_short};
@@ -16,7 +15,6 @@ use crate::lists::push;
 use crate::naming::{Names, place_among};
 use bytecode::{CodeFunction, FunctionPlace, Instruction, JumpTarget, NamePlace, Register};
 use lowered_expressions::Step;
-use program_trees::{BinaryOperator, BoolOperator, WordOperator};
 use std::alloc::{AllocError, Global};
 
 // ---- Numbers
@@ -95,50 +93,6 @@ fn is_short_result(to: Option<usize>) -> bool
     match to {
         None => true,
         Some(number) => is_short(number),
-    }
-}
-
-// ---- Operators
-
-fn word_operator(operator: WordOperator) -> bytecode::BinaryOperator
-    ensures { operator_byte result ≡ operator_number (Words operator) }
-{
-    match operator {
-        WordOperator::Add => bytecode::BinaryOperator::Add,
-        WordOperator::Subtract => bytecode::BinaryOperator::Subtract,
-        WordOperator::Multiply => bytecode::BinaryOperator::Multiply,
-        WordOperator::Divide => bytecode::BinaryOperator::Divide,
-        WordOperator::Remainder => bytecode::BinaryOperator::Remainder,
-        WordOperator::Equal => bytecode::BinaryOperator::Equal,
-        WordOperator::NotEqual => bytecode::BinaryOperator::NotEqual,
-        WordOperator::Less => bytecode::BinaryOperator::Less,
-        WordOperator::LessOrEqual => bytecode::BinaryOperator::LessOrEqual,
-        WordOperator::Greater => bytecode::BinaryOperator::Greater,
-        WordOperator::GreaterOrEqual => bytecode::BinaryOperator::GreaterOrEqual,
-        WordOperator::And => bytecode::BinaryOperator::And,
-        WordOperator::Or => bytecode::BinaryOperator::Or,
-        WordOperator::Xor => bytecode::BinaryOperator::Xor,
-    }
-}
-
-fn bool_operator(operator: BoolOperator) -> bytecode::BinaryOperator
-    ensures { operator_byte result ≡ operator_number (Bools operator) }
-{
-    match operator {
-        BoolOperator::Equal => bytecode::BinaryOperator::Equal,
-        BoolOperator::NotEqual => bytecode::BinaryOperator::NotEqual,
-        BoolOperator::And => bytecode::BinaryOperator::And,
-        BoolOperator::Or => bytecode::BinaryOperator::Or,
-        BoolOperator::Xor => bytecode::BinaryOperator::Xor,
-    }
-}
-
-fn binary_operator(operator: BinaryOperator) -> bytecode::BinaryOperator
-    ensures { operator_byte result ≡ operator_number operator }
-{
-    match operator {
-        BinaryOperator::Words(operator) => word_operator(operator),
-        BinaryOperator::Bools(operator) => bool_operator(operator),
     }
 }
 
@@ -238,7 +192,7 @@ fn capped_instruction(
             line,
             ..
         } => Ok(Instruction::Binary {
-            operator: binary_operator(operator),
+            sign: operator.sign(),
             to: register(to),
             left: register(left),
             right: register(right),

@@ -1,5 +1,5 @@
 -- Which operator a sign means on operands of one data type, and what it gives.
-use Rattle.std.specs.Prelude.{Bool, true, false, Option, Some, None, option_map}
+use Rattle.std.specs.Prelude.{Bool, true, false, Option, Some, None, option_map, option_and_then}
 use Rattle.program_trees.specs.declared.expression.DataType.{DataType}
 use Rattle.program_trees.specs.declared.expression.DataType.TheVariants.{Uint64}
 use Rattle.program_trees.specs.declared.expression.DataType.TheVariants as datatype
@@ -37,16 +37,29 @@ word_operator sign.Or = Some word.Or
 word_operator sign.Xor = Some word.Xor
 word_operator _ = None
 
+-- truth values have five of the signs that words have
+abbrev pub on_bools : WordOperator → Option BoolOperator
+on_bools word.Equal = Some truth.Equal
+on_bools word.NotEqual = Some truth.NotEqual
+on_bools word.And = Some truth.And
+on_bools word.Or = Some truth.Or
+on_bools word.Xor = Some truth.Xor
+on_bools _ = None
+
+-- the sign of an operator
+abbrev pub sign_of : BinaryOperator → WordOperator
+sign_of (Words op) = op
+sign_of (Bools truth.Equal) = word.Equal
+sign_of (Bools truth.NotEqual) = word.NotEqual
+sign_of (Bools truth.And) = word.And
+sign_of (Bools truth.Or) = word.Or
+sign_of (Bools truth.Xor) = word.Xor
+
 -- `&&` and `||` that can't cut short are `&` and `|`
 abbrev pub bool_operator : Operator → Option BoolOperator
-bool_operator sign.Equal = Some truth.Equal
-bool_operator sign.NotEqual = Some truth.NotEqual
-bool_operator sign.And = Some truth.And
-bool_operator sign.Or = Some truth.Or
-bool_operator sign.Xor = Some truth.Xor
 bool_operator sign.AndAlso = Some truth.And
 bool_operator sign.OrElse = Some truth.Or
-bool_operator _ = None
+bool_operator op = option_and_then on_bools (word_operator op)
 
 abbrev pub operator_on : Operator → DataType → DataType → Option BinaryOperator
 operator_on op Uint64 Uint64 = option_map Words (word_operator op)

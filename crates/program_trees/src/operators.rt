@@ -1,11 +1,13 @@
 // Operators, casts, and what they give.
 ghost use Rattle.std.specs.Prelude.{◌≡◌};
-ghost use Rattle.program_trees.specs.Operators.{word_result, element_made, result_shape, is_product, connective, operands_of, cast_between, cast_shape};
+ghost use Rattle.program_trees.specs.declared.operators.BinaryOperator.TheVariants.{Bools};
+ghost use Rattle.program_trees.specs.Operators.{word_result, on_bools, sign_of, element_made, result_shape, is_product, connective};
+ghost use Rattle.program_trees.specs.Operators.{operands_of, cast_between, cast_shape};
 
 use crate::expression::DataType;
 use crate::kinds::Shape;
 
-/// An operator on uint64 words.
+/// An operator on uint64 words. It is also the sign of an operator, of whatever data type: truth values have five of the signs.
 #[derive(Clone, Copy)]
 pub enum WordOperator {
     Add,
@@ -34,7 +36,7 @@ pub enum BoolOperator {
     Xor,
 }
 
-/// An operator between two operands of one data type.
+/// An operator between two operands of one data type: that type, with a sign.
 #[derive(Clone, Copy)]
 pub enum BinaryOperator {
     Words(WordOperator),
@@ -42,6 +44,28 @@ pub enum BinaryOperator {
 }
 
 impl WordOperator {
+    /// The operator on truth values of the same sign, if there is one.
+    pub fn on_bools(self) -> Option<BoolOperator>
+        ensures { result ≡ on_bools self }
+    {
+        match self {
+            WordOperator::Equal => Some(BoolOperator::Equal),
+            WordOperator::NotEqual => Some(BoolOperator::NotEqual),
+            WordOperator::And => Some(BoolOperator::And),
+            WordOperator::Or => Some(BoolOperator::Or),
+            WordOperator::Xor => Some(BoolOperator::Xor),
+            WordOperator::Add
+            | WordOperator::Subtract
+            | WordOperator::Multiply
+            | WordOperator::Divide
+            | WordOperator::Remainder
+            | WordOperator::Less
+            | WordOperator::LessOrEqual
+            | WordOperator::Greater
+            | WordOperator::GreaterOrEqual => None,
+        }
+    }
+
     // The data type of what it gives.
     fn result(self) -> DataType
         ensures { result ≡ word_result self }
@@ -65,7 +89,32 @@ impl WordOperator {
     }
 }
 
+impl BoolOperator {
+    // Its sign.
+    fn sign(self) -> WordOperator
+        ensures { result ≡ sign_of (Bools self) }
+    {
+        match self {
+            BoolOperator::Equal => WordOperator::Equal,
+            BoolOperator::NotEqual => WordOperator::NotEqual,
+            BoolOperator::And => WordOperator::And,
+            BoolOperator::Or => WordOperator::Or,
+            BoolOperator::Xor => WordOperator::Xor,
+        }
+    }
+}
+
 impl BinaryOperator {
+    /// Its sign.
+    pub fn sign(self) -> WordOperator
+        ensures { result ≡ sign_of self }
+    {
+        match self {
+            BinaryOperator::Words(operator) => operator,
+            BinaryOperator::Bools(operator) => operator.sign(),
+        }
+    }
+
     /// The data type of what it gives.
     pub fn result(self) -> DataType
         ensures { result ≡ element_made self }

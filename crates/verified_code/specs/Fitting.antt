@@ -1,6 +1,6 @@
 -- What an instruction asks of its place: what it names is there, its operands are of the kinds that it wants, its target may be led to.
 use Rattle.std.specs.Prelude.{ℕ, ◌+◌, Bool, true, false, not, ◌&&◌, ◌||◌, ◌==◌, nat_lt, nat_le, List, [], ◌∷◌, length, take, Option, Some, None}
-use Rattle.std.specs.Prelude.{slice_get, unwrap_or, if◌then◌else◌}
+use Rattle.std.specs.Prelude.{slice_get, unwrap_or, is_some, if◌then◌else◌}
 use Rattle.std.specs.List.{list_all}
 use Rattle.program_trees.specs.declared.expression.DataType.{DataType}
 use Rattle.program_trees.specs.declared.expression.DataType.TheVariants as types
@@ -10,7 +10,8 @@ use Rattle.program_trees.specs.declared.operators.BoolOperator.{BoolOperator}
 use Rattle.program_trees.specs.declared.operators.BoolOperator.TheVariants as truth
 use Rattle.program_trees.specs.declared.operators.BinaryOperator.{BinaryOperator}
 use Rattle.program_trees.specs.declared.operators.BinaryOperator.TheVariants.{Words, Bools}
-use Rattle.program_trees.specs.Operators.{element_made}
+use Rattle.program_trees.specs.Operators.{element_made, on_bools}
+pub use Rattle.program_trees.specs.Operators.{is_product}
 use Rattle.bytecode.specs.declared.kind.Kind.{Kind}
 use Rattle.bytecode.specs.Raw.{Raw, Literal, Move, Store, Binary, Not, Cast, Classify, Fill, At, Put, Size, Cat, Sum, Bits, Declassify, Argument}
 use Rattle.bytecode.specs.Raw.{Publish, Assert, Branch, Jump, Call, Return, ReturnNone, RawFunction, RawCode}
@@ -98,6 +99,7 @@ names_there h ReturnNone = true
 
 -- ---- its operands are of the kinds that it wants
 
+-- the operator on words of a byte: the sign that it stands for
 abbrev pub word_operator_at : ℕ → WordOperator
 word_operator_at o =
     if o == 0 then word.Add else if o == 1 then word.Subtract else if o == 2 then word.Multiply else if o == 3 then word.Divide
@@ -107,21 +109,16 @@ word_operator_at o =
 
 -- only some operators have bool operands
 abbrev pub has_bools : ℕ → Bool
-has_bools o = o == 5 || o == 6 || o == 11 || o == 12 || o == 13
+has_bools o = nat_lt o 14 && is_some (on_bools (word_operator_at o))
 
+-- where it has none, one that no test looks at
 abbrev pub bool_operator_at : ℕ → BoolOperator
-bool_operator_at o =
-    if o == 5 then truth.Equal else if o == 6 then truth.NotEqual else if o == 11 then truth.And else if o == 12 then truth.Or else truth.Xor
+bool_operator_at o = unwrap_or (on_bools (word_operator_at o)) truth.Xor
 
 -- which operator a byte means on operands of a data type
 abbrev pub operator_at : DataType → ℕ → BinaryOperator
 operator_at types.Uint64 o = Words (word_operator_at o)
 operator_at types.Bool o = Bools (bool_operator_at o)
-
-abbrev pub is_product : BinaryOperator → Bool
-is_product (Words word.Multiply) = true
-is_product (Bools truth.And) = true
-is_product _ = false
 
 -- private words have no division, remainder, and, or, xor
 abbrev pub may_be_private : BinaryOperator → Bool

@@ -1,106 +1,74 @@
 // Which operators there are between operands of these kinds, and what they give.
 ghost use Rattle.std.specs.Prelude.{◌≡◌};
 ghost use Rattle.bytecode.specs.InMemory.{operator_byte};
-ghost use Rattle.program_trees.specs.Operators.{element_made};
-ghost use Rattle.verified_code.specs.Fitting.{binary_fits, has_bools, is_product, kind_at, may_be_private, operator_at, operator_exists, secrecy_fits};
+ghost use Rattle.verified_code.specs.Fitting.{binary_fits, kind_at, may_be_private, operator_at, operator_exists, secrecy_fits};
 
 use crate::kinds::{kind_at, same_element, same_kind};
-use bytecode::{BinaryOperator, Kind, Register};
-use program_trees::DataType;
+use bytecode::{Kind, Register};
+use program_trees::{BinaryOperator, BoolOperator, DataType, WordOperator};
 
-fn has_bools(operator: BinaryOperator) -> bool
-    ensures { result ≡ has_bools (operator_byte operator) }
+/// The operator of a sign between operands of a data type. Bools have only some; for another sign it is one that no test looks at.
+#[tactic(auto, using(crate::proofs::Bytes::sign_back))]
+pub(crate) fn operator_on(element: DataType, sign: WordOperator) -> BinaryOperator
+    ensures { result ≡ operator_at element (operator_byte sign) }
 {
-    matches!(
-        operator,
-        BinaryOperator::Equal
-            | BinaryOperator::NotEqual
-            | BinaryOperator::And
-            | BinaryOperator::Or
-            | BinaryOperator::Xor
-    )
+    match element {
+        DataType::Uint64 => BinaryOperator::Words(sign),
+        DataType::Bool => BinaryOperator::Bools(sign.on_bools().unwrap_or(BoolOperator::Xor)),
+    }
 }
 
-fn operator_exists(element: DataType, operator: BinaryOperator) -> bool
-    ensures { result ≡ operator_exists element (operator_byte operator) }
+#[tactic(auto, using(crate::proofs::Bytes::sign_back, crate::proofs::Bytes::byte_low))]
+fn operator_exists(element: DataType, sign: WordOperator) -> bool
+    ensures { result ≡ operator_exists element (operator_byte sign) }
 {
     match element {
         DataType::Uint64 => true,
-        DataType::Bool => has_bools(operator),
+        DataType::Bool => sign.on_bools().is_some(),
     }
 }
 
-/// A product is one of uint64, or and of bools.
-fn is_product(element: DataType, operator: BinaryOperator) -> bool
-    ensures { result ≡ is_product (operator_at element (operator_byte operator)) }
+fn may_be_private(operator: BinaryOperator) -> bool
+    ensures { result ≡ may_be_private operator }
 {
-    match element {
-        DataType::Uint64 => matches!(operator, BinaryOperator::Multiply),
-        DataType::Bool => matches!(operator, BinaryOperator::And),
-    }
-}
-
-fn may_be_private(element: DataType, operator: BinaryOperator) -> bool
-    ensures { result ≡ may_be_private (operator_at element (operator_byte operator)) }
-{
-    match element {
-        DataType::Uint64 => !matches!(
-            operator,
-            BinaryOperator::Divide
-                | BinaryOperator::Remainder
-                | BinaryOperator::And
-                | BinaryOperator::Or
-                | BinaryOperator::Xor
-        ),
-        DataType::Bool => true,
-    }
-}
-
-/// Of which data type the result's elements are.
-fn element_made(element: DataType, operator: BinaryOperator) -> DataType
-    ensures { result ≡ element_made (operator_at element (operator_byte operator)) }
-{
-    let compares = matches!(
+    !matches!(
         operator,
-        BinaryOperator::Equal
-            | BinaryOperator::NotEqual
-            | BinaryOperator::Less
-            | BinaryOperator::LessOrEqual
-            | BinaryOperator::Greater
-            | BinaryOperator::GreaterOrEqual
-    );
-    match element {
-        DataType::Uint64 if !compares => DataType::Uint64,
-        _ => DataType::Bool,
-    }
+        BinaryOperator::Words(
+            WordOperator::Divide
+                | WordOperator::Remainder
+                | WordOperator::And
+                | WordOperator::Or
+                | WordOperator::Xor
+        )
+    )
 }
 
-fn secrecy_fits(operator: BinaryOperator, left: Kind, right: Kind) -> bool
-    ensures { result ≡ secrecy_fits (operator_at left.element (operator_byte operator)) left.secret right.secret }
+fn secrecy_fits(operator: BinaryOperator, left: bool, right: bool) -> bool
+    ensures { result ≡ secrecy_fits operator left right }
 {
-    (left.secret == right.secret || is_product(left.element, operator))
-        && (!(left.secret || right.secret) || may_be_private(left.element, operator))
+    (left == right || operator.is_product()) && (!(left || right) || may_be_private(operator))
 }
 
 pub(crate) fn binary_fits(
     kinds: &[Kind],
-    operator: BinaryOperator,
+    sign: WordOperator,
     to: Register,
     left: Register,
     right: Register,
 ) -> bool
-    ensures { result ≡ binary_fits (operator_byte operator) (kind_at kinds.now to.0) (kind_at kinds.now left.0) (kind_at kinds.now right.0) }
+    ensures { result ≡ binary_fits (operator_byte sign) (kind_at kinds.now to.0) (kind_at kinds.now left.0) (kind_at kinds.now right.0) }
 {
     let to = kind_at(kinds, to);
     let left = kind_at(kinds, left);
     let right = kind_at(kinds, right);
+    let operator = operator_on(left.element, sign);
     let made = Kind {
         secret: left.secret || right.secret,
-        element: element_made(left.element, operator),
+        element: operator.result(),
         array: left.array || right.array,
     };
     same_element(left.element, right.element)
-        && operator_exists(left.element, operator)
-        && secrecy_fits(operator, left, right)
+        && operator_exists(left.element, sign)
+        && secrecy_fits(operator, left.secret, right.secret)
         && same_kind(to, made)
 }

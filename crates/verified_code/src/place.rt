@@ -142,7 +142,7 @@ pub(crate) fn names_there(here: Here<'_>, instruction: &Instruction) -> bool
         }
         | Instruction::Declassify { to, source } => two_there(kinds, *to, *source),
         Instruction::Binary {
-            operator: _,
+            sign: _,
             to,
             left,
             right,
@@ -208,12 +208,12 @@ pub(crate) fn operands_fit(here: Here<'_>, instruction: &Instruction) -> bool
             are_alike(kinds, *to, *source)
         }
         Instruction::Binary {
-            operator,
+            sign,
             to,
             left,
             right,
             line: _,
-        } => binary_fits(kinds, *operator, *to, *left, *right),
+        } => binary_fits(kinds, *sign, *to, *left, *right),
         Instruction::Not { to, source } => not_fits(kinds, *to, *source),
         Instruction::Cast { to, source } => cast_fits(kinds, *to, *source),
         Instruction::Classify { to, source } => classify_fits(kinds, *to, *source),
