@@ -4,8 +4,8 @@ use Rattle.std.specs.Prelude.{replicate}
 use Rattle.language_model.specs.Equality.{eq_plan}
 use Rattle.language_model.specs.Compare.{less_plan}
 use Rattle.gates.specs.declared.gate.Gate.TheVariants.{Const, Add, Sub, Mul, Xor, And, Rep, Conv}
-use Rattle.program_trees.specs.declared.operators.WordOperator.{WordOperator}
-use Rattle.program_trees.specs.declared.operators.WordOperator.TheVariants as word
+use Rattle.program_trees.specs.declared.operators.OperatorSign.{OperatorSign}
+use Rattle.program_trees.specs.declared.operators.OperatorSign.TheVariants as word
 use Rattle.program_trees.specs.declared.operators.BoolOperator.{BoolOperator}
 use Rattle.program_trees.specs.declared.operators.BoolOperator.TheVariants as truth
 use Rattle.program_trees.specs.declared.operators.BinaryOperator.{BinaryOperator}
@@ -35,7 +35,7 @@ equal_alike u v = same_bind (gate_alike (Sub u v)) (λ d. planned_alike (λ firs
 less_alike : (n u v : ℕ) → Alike (Same {A = ℕ}) (less_gates n u v) (less_gates n u v)
 less_alike n u v = planned_alike (λ first. less_plan first u v n)
 
-word_alike : (op : WordOperator) (n u v : ℕ) → Alike (Same {A = ℕ}) (operator_gates (Words op) n u v) (operator_gates (Words op) n u v)
+word_alike : (op : OperatorSign) (n u v : ℕ) → Alike (Same {A = ℕ}) (operator_gates (Words op) n u v) (operator_gates (Words op) n u v)
 word_alike word.Add n u v = gate_alike (Add u v)
 word_alike word.Subtract n u v = gate_alike (Sub u v)
 word_alike word.Multiply n u v = gate_alike (Mul u v)

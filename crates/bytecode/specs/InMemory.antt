@@ -1,7 +1,7 @@
 -- What code in memory is as raw code.
 use Rattle.std.specs.Prelude.{ℕ, map, Bool, Option, None, Some, if◌then◌else◌}
-use Rattle.program_trees.specs.declared.operators.WordOperator.{WordOperator}
-use Rattle.program_trees.specs.declared.operators.WordOperator.TheVariants as sign
+use Rattle.program_trees.specs.declared.operators.OperatorSign.{OperatorSign}
+use Rattle.program_trees.specs.declared.operators.OperatorSign.TheVariants as sign
 use Rattle.bytecode.specs.declared.instruction.Register.{Register}
 use Rattle.bytecode.specs.declared.instruction.Instruction.{Instruction}
 use Rattle.bytecode.specs.declared.instruction.Instruction.TheVariants as instructions
@@ -13,7 +13,7 @@ use Rattle.bytecode.specs.Raw.{Raw, Literal, Move, Store, Binary, Not, Cast, Cla
 use Rattle.bytecode.specs.Raw.{Publish, Assert, Branch, Jump, Call, Return, ReturnNone, RawFunction, RawCode}
 
 -- the byte of an operator's sign
-abbrev pub operator_byte : WordOperator → ℕ
+abbrev pub operator_byte : OperatorSign → ℕ
 operator_byte sign.Add = 0
 operator_byte sign.Subtract = 1
 operator_byte sign.Multiply = 2

@@ -1,4 +1,4 @@
-use program_trees::WordOperator;
+use program_trees::OperatorSign;
 
 /// A register of a function, by its place.
 #[derive(Clone, Copy)]
@@ -37,7 +37,7 @@ pub enum Instruction {
     },
     /// The operator of this sign between operands of their data type.
     Binary {
-        sign: WordOperator,
+        sign: OperatorSign,
         to: Register,
         left: Register,
         right: Register,

@@ -5,7 +5,7 @@ use Rattle.program_trees.specs.declared.expression.DataType.TheVariants.{Uint64}
 use Rattle.program_trees.specs.declared.kinds.SlotDomain.TheVariants as domain
 use Rattle.program_trees.specs.declared.typed_function.Returned.TheVariants as given
 use Rattle.program_trees.specs.declared.operators.BinaryOperator.TheVariants.{Words}
-use Rattle.program_trees.specs.declared.operators.WordOperator.TheVariants as word
+use Rattle.program_trees.specs.declared.operators.OperatorSign.TheVariants as word
 use Rattle.program_trees.specs.declared.operators.Operands.TheVariants.{Scalars}
 use Rattle.program_trees.specs.declared.operators.Connective.TheVariants.{AndAlso}
 use Rattle.program_trees.specs.Shapes.{shape_of}

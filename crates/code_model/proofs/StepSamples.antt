@@ -2,7 +2,7 @@
 use Rattle.std.proofs.Common.{◌≡◌, List, [], ◌∷◌, None, true, false, refl}
 use Rattle.std.specs.Prelude.{codes}
 use Rattle.program_trees.specs.declared.expression.DataType.TheVariants.{Uint64}
-use Rattle.program_trees.specs.declared.operators.WordOperator.TheVariants as word
+use Rattle.program_trees.specs.declared.operators.OperatorSign.TheVariants as word
 use Rattle.program_trees.specs.declared.operators.BinaryOperator.TheVariants.{Words}
 use Rattle.program_trees.specs.declared.operators.Operands.TheVariants.{Scalars}
 use Rattle.bytecode.specs.declared.kind.Kind.{Kind}

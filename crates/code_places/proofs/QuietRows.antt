@@ -13,8 +13,8 @@ use Rattle.plans.specs.Equality.{eq_plan}
 use Rattle.plans.specs.BitExtract.{bits_plan}
 use Rattle.language_model.specs.Compare.{less_plan}
 use Rattle.program_trees.specs.declared.kinds.Shape.{Shape}
-use Rattle.program_trees.specs.declared.operators.WordOperator.{WordOperator}
-use Rattle.program_trees.specs.declared.operators.WordOperator.TheVariants as word
+use Rattle.program_trees.specs.declared.operators.OperatorSign.{OperatorSign}
+use Rattle.program_trees.specs.declared.operators.OperatorSign.TheVariants as word
 use Rattle.program_trees.specs.declared.operators.BoolOperator.{BoolOperator}
 use Rattle.program_trees.specs.declared.operators.BoolOperator.TheVariants as truth
 use Rattle.program_trees.specs.declared.operators.BinaryOperator.{BinaryOperator}
@@ -90,7 +90,7 @@ module _ (told : Bool) where
   less_quiet : (n u v : ℕ) → Quiet told (less_gates n u v)
   less_quiet n u v = quiet_planned told (λ first. less_plan first u v n)
 
-  word_quiet : (op : WordOperator) (n u v : ℕ) → Quiet told (operator_gates (binary.Words op) n u v)
+  word_quiet : (op : OperatorSign) (n u v : ℕ) → Quiet told (operator_gates (binary.Words op) n u v)
   word_quiet word.Add n u v = quiet_gate told (Add u v)
   word_quiet word.Subtract n u v = quiet_gate told (Sub u v)
   word_quiet word.Multiply n u v = quiet_gate told (Mul u v)

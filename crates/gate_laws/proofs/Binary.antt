@@ -9,7 +9,7 @@ use Rattle.program_trees.specs.declared.expression.DataType.TheVariants as datat
 use Rattle.proto_core.specs.RingsKeepLaws.{add_ring_laws, xor_ring_laws}
 use Rattle.gates.specs.declared.gate.Gate.TheVariants.{MulPub}
 use Rattle.gates.specs.Clear.{each_two, first_word, ring_of}
-use Rattle.program_trees.specs.declared.operators.WordOperator.TheVariants as word
+use Rattle.program_trees.specs.declared.operators.OperatorSign.TheVariants as word
 use Rattle.program_trees.specs.declared.operators.BoolOperator.TheVariants as truth
 use Rattle.program_trees.specs.declared.operators.BinaryOperator.{BinaryOperator}
 use Rattle.program_trees.specs.declared.operators.BinaryOperator.TheVariants.{Words, Bools}

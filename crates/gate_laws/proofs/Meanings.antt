@@ -14,8 +14,8 @@ use Rattle.program_trees.specs.declared.expression.DataType.TheVariants as datat
 use Rattle.proto_core.specs.RingsKeepLaws.{add_ring_laws}
 use Rattle.std.proofs.Math.Nat.{div-le_self, mod-le}
 use Rattle.std.proofs.lemmas.Nat.{xor_lt, or_lt, and_le_l}
-use Rattle.program_trees.specs.declared.operators.WordOperator.{WordOperator}
-use Rattle.program_trees.specs.declared.operators.WordOperator.TheVariants as word
+use Rattle.program_trees.specs.declared.operators.OperatorSign.{OperatorSign}
+use Rattle.program_trees.specs.declared.operators.OperatorSign.TheVariants as word
 use Rattle.program_trees.specs.declared.operators.BoolOperator.{BoolOperator}
 use Rattle.program_trees.specs.declared.operators.BoolOperator.TheVariants as truth
 use Rattle.program_trees.specs.declared.operators.BinaryOperator.{BinaryOperator}
@@ -151,7 +151,7 @@ some_bound datatype.Bool = omega arith
 and_lt : (x y : ℕ) → x < 2 ^ 64 → bit_and x y < 2 ^ 64
 and_lt x y h = let e = and_le_l x y in omega (arith, e, h)
 
-pub word_range : (op : WordOperator) (x y : ℕ) → x < 2 ^ 64 → y < 2 ^ 64 → meaning (Words op) x y < bound (element_made (Words op))
+pub word_range : (op : OperatorSign) (x y : ℕ) → x < 2 ^ 64 → y < 2 ^ 64 → meaning (Words op) x y < bound (element_made (Words op))
 word_range word.Add x y h k = add_ring_laws.add_word x y
 word_range word.Subtract x y h k = add_ring_laws.sub_word x y
 word_range word.Multiply x y h k = add_ring_laws.mul_word x y

@@ -14,8 +14,8 @@ use Rattle.plans.specs.EqualityLaw as equality
 use Rattle.plans.specs.Compare.{less_plan}
 use Rattle.plans.specs.CompareLaw as compare
 use Rattle.shared_plans.specs.Plans.{zero_test_kinds, comparison_kinds}
-use Rattle.program_trees.specs.declared.operators.WordOperator.{WordOperator}
-use Rattle.program_trees.specs.declared.operators.WordOperator.TheVariants as word
+use Rattle.program_trees.specs.declared.operators.OperatorSign.{OperatorSign}
+use Rattle.program_trees.specs.declared.operators.OperatorSign.TheVariants as word
 use Rattle.program_trees.specs.declared.operators.BoolOperator.{BoolOperator}
 use Rattle.program_trees.specs.declared.operators.BoolOperator.TheVariants as truth
 use Rattle.program_trees.specs.declared.operators.BinaryOperator.{BinaryOperator}
@@ -130,7 +130,7 @@ module _ (w : World) (d : Dealt) where
           (length-each_two f us vs same ∙ left)
           (two_below (2 ^ 64) 2 f us vs (omega arith) (λ x y a b. low x y) p q)))
 
-      word_suits : (op : WordOperator) → has_gates (Words op) ≡ true
+      word_suits : (op : OperatorSign) → has_gates (Words op) ≡ true
           → Suits w d fs (drawn_by (words_of_operator (Words op) n)) (operator_gates (Words op) n u v) none_of
           (Numbered (ring_for (element_made (Words op))) (each_two (meaning (Words op)) us vs)) (Any {A = ℕ})
       word_suits word.Add h =

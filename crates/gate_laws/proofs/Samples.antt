@@ -12,7 +12,7 @@ use Rattle.gates.specs.declared.ring_kind.RingKind.TheVariants.{Arithmetic}
 use Rattle.gates.specs.Clear.{Values}
 use Rattle.shared_plans.specs.Shares.{AreShares, Shared, sum_of, share_at, AllHeld}
 use Rattle.program_trees.specs.declared.operators.BinaryOperator.TheVariants.{Words}
-use Rattle.program_trees.specs.declared.operators.WordOperator.TheVariants as word
+use Rattle.program_trees.specs.declared.operators.OperatorSign.TheVariants as word
 use Rattle.program_trees.specs.declared.operators.Operands.TheVariants.{Scalars}
 use Rattle.program_trees.specs.Shapes.{shape_of}
 use Rattle.language_model.specs.Effects.{World, GivenInput, Source, words_each}

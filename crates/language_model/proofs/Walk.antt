@@ -16,8 +16,8 @@ use Rattle.plans.specs.Compare.{less_plan}
 use Rattle.program_trees.specs.declared.expression.DataType.TheVariants as datatype
 use Rattle.reached_instances.specs.Shape.{Shape}
 use Rattle.reached_instances.specs.Slot.{Slot}
-use Rattle.reached_instances.specs.WordOperator.{WordOperator}
-use Rattle.reached_instances.specs.WordOperator.TheVariants as word
+use Rattle.reached_instances.specs.OperatorSign.{OperatorSign}
+use Rattle.reached_instances.specs.OperatorSign.TheVariants as word
 use Rattle.reached_instances.specs.BoolOperator.{BoolOperator}
 use Rattle.reached_instances.specs.BoolOperator.TheVariants as truth
 use Rattle.reached_instances.specs.BinaryOperator.{BinaryOperator}
@@ -149,7 +149,7 @@ module _ (w w' : World) (P : (A : Type 0) → Effect A → Effect A → Type 0) 
   pub less_holds : (n u v : ℕ) → P _ (less_gates n u v) (less_gates n u v)
   less_holds n u v = planned_holds (λ first. less_plan first u v n)
 
-  pub word_gates_hold : (op : WordOperator) (n u v : ℕ) → P _ (operator_gates (binary.Words op) n u v) (operator_gates (binary.Words op) n u v)
+  pub word_gates_hold : (op : OperatorSign) (n u v : ℕ) → P _ (operator_gates (binary.Words op) n u v) (operator_gates (binary.Words op) n u v)
   word_gates_hold word.Add n u v = law.on_gate _
   word_gates_hold word.Subtract n u v = law.on_gate _
   word_gates_hold word.Multiply n u v = law.on_gate _

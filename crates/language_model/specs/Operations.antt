@@ -18,7 +18,7 @@ use Rattle.plans.specs.Equality.{eq_plan}
 use Rattle.plans.specs.BitExtract.{bits_plan}
 use Rattle.plans.specs.Compare.{less_plan}
 use Rattle.reached_instances.specs.Shape.{Shape}
-use Rattle.reached_instances.specs.WordOperator.TheVariants as word
+use Rattle.reached_instances.specs.OperatorSign.TheVariants as word
 use Rattle.reached_instances.specs.BoolOperator.TheVariants as truth
 use Rattle.reached_instances.specs.BinaryOperator.{BinaryOperator}
 use Rattle.reached_instances.specs.BinaryOperator.TheVariants as binary

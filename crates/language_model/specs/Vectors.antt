@@ -15,8 +15,8 @@ use Rattle.reached_instances.specs.Slot.{Slot}
 use Rattle.reached_instances.specs.SlotDomain.{SlotDomain}
 use Rattle.reached_instances.specs.SlotDomain.TheVariants as domain
 use Rattle.reached_instances.specs.Returned.TheVariants as given
-use Rattle.reached_instances.specs.WordOperator.{WordOperator}
-use Rattle.reached_instances.specs.WordOperator.TheVariants as word
+use Rattle.reached_instances.specs.OperatorSign.{OperatorSign}
+use Rattle.reached_instances.specs.OperatorSign.TheVariants as word
 use Rattle.reached_instances.specs.BoolOperator.TheVariants as truth
 use Rattle.reached_instances.specs.BinaryOperator.TheVariants as operator
 use Rattle.reached_instances.specs.Operands.TheVariants.{Scalars, Arrays}
@@ -65,7 +65,7 @@ ask k text = input_statement 2 k text
 abbrev tell : List ℕ → TypedTree → TypedStatementTree
 tell = publish_statement
 
-abbrev words : WordOperator → TypedTree → TypedTree → TypedTree
+abbrev words : OperatorSign → TypedTree → TypedTree → TypedTree
 words op a b = binary_node 2 (operator.Words op) Scalars a b
 
 abbrev secret_word : List ℕ → ℕ → GivenInput

@@ -3,7 +3,7 @@ use Rattle.std.specs.Prelude.{ℕ, ◌/◌, ◌%◌, Bool, true, false, not, ◌
 use Rattle.std.specs.List.{list_any}
 use Rattle.plans.specs.Rings.{add_ring}
 use Rattle.plans.specs.Clear.{each_two, first_word}
-use Rattle.reached_instances.specs.WordOperator.TheVariants as word
+use Rattle.reached_instances.specs.OperatorSign.TheVariants as word
 use Rattle.reached_instances.specs.BoolOperator.TheVariants as truth
 use Rattle.reached_instances.specs.BinaryOperator.{BinaryOperator}
 use Rattle.reached_instances.specs.BinaryOperator.TheVariants.{Words, Bools}

@@ -2,7 +2,7 @@
 ghost use Rattle.value_file.specs.Input.{AreInputs};
 
 use clear_eval::eval;
-use program_trees::{BinaryOperator, DataType, TypedProgram, WordOperator};
+use program_trees::{BinaryOperator, DataType, OperatorSign, TypedProgram};
 use row_files::Lines;
 use sc_text::Event;
 use std::alloc::{AllocError, Global};
@@ -13,12 +13,12 @@ const TOP: u64 = 18_446_744_073_709_551_615;
 
 // Of lists of different lengths the differences, words that are flipped, their lowest bits, 7 divided by 0, and the first word of none.
 fn words(alloc: Global) -> Result<Vec<u64>, AllocError> {
-    let minus = BinaryOperator::Words(WordOperator::Subtract);
+    let minus = BinaryOperator::Words(OperatorSign::Subtract);
     let mut found = each(alloc, minus, &[5, 1, 9], &[2, 3])?;
     found.append(&mut flipped(alloc, &[0, 1, 2])?)?;
     found.append(&mut low_bits(alloc, &[TOP, 6])?)?;
-    found.push(operation(BinaryOperator::Words(WordOperator::Divide), 7, 0))?;
-    found.push(operation(BinaryOperator::Words(WordOperator::Remainder), 7, 0))?;
+    found.push(operation(BinaryOperator::Words(OperatorSign::Divide), 7, 0))?;
+    found.push(operation(BinaryOperator::Words(OperatorSign::Remainder), 7, 0))?;
     found.push(first_word(&[]))?;
     Ok(found)
 }

@@ -7,7 +7,7 @@ use Rattle.program_trees.specs.declared.expression.DataType.TheVariants.{Uint64}
 use Rattle.program_trees.specs.declared.expression.DataType.TheVariants as datatype
 use Rattle.program_trees.specs.declared.kinds.SlotDomain.TheVariants as slot
 use Rattle.program_trees.specs.declared.typed_function.Returned.TheVariants.{Nothing, Value}
-use Rattle.program_trees.specs.declared.operators.WordOperator.TheVariants as word
+use Rattle.program_trees.specs.declared.operators.OperatorSign.TheVariants as word
 use Rattle.program_trees.specs.declared.operators.BinaryOperator.TheVariants.{Words}
 use Rattle.program_trees.specs.declared.operators.Operands.TheVariants.{Scalars}
 use Rattle.program_trees.specs.TypedTree.{word_node, slot_node, call_node, binary_node, declassify_node, typed_trees_of}

@@ -16,7 +16,7 @@ use Rattle.program_trees.specs.declared.kinds.SlotDomain.TheVariants.{Public, Pr
 use Rattle.program_trees.specs.declared.kinds.SlotDomain.{SlotDomain}
 use Rattle.program_trees.specs.declared.kinds.Slot.{Slot}
 use Rattle.program_trees.specs.declared.typed_function.Returned.TheVariants.{Nothing, Value}
-use Rattle.program_trees.specs.declared.operators.WordOperator.TheVariants as word
+use Rattle.program_trees.specs.declared.operators.OperatorSign.TheVariants as word
 use Rattle.program_trees.specs.declared.operators.BoolOperator.TheVariants as bool
 use Rattle.program_trees.specs.declared.operators.BinaryOperator.TheVariants.{Words, Bools}
 use Rattle.program_trees.specs.declared.operators.Operands.TheVariants.{Scalars, ArrayAndScalar}

@@ -3,27 +3,27 @@ ghost use Rattle.std.specs.Prelude.{◌≡◌};
 ghost use Rattle.program_trees.specs.Operators.{word_operator, bool_operator, operator_on, may_cut_short};
 
 use program_trees::{
-    BinaryOperator, BoolOperator, Connective, DataType, Operands, Operator, WordOperator,
+    BinaryOperator, BoolOperator, Connective, DataType, Operands, Operator, OperatorSign,
 };
 
-fn word_operator(sign: Operator) -> Option<WordOperator>
+fn word_operator(sign: Operator) -> Option<OperatorSign>
     ensures { result ≡ word_operator sign }
 {
     match sign {
-        Operator::Add => Some(WordOperator::Add),
-        Operator::Subtract => Some(WordOperator::Subtract),
-        Operator::Multiply => Some(WordOperator::Multiply),
-        Operator::Divide => Some(WordOperator::Divide),
-        Operator::Remainder => Some(WordOperator::Remainder),
-        Operator::Equal => Some(WordOperator::Equal),
-        Operator::NotEqual => Some(WordOperator::NotEqual),
-        Operator::Less => Some(WordOperator::Less),
-        Operator::LessOrEqual => Some(WordOperator::LessOrEqual),
-        Operator::Greater => Some(WordOperator::Greater),
-        Operator::GreaterOrEqual => Some(WordOperator::GreaterOrEqual),
-        Operator::And => Some(WordOperator::And),
-        Operator::Or => Some(WordOperator::Or),
-        Operator::Xor => Some(WordOperator::Xor),
+        Operator::Add => Some(OperatorSign::Add),
+        Operator::Subtract => Some(OperatorSign::Subtract),
+        Operator::Multiply => Some(OperatorSign::Multiply),
+        Operator::Divide => Some(OperatorSign::Divide),
+        Operator::Remainder => Some(OperatorSign::Remainder),
+        Operator::Equal => Some(OperatorSign::Equal),
+        Operator::NotEqual => Some(OperatorSign::NotEqual),
+        Operator::Less => Some(OperatorSign::Less),
+        Operator::LessOrEqual => Some(OperatorSign::LessOrEqual),
+        Operator::Greater => Some(OperatorSign::Greater),
+        Operator::GreaterOrEqual => Some(OperatorSign::GreaterOrEqual),
+        Operator::And => Some(OperatorSign::And),
+        Operator::Or => Some(OperatorSign::Or),
+        Operator::Xor => Some(OperatorSign::Xor),
         Operator::AndAlso | Operator::OrElse => None,
     }
 }
@@ -32,20 +32,12 @@ fn bool_operator(sign: Operator) -> Option<BoolOperator>
     ensures { result ≡ bool_operator sign }
 {
     match sign {
-        Operator::Equal => Some(BoolOperator::Equal),
-        Operator::NotEqual => Some(BoolOperator::NotEqual),
-        Operator::And | Operator::AndAlso => Some(BoolOperator::And),
-        Operator::Or | Operator::OrElse => Some(BoolOperator::Or),
-        Operator::Xor => Some(BoolOperator::Xor),
-        Operator::Add
-        | Operator::Subtract
-        | Operator::Multiply
-        | Operator::Divide
-        | Operator::Remainder
-        | Operator::Less
-        | Operator::LessOrEqual
-        | Operator::Greater
-        | Operator::GreaterOrEqual => None,
+        Operator::AndAlso => Some(BoolOperator::And),
+        Operator::OrElse => Some(BoolOperator::Or),
+        _ => match word_operator(sign) {
+            Some(operator) => operator.on_bools(),
+            None => None,
+        },
     }
 }
 

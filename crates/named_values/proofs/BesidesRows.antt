@@ -13,8 +13,8 @@ use Rattle.plans.specs.Equality.{eq_plan}
 use Rattle.plans.specs.BitExtract.{bits_plan}
 use Rattle.plans.specs.Compare.{less_plan}
 use Rattle.program_trees.specs.declared.kinds.Shape.{Shape}
-use Rattle.program_trees.specs.declared.operators.WordOperator.{WordOperator}
-use Rattle.program_trees.specs.declared.operators.WordOperator.TheVariants as word
+use Rattle.program_trees.specs.declared.operators.OperatorSign.{OperatorSign}
+use Rattle.program_trees.specs.declared.operators.OperatorSign.TheVariants as word
 use Rattle.program_trees.specs.declared.operators.BoolOperator.{BoolOperator}
 use Rattle.program_trees.specs.declared.operators.BoolOperator.TheVariants as truth
 use Rattle.program_trees.specs.declared.operators.BinaryOperator.{BinaryOperator}
@@ -104,7 +104,7 @@ equal_besides u v = besides_bind (besides_gate (Sub u v)) (λ d. besides_planned
 less_besides : (n u v : ℕ) → Besides (less_gates n u v)
 less_besides n u v = besides_planned (λ first. less_plan first u v n)
 
-word_besides : (op : WordOperator) (n u v : ℕ) → Besides (operator_gates (binary.Words op) n u v)
+word_besides : (op : OperatorSign) (n u v : ℕ) → Besides (operator_gates (binary.Words op) n u v)
 word_besides word.Add n u v = besides_gate (Add u v)
 word_besides word.Subtract n u v = besides_gate (Sub u v)
 word_besides word.Multiply n u v = besides_gate (Mul u v)

@@ -13,8 +13,8 @@ use Rattle.plans.specs.Equality.{eq_plan}
 use Rattle.plans.specs.BitExtract.{bits_plan}
 use Rattle.plans.specs.Compare.{less_plan}
 use Rattle.program_trees.specs.declared.kinds.Shape.{Shape}
-use Rattle.program_trees.specs.declared.operators.WordOperator.{WordOperator}
-use Rattle.program_trees.specs.declared.operators.WordOperator.TheVariants as word
+use Rattle.program_trees.specs.declared.operators.OperatorSign.{OperatorSign}
+use Rattle.program_trees.specs.declared.operators.OperatorSign.TheVariants as word
 use Rattle.program_trees.specs.declared.operators.BoolOperator.{BoolOperator}
 use Rattle.program_trees.specs.declared.operators.BoolOperator.TheVariants as truth
 use Rattle.program_trees.specs.declared.operators.BinaryOperator.{BinaryOperator}
@@ -136,7 +136,7 @@ module _ (N : Numbers) where
     flipped_naming : {c : Effect ℕ} → Naming N c N → Naming N (c >>= row.flip n) N
     flipped_naming h = naming_bind h (λ k m. flip_naming n k m)
 
-    word_naming : (op : WordOperator) → Naming N (row.operator_gates (binary.Words op) n u v) N
+    word_naming : (op : OperatorSign) → Naming N (row.operator_gates (binary.Words op) n u v) N
     word_naming word.Add = gate_naming (gates.Add u v) refl (a, (b, tt))
     word_naming word.Subtract = gate_naming (gates.Sub u v) refl (a, (b, tt))
     word_naming word.Multiply = gate_naming (gates.Mul u v) refl (a, (b, tt))

@@ -6,8 +6,8 @@ use Rattle.program_trees.specs.declared.expression.DataType.TheVariants as datat
 use Rattle.program_trees.specs.declared.expression.Operator.{Operator}
 use Rattle.program_trees.specs.declared.expression.Operator.TheVariants as sign
 use Rattle.program_trees.specs.declared.kinds.Shape.{Shape}
-use Rattle.program_trees.specs.declared.operators.WordOperator.{WordOperator}
-use Rattle.program_trees.specs.declared.operators.WordOperator.TheVariants as word
+use Rattle.program_trees.specs.declared.operators.OperatorSign.{OperatorSign}
+use Rattle.program_trees.specs.declared.operators.OperatorSign.TheVariants as word
 use Rattle.program_trees.specs.declared.operators.BoolOperator.{BoolOperator}
 use Rattle.program_trees.specs.declared.operators.BoolOperator.TheVariants as truth
 use Rattle.program_trees.specs.declared.operators.BinaryOperator.{BinaryOperator}
@@ -20,7 +20,7 @@ use Rattle.program_trees.specs.declared.operators.Cast.{Cast}
 use Rattle.program_trees.specs.declared.operators.Cast.TheVariants.{WordToWord, WordToBool, BoolToWord, BoolToBool}
 use Rattle.program_trees.specs.Shapes.{shape_of}
 
-abbrev pub word_operator : Operator → Option WordOperator
+abbrev pub word_operator : Operator → Option OperatorSign
 word_operator sign.Add = Some word.Add
 word_operator sign.Subtract = Some word.Subtract
 word_operator sign.Multiply = Some word.Multiply
@@ -38,7 +38,7 @@ word_operator sign.Xor = Some word.Xor
 word_operator _ = None
 
 -- truth values have five of the signs that words have
-abbrev pub on_bools : WordOperator → Option BoolOperator
+abbrev pub on_bools : OperatorSign → Option BoolOperator
 on_bools word.Equal = Some truth.Equal
 on_bools word.NotEqual = Some truth.NotEqual
 on_bools word.And = Some truth.And
@@ -47,7 +47,7 @@ on_bools word.Xor = Some truth.Xor
 on_bools _ = None
 
 -- the sign of an operator
-abbrev pub sign_of : BinaryOperator → WordOperator
+abbrev pub sign_of : BinaryOperator → OperatorSign
 sign_of (Words op) = op
 sign_of (Bools truth.Equal) = word.Equal
 sign_of (Bools truth.NotEqual) = word.NotEqual
@@ -67,7 +67,7 @@ operator_on op datatype.Bool datatype.Bool = option_map Bools (bool_operator op)
 operator_on op _ _ = None
 
 -- a comparison of words gives truth values, and another operator words
-abbrev pub word_result : WordOperator → DataType
+abbrev pub word_result : OperatorSign → DataType
 word_result word.Equal = datatype.Bool
 word_result word.NotEqual = datatype.Bool
 word_result word.Less = datatype.Bool

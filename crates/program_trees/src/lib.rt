@@ -20,7 +20,7 @@ pub use expression::{DataType, Expression, Operator};
 pub use function::{Block, DomainVariable, Function, Parameter, ResultType};
 pub use kinds::{Shape, Slot, SlotDomain};
 pub use operators::{
-    BinaryOperator, BoolOperator, Cast, Connective, Operands, Operation, WordOperator,
+    BinaryOperator, BoolOperator, Cast, Connective, Operands, Operation, OperatorSign,
 };
 pub use program::{Item, Program};
 pub use statement::{

@@ -7,9 +7,9 @@ ghost use Rattle.program_trees.specs.Operators.{operands_of, cast_between, cast_
 use crate::expression::DataType;
 use crate::kinds::Shape;
 
-/// An operator on uint64 words. It is also the sign of an operator, of whatever data type: truth values have five of the signs.
+/// The sign of an operator: an operator on words is its sign, and truth values have five of the signs.
 #[derive(Clone, Copy)]
-pub enum WordOperator {
+pub enum OperatorSign {
     Add,
     Subtract,
     Multiply,
@@ -39,30 +39,30 @@ pub enum BoolOperator {
 /// An operator between two operands of one data type: that type, with a sign.
 #[derive(Clone, Copy)]
 pub enum BinaryOperator {
-    Words(WordOperator),
+    Words(OperatorSign),
     Bools(BoolOperator),
 }
 
-impl WordOperator {
+impl OperatorSign {
     /// The operator on truth values of the same sign, if there is one.
     pub fn on_bools(self) -> Option<BoolOperator>
         ensures { result ≡ on_bools self }
     {
         match self {
-            WordOperator::Equal => Some(BoolOperator::Equal),
-            WordOperator::NotEqual => Some(BoolOperator::NotEqual),
-            WordOperator::And => Some(BoolOperator::And),
-            WordOperator::Or => Some(BoolOperator::Or),
-            WordOperator::Xor => Some(BoolOperator::Xor),
-            WordOperator::Add
-            | WordOperator::Subtract
-            | WordOperator::Multiply
-            | WordOperator::Divide
-            | WordOperator::Remainder
-            | WordOperator::Less
-            | WordOperator::LessOrEqual
-            | WordOperator::Greater
-            | WordOperator::GreaterOrEqual => None,
+            OperatorSign::Equal => Some(BoolOperator::Equal),
+            OperatorSign::NotEqual => Some(BoolOperator::NotEqual),
+            OperatorSign::And => Some(BoolOperator::And),
+            OperatorSign::Or => Some(BoolOperator::Or),
+            OperatorSign::Xor => Some(BoolOperator::Xor),
+            OperatorSign::Add
+            | OperatorSign::Subtract
+            | OperatorSign::Multiply
+            | OperatorSign::Divide
+            | OperatorSign::Remainder
+            | OperatorSign::Less
+            | OperatorSign::LessOrEqual
+            | OperatorSign::Greater
+            | OperatorSign::GreaterOrEqual => None,
         }
     }
 
@@ -71,42 +71,42 @@ impl WordOperator {
         ensures { result ≡ word_result self }
     {
         match self {
-            WordOperator::Equal
-            | WordOperator::NotEqual
-            | WordOperator::Less
-            | WordOperator::LessOrEqual
-            | WordOperator::Greater
-            | WordOperator::GreaterOrEqual => DataType::Bool,
-            WordOperator::Add
-            | WordOperator::Subtract
-            | WordOperator::Multiply
-            | WordOperator::Divide
-            | WordOperator::Remainder
-            | WordOperator::And
-            | WordOperator::Or
-            | WordOperator::Xor => DataType::Uint64,
+            OperatorSign::Equal
+            | OperatorSign::NotEqual
+            | OperatorSign::Less
+            | OperatorSign::LessOrEqual
+            | OperatorSign::Greater
+            | OperatorSign::GreaterOrEqual => DataType::Bool,
+            OperatorSign::Add
+            | OperatorSign::Subtract
+            | OperatorSign::Multiply
+            | OperatorSign::Divide
+            | OperatorSign::Remainder
+            | OperatorSign::And
+            | OperatorSign::Or
+            | OperatorSign::Xor => DataType::Uint64,
         }
     }
 }
 
 impl BoolOperator {
     // Its sign.
-    fn sign(self) -> WordOperator
+    fn sign(self) -> OperatorSign
         ensures { result ≡ sign_of (Bools self) }
     {
         match self {
-            BoolOperator::Equal => WordOperator::Equal,
-            BoolOperator::NotEqual => WordOperator::NotEqual,
-            BoolOperator::And => WordOperator::And,
-            BoolOperator::Or => WordOperator::Or,
-            BoolOperator::Xor => WordOperator::Xor,
+            BoolOperator::Equal => OperatorSign::Equal,
+            BoolOperator::NotEqual => OperatorSign::NotEqual,
+            BoolOperator::And => OperatorSign::And,
+            BoolOperator::Or => OperatorSign::Or,
+            BoolOperator::Xor => OperatorSign::Xor,
         }
     }
 }
 
 impl BinaryOperator {
     /// Its sign.
-    pub fn sign(self) -> WordOperator
+    pub fn sign(self) -> OperatorSign
         ensures { result ≡ sign_of self }
     {
         match self {
@@ -141,7 +141,7 @@ impl BinaryOperator {
     {
         matches!(
             self,
-            BinaryOperator::Words(WordOperator::Multiply) | BinaryOperator::Bools(BoolOperator::And)
+            BinaryOperator::Words(OperatorSign::Multiply) | BinaryOperator::Bools(BoolOperator::And)
         )
     }
 }

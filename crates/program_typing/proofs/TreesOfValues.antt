@@ -30,7 +30,7 @@ use Rattle.domain_types.specs.ExpressionTypes.{within, variable_type, result_typ
 use Rattle.sc_text.specs.Lists.{Among}
 use Rattle.domain_types.specs.Typing.{OperatesOn, IsBuiltInCall, ParametersTake, IsCall, HasType, HaveTypes}
 use Rattle.sc_text.proofs.Lists.{among_left, among_right}
-use Rattle.program_trees.specs.declared.operators.WordOperator.TheVariants as word
+use Rattle.program_trees.specs.declared.operators.OperatorSign.TheVariants as word
 use Rattle.program_trees.specs.declared.operators.BoolOperator.TheVariants as truth_of
 use Rattle.program_trees.specs.declared.operators.BinaryOperator.{BinaryOperator}
 use Rattle.program_trees.specs.declared.operators.BinaryOperator.TheVariants.{Words, Bools}

@@ -17,7 +17,7 @@ use Rattle.tape_file.specs.Tapes.{FourTapes}
 use Rattle.program_trees.specs.declared.kinds.Slot.{Slot}
 use Rattle.program_trees.specs.declared.kinds.SlotDomain.TheVariants as domain
 use Rattle.program_trees.specs.declared.typed_function.Returned.TheVariants.{Nothing}
-use Rattle.program_trees.specs.declared.operators.WordOperator.TheVariants.{Add}
+use Rattle.program_trees.specs.declared.operators.OperatorSign.TheVariants.{Add}
 use Rattle.program_trees.specs.declared.operators.BinaryOperator.TheVariants.{Words}
 use Rattle.program_trees.specs.declared.operators.Operands.TheVariants.{Scalars}
 use Rattle.program_trees.specs.TypedTree.{slot_node, binary_node, declassify_node}

@@ -24,4 +24,4 @@ pub use Rattle.program_trees.specs.declared.operators.BoolOperator
 pub use Rattle.program_trees.specs.declared.operators.Cast
 pub use Rattle.program_trees.specs.declared.operators.Connective
 pub use Rattle.program_trees.specs.declared.operators.Operands
-pub use Rattle.program_trees.specs.declared.operators.WordOperator
+pub use Rattle.program_trees.specs.declared.operators.OperatorSign

@@ -10,7 +10,7 @@ ghost use Rattle.value_steps.specs.Views.{stage_seen, world_seen, drawn_seen};
 use crate::halt::Halt;
 use crate::stage::{Drawn, Stage};
 use crate::world::World;
-use program_trees::{BinaryOperator, BoolOperator, Cast, WordOperator};
+use program_trees::{BinaryOperator, BoolOperator, Cast, OperatorSign};
 use sc_text::{Ending, TapeOwner};
 
 /// How many words of a tape are drawn after `more`. A tape that has fewer ends the run.
@@ -127,24 +127,24 @@ fn words_for_conversion(n: u64) -> Drawn
 }
 
 /// The words of an operator on `n` private numbers; operators that have no private operands draw none.
-fn words_of_word_operator(op: WordOperator, n: u64) -> Drawn
+fn words_of_word_operator(op: OperatorSign, n: u64) -> Drawn
     requires { n ≤ 1048576 }
     ensures { drawn_seen result ≡ words_of_operator (OnWords op) n }
 {
     match op {
-        WordOperator::Multiply => words_each(3 * n),
-        WordOperator::Equal | WordOperator::NotEqual => words_for_equality(n),
-        WordOperator::Less
-        | WordOperator::LessOrEqual
-        | WordOperator::Greater
-        | WordOperator::GreaterOrEqual => words_for_order(n),
-        WordOperator::Add
-        | WordOperator::Subtract
-        | WordOperator::Divide
-        | WordOperator::Remainder
-        | WordOperator::And
-        | WordOperator::Or
-        | WordOperator::Xor => words_each(0),
+        OperatorSign::Multiply => words_each(3 * n),
+        OperatorSign::Equal | OperatorSign::NotEqual => words_for_equality(n),
+        OperatorSign::Less
+        | OperatorSign::LessOrEqual
+        | OperatorSign::Greater
+        | OperatorSign::GreaterOrEqual => words_for_order(n),
+        OperatorSign::Add
+        | OperatorSign::Subtract
+        | OperatorSign::Divide
+        | OperatorSign::Remainder
+        | OperatorSign::And
+        | OperatorSign::Or
+        | OperatorSign::Xor => words_each(0),
     }
 }
 

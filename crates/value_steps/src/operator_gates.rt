@@ -9,7 +9,7 @@ use crate::gating::{gate, less_gates, next_number, zero_test};
 use crate::halt::Halt;
 use crate::stage::Stage;
 use gates::{Gate, Words};
-use program_trees::{BinaryOperator, BoolOperator, Cast, WordOperator};
+use program_trees::{BinaryOperator, BoolOperator, Cast, OperatorSign};
 use std::alloc::Global;
 
 /// A private scalar beside an array of `n` elements as one of as many; any other operand stays as it is.
@@ -65,7 +65,7 @@ fn equal_gates(
 fn word_gates(
     alloc: Global,
     stage: &mut Stage<'_>,
-    op: WordOperator,
+    op: OperatorSign,
     n: u64,
     left: u64,
     right: u64,
@@ -75,29 +75,29 @@ fn word_gates(
     ensures spends { stage.new.left ≤ stage.old.left }
 {
     match op {
-        WordOperator::Add => gate(stage, Gate::Add { left, right }),
-        WordOperator::Subtract => gate(stage, Gate::Sub { left, right }),
-        WordOperator::Multiply => gate(stage, Gate::Mul { left, right }),
-        WordOperator::Equal => equal_gates(alloc, stage, n, left, right),
-        WordOperator::NotEqual => {
+        OperatorSign::Add => gate(stage, Gate::Add { left, right }),
+        OperatorSign::Subtract => gate(stage, Gate::Sub { left, right }),
+        OperatorSign::Multiply => gate(stage, Gate::Mul { left, right }),
+        OperatorSign::Equal => equal_gates(alloc, stage, n, left, right),
+        OperatorSign::NotEqual => {
             let equal = equal_gates(alloc, stage, n, left, right)?;
             flip(alloc, stage, n, equal)
         }
-        WordOperator::Less => less_gates(alloc, stage, n, left, right),
-        WordOperator::Greater => less_gates(alloc, stage, n, right, left),
-        WordOperator::GreaterOrEqual => {
+        OperatorSign::Less => less_gates(alloc, stage, n, left, right),
+        OperatorSign::Greater => less_gates(alloc, stage, n, right, left),
+        OperatorSign::GreaterOrEqual => {
             let less = less_gates(alloc, stage, n, left, right)?;
             flip(alloc, stage, n, less)
         }
-        WordOperator::LessOrEqual => {
+        OperatorSign::LessOrEqual => {
             let greater = less_gates(alloc, stage, n, right, left)?;
             flip(alloc, stage, n, greater)
         }
-        WordOperator::Divide
-        | WordOperator::Remainder
-        | WordOperator::And
-        | WordOperator::Or
-        | WordOperator::Xor => next_number(stage),
+        OperatorSign::Divide
+        | OperatorSign::Remainder
+        | OperatorSign::And
+        | OperatorSign::Or
+        | OperatorSign::Xor => next_number(stage),
     }
 }
 

@@ -3,7 +3,7 @@ ghost use Rattle.std.specs.Prelude.{◌≡◌, ◌/◌, ◌%◌};
 ghost use Rattle.program_trees.specs.declared.operators.BinaryOperator.TheVariants.{Bools, Words};
 ghost use Rattle.language_model.specs.Words.{truth_word, meaning};
 
-use program_trees::{BinaryOperator, BoolOperator, WordOperator};
+use program_trees::{BinaryOperator, BoolOperator, OperatorSign};
 
 /// The quotient, and 0 for a divisor of 0.
 fn quotient(x: u64, divisor: u64) -> u64
@@ -28,24 +28,24 @@ pub(crate) fn truth(holds: bool) -> u64
 
 /// The result of an operator on words. Sums, differences and products wrap at 2^64, and a comparison gives 1 or 0. A divisor of 0
 /// gives the quotient 0 and leaves the dividend as the remainder: `may_divide` tells whether there is one.
-pub fn word_operation(op: WordOperator, x: u64, y: u64) -> u64
+pub fn word_operation(op: OperatorSign, x: u64, y: u64) -> u64
     ensures { result ≡ meaning (Words op) x y }
 {
     match op {
-        WordOperator::Add => x.wrapping_add(y),
-        WordOperator::Subtract => x.wrapping_sub(y),
-        WordOperator::Multiply => x.wrapping_mul(y),
-        WordOperator::Divide => quotient(x, y),
-        WordOperator::Remainder => remainder(x, y),
-        WordOperator::Equal => truth(x == y),
-        WordOperator::NotEqual => truth(x != y),
-        WordOperator::Less => truth(x < y),
-        WordOperator::LessOrEqual => truth(x <= y),
-        WordOperator::Greater => truth(x > y),
-        WordOperator::GreaterOrEqual => truth(x >= y),
-        WordOperator::And => x & y,
-        WordOperator::Or => x | y,
-        WordOperator::Xor => x ^ y,
+        OperatorSign::Add => x.wrapping_add(y),
+        OperatorSign::Subtract => x.wrapping_sub(y),
+        OperatorSign::Multiply => x.wrapping_mul(y),
+        OperatorSign::Divide => quotient(x, y),
+        OperatorSign::Remainder => remainder(x, y),
+        OperatorSign::Equal => truth(x == y),
+        OperatorSign::NotEqual => truth(x != y),
+        OperatorSign::Less => truth(x < y),
+        OperatorSign::LessOrEqual => truth(x <= y),
+        OperatorSign::Greater => truth(x > y),
+        OperatorSign::GreaterOrEqual => truth(x >= y),
+        OperatorSign::And => x & y,
+        OperatorSign::Or => x | y,
+        OperatorSign::Xor => x ^ y,
     }
 }
 

@@ -5,7 +5,7 @@ ghost use Rattle.gates.specs.Clear.{each_two};
 ghost use Rattle.language_model.specs.Words.{meaning, may_divide};
 
 use crate::operators::operation;
-use program_trees::{BinaryOperator, WordOperator};
+use program_trees::{BinaryOperator, OperatorSign};
 use std::alloc::{AllocError, Global};
 
 /// The results of an operator on the two words at each index, as far as the shorter list goes.
@@ -59,7 +59,7 @@ pub fn may_divide(op: BinaryOperator, divisors: &[u64]) -> bool
     ensures { result ≡ may_divide op divisors.now }
 {
     match op {
-        BinaryOperator::Words(WordOperator::Divide | WordOperator::Remainder) => {
+        BinaryOperator::Words(OperatorSign::Divide | OperatorSign::Remainder) => {
             !has_zero(divisors)
         }
         _ => true,

@@ -1,12 +1,12 @@
 -- The sign of an operator's byte is that operator's.
 use Rattle.std.proofs.Common.{◌≡◌, refl, true}
 use Rattle.std.specs.Prelude.{nat_lt}
-use Rattle.program_trees.specs.declared.operators.WordOperator.{WordOperator}
-use Rattle.program_trees.specs.declared.operators.WordOperator.TheVariants as sign
+use Rattle.program_trees.specs.declared.operators.OperatorSign.{OperatorSign}
+use Rattle.program_trees.specs.declared.operators.OperatorSign.TheVariants as sign
 use Rattle.bytecode.specs.InMemory.{operator_byte}
 use Rattle.verified_code.specs.Fitting.{word_operator_at}
 
-pub sign_back : (s : WordOperator) → word_operator_at (operator_byte s) ≡ s
+pub sign_back : (s : OperatorSign) → word_operator_at (operator_byte s) ≡ s
 sign_back sign.Add = refl
 sign_back sign.Subtract = refl
 sign_back sign.Multiply = refl
@@ -22,7 +22,7 @@ sign_back sign.And = refl
 sign_back sign.Or = refl
 sign_back sign.Xor = refl
 
-pub byte_low : (s : WordOperator) → nat_lt (operator_byte s) 14 ≡ true
+pub byte_low : (s : OperatorSign) → nat_lt (operator_byte s) 14 ≡ true
 byte_low sign.Add = refl
 byte_low sign.Subtract = refl
 byte_low sign.Multiply = refl

@@ -4,8 +4,8 @@ use Rattle.std.specs.Prelude.{slice_get, unwrap_or, is_some, if◌then◌else◌
 use Rattle.std.specs.List.{list_all}
 use Rattle.program_trees.specs.declared.expression.DataType.{DataType}
 use Rattle.program_trees.specs.declared.expression.DataType.TheVariants as types
-use Rattle.program_trees.specs.declared.operators.WordOperator.{WordOperator}
-use Rattle.program_trees.specs.declared.operators.WordOperator.TheVariants as word
+use Rattle.program_trees.specs.declared.operators.OperatorSign.{OperatorSign}
+use Rattle.program_trees.specs.declared.operators.OperatorSign.TheVariants as word
 use Rattle.program_trees.specs.declared.operators.BoolOperator.{BoolOperator}
 use Rattle.program_trees.specs.declared.operators.BoolOperator.TheVariants as truth
 use Rattle.program_trees.specs.declared.operators.BinaryOperator.{BinaryOperator}
@@ -100,7 +100,7 @@ names_there h ReturnNone = true
 -- ---- its operands are of the kinds that it wants
 
 -- the operator on words of a byte: the sign that it stands for
-abbrev pub word_operator_at : ℕ → WordOperator
+abbrev pub word_operator_at : ℕ → OperatorSign
 word_operator_at o =
     if o == 0 then word.Add else if o == 1 then word.Subtract else if o == 2 then word.Multiply else if o == 3 then word.Divide
     else if o == 4 then word.Remainder else if o == 5 then word.Equal else if o == 6 then word.NotEqual else if o == 7 then word.Less

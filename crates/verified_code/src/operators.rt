@@ -5,11 +5,11 @@ ghost use Rattle.verified_code.specs.Fitting.{binary_fits, kind_at, may_be_priva
 
 use crate::kinds::{kind_at, same_element, same_kind};
 use bytecode::{Kind, Register};
-use program_trees::{BinaryOperator, BoolOperator, DataType, WordOperator};
+use program_trees::{BinaryOperator, BoolOperator, DataType, OperatorSign};
 
 /// The operator of a sign between operands of a data type. Bools have only some; for another sign it is one that no test looks at.
 #[tactic(auto, using(crate::proofs::Bytes::sign_back))]
-pub(crate) fn operator_on(element: DataType, sign: WordOperator) -> BinaryOperator
+pub(crate) fn operator_on(element: DataType, sign: OperatorSign) -> BinaryOperator
     ensures { result ≡ operator_at element (operator_byte sign) }
 {
     match element {
@@ -19,7 +19,7 @@ pub(crate) fn operator_on(element: DataType, sign: WordOperator) -> BinaryOperat
 }
 
 #[tactic(auto, using(crate::proofs::Bytes::sign_back, crate::proofs::Bytes::byte_low))]
-fn operator_exists(element: DataType, sign: WordOperator) -> bool
+fn operator_exists(element: DataType, sign: OperatorSign) -> bool
     ensures { result ≡ operator_exists element (operator_byte sign) }
 {
     match element {
@@ -34,11 +34,11 @@ fn may_be_private(operator: BinaryOperator) -> bool
     !matches!(
         operator,
         BinaryOperator::Words(
-            WordOperator::Divide
-                | WordOperator::Remainder
-                | WordOperator::And
-                | WordOperator::Or
-                | WordOperator::Xor
+            OperatorSign::Divide
+                | OperatorSign::Remainder
+                | OperatorSign::And
+                | OperatorSign::Or
+                | OperatorSign::Xor
         )
     )
 }
@@ -51,7 +51,7 @@ fn secrecy_fits(operator: BinaryOperator, left: bool, right: bool) -> bool
 
 pub(crate) fn binary_fits(
     kinds: &[Kind],
-    sign: WordOperator,
+    sign: OperatorSign,
     to: Register,
     left: Register,
     right: Register,

@@ -9,7 +9,7 @@ use crate::kinds::kind_at;
 use crate::operators::operator_on;
 use crate::step::Step;
 use bytecode::{Instruction, Kind, NO_RESULT, NamePlace, Register};
-use program_trees::{Cast, Operands, WordOperator};
+use program_trees::{Cast, Operands, OperatorSign};
 use sc_text::Name;
 
 fn name_at<'c>(names: &'c [Name], name: NamePlace) -> &'c str
@@ -32,7 +32,7 @@ fn result_in(to: Option<Register>) -> Option<Register>
 
 fn binary<'c>(
     kinds: &[Kind],
-    sign: WordOperator,
+    sign: OperatorSign,
     to: Register,
     left: Register,
     right: Register,

@@ -12,8 +12,8 @@ use Rattle.plans.specs.BitExtract.{bits_plan}
 use Rattle.plans.specs.Compare.{less_plan}
 use Rattle.program_trees.specs.Shapes.{shape_of}
 use Rattle.program_trees.specs.declared.kinds.Shape.{Shape}
-use Rattle.program_trees.specs.declared.operators.WordOperator.{WordOperator}
-use Rattle.program_trees.specs.declared.operators.WordOperator.TheVariants as word
+use Rattle.program_trees.specs.declared.operators.OperatorSign.{OperatorSign}
+use Rattle.program_trees.specs.declared.operators.OperatorSign.TheVariants as word
 use Rattle.program_trees.specs.declared.operators.BoolOperator.TheVariants as truth
 use Rattle.program_trees.specs.declared.operators.BinaryOperator.{BinaryOperator}
 use Rattle.program_trees.specs.declared.operators.BinaryOperator.TheVariants as binary
@@ -43,7 +43,7 @@ each_few n h = record { first = h; second = h; third = h }
 no_words : AreFew (words_each 0)
 no_words = each_few 0 (omega arith)
 
-word_few : (op : WordOperator) (n : ℕ) → n ≤ 2 ^ 64 → AreFew (words_of_operator (binary.Words op) n)
+word_few : (op : OperatorSign) (n : ℕ) → n ≤ 2 ^ 64 → AreFew (words_of_operator (binary.Words op) n)
 word_few word.Multiply n h = each_few (3 * n) (omega (arith, h))
 word_few word.Equal n h = record { first = omega (arith, h); second = omega (arith, h); third = omega (arith, h) }
 word_few word.NotEqual n h = record { first = omega (arith, h); second = omega (arith, h); third = omega (arith, h) }
@@ -134,7 +134,7 @@ module _ (w : World) (budget : ℕ) (room : HasRoom w budget) where
 
   -- ---- OPERATORS
 
-  word_ends : (op : WordOperator) (n u v : ℕ) → Ends w budget room (operator_gates (binary.Words op) n u v)
+  word_ends : (op : OperatorSign) (n u v : ℕ) → Ends w budget room (operator_gates (binary.Words op) n u v)
   word_ends word.Add n u v = on_gate w budget room _
   word_ends word.Subtract n u v = on_gate w budget room _
   word_ends word.Multiply n u v = on_gate w budget room _

@@ -13,7 +13,7 @@ use Rattle.domain_types.specs.declared.value_type.Protection.TheVariants as chec
 use Rattle.domain_types.specs.declared.value_type.ValueType.{ValueType}
 use Rattle.domain_types.specs.Typing.{OperatesOn, IsOperation}
 use Rattle.program_trees.specs.declared.kinds.Shape.{Shape}
-use Rattle.program_trees.specs.declared.operators.WordOperator.TheVariants as word
+use Rattle.program_trees.specs.declared.operators.OperatorSign.TheVariants as word
 use Rattle.program_trees.specs.declared.operators.BoolOperator.TheVariants as truth
 use Rattle.program_trees.specs.declared.operators.BinaryOperator.{BinaryOperator}
 use Rattle.program_trees.specs.declared.operators.BinaryOperator.TheVariants.{Words, Bools}

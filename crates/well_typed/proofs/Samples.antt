@@ -27,7 +27,7 @@ use Rattle.domain_types.specs.Typing.{IsTypedFunction, AreDomainVariables, IsTyp
 use Rattle.domain_types.proofs.TypingPrograms.{typed_is_accepted}
 use Rattle.program_trees.specs.declared.kinds.SlotDomain.TheVariants as slot
 use Rattle.program_trees.specs.declared.typed_function.Returned.TheVariants.{Nothing, Value}
-use Rattle.program_trees.specs.declared.operators.WordOperator.TheVariants as word
+use Rattle.program_trees.specs.declared.operators.OperatorSign.TheVariants as word
 use Rattle.program_trees.specs.declared.operators.BinaryOperator.TheVariants.{Words}
 use Rattle.program_trees.specs.declared.operators.Operands.TheVariants.{Scalars}
 use Rattle.program_trees.specs.TypedTree.{word_node, slot_node, call_node, binary_node, declassify_node, typed_trees_of}

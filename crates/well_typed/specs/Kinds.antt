@@ -4,8 +4,8 @@ use Rattle.program_trees.specs.declared.expression.DataType.{DataType}
 use Rattle.program_trees.specs.declared.expression.DataType.TheVariants.{Uint64}
 use Rattle.program_trees.specs.declared.expression.DataType.TheVariants as datatype
 use Rattle.program_trees.specs.declared.kinds.Shape.{Shape}
-use Rattle.program_trees.specs.declared.operators.WordOperator.{WordOperator}
-use Rattle.program_trees.specs.declared.operators.WordOperator.TheVariants as word
+use Rattle.program_trees.specs.declared.operators.OperatorSign.{OperatorSign}
+use Rattle.program_trees.specs.declared.operators.OperatorSign.TheVariants as word
 use Rattle.program_trees.specs.declared.operators.BinaryOperator.{BinaryOperator}
 use Rattle.program_trees.specs.declared.operators.BinaryOperator.TheVariants.{Words, Bools}
 use Rattle.program_trees.specs.declared.operators.Operands.{Operands}
@@ -43,7 +43,7 @@ operand_of (Words op) = Uint64
 operand_of (Bools op) = datatype.Bool
 
 -- division, and words bit by bit, are for public operands
-abbrev pub is_for_public : WordOperator → Bool
+abbrev pub is_for_public : OperatorSign → Bool
 is_for_public word.Add = false
 is_for_public word.Subtract = false
 is_for_public word.Multiply = false

@@ -14,8 +14,8 @@ use Rattle.program_trees.specs.Programs.{FunctionTree, ProgramTree, imports, dom
 use Rattle.program_trees.specs.declared.kinds.SlotDomain.TheVariants.{Private}
 use Rattle.program_trees.specs.declared.kinds.Slot.{Slot}
 use Rattle.program_trees.specs.declared.typed_function.Returned.TheVariants.{Nothing}
-use Rattle.program_trees.specs.declared.operators.WordOperator.{WordOperator}
-use Rattle.program_trees.specs.declared.operators.WordOperator.TheVariants as words
+use Rattle.program_trees.specs.declared.operators.OperatorSign.{OperatorSign}
+use Rattle.program_trees.specs.declared.operators.OperatorSign.TheVariants as words
 use Rattle.program_trees.specs.declared.operators.BinaryOperator.TheVariants.{Words}
 use Rattle.program_trees.specs.declared.operators.Operands.TheVariants.{Arrays}
 use Rattle.program_trees.specs.declared.operators.Cast.TheVariants.{BoolToWord}
@@ -92,7 +92,7 @@ abbrev pub array_slot : Slot
 array_slot = record { domain = Private 0; shape = record { element = Uint64; array = true } }
 
 -- the two arrays with an operator between them
-abbrev pub both_slots : WordOperator → TypedTree
+abbrev pub both_slots : OperatorSign → TypedTree
 both_slots op = binary_node 3 (Words op) Arrays (slot_node 0) (slot_node 1)
 
 abbrev pub publishes_sum : List ℕ → TypedTree → TypedStatementTree

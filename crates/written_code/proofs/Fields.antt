@@ -12,7 +12,7 @@ use Rattle.sc_text.specs.Name.{is_name, is_name_byte, IsName}
 use Rattle.program_trees.specs.declared.expression.DataType.{DataType}
 use Rattle.program_trees.specs.declared.expression.DataType.TheVariants.{Uint64}
 use Rattle.program_trees.specs.declared.expression.DataType.TheVariants as datatype
-use Rattle.program_trees.specs.declared.operators.WordOperator.TheVariants as word_sign
+use Rattle.program_trees.specs.declared.operators.OperatorSign.TheVariants as word_sign
 use Rattle.program_trees.specs.declared.operators.BoolOperator.TheVariants as truth_sign
 use Rattle.program_trees.specs.declared.operators.BinaryOperator.{BinaryOperator}
 use Rattle.program_trees.specs.declared.operators.BinaryOperator.TheVariants.{Words, Bools}
