@@ -14,6 +14,7 @@ use Rattle.outside.specs.Sink.{Appends, SinkState}
 use Rattle.program_commands.specs.Ends.{ending_status}
 use Rattle.program_commands.specs.Eval.{end_of, ending_of}
 use Rattle.sc_text.specs.declared.end.End.{End}
+use Rattle.sc_text.specs.declared.end.Ending.{Ending}
 use Rattle.sc_text.specs.Event.{run_text}
 use Rattle.sc_text.specs.declared.end.Ending.TheVariants.{Done, Trap, Budget, Tape}
 use Rattle.clear_eval.specs.Offers.{offered}
@@ -60,10 +61,12 @@ module _ (words : List (List ℕ)) (m m' : Moment) (s : Status)
 
 -- what evaluation tells is what three miners tell
 module _ (g : Given) (told : IsToldByMiners g.program g.entries g.tapes g.ask.budget g.delivery (report_given g)) where
+  abbrev end_with : Ending → (cost : ℕ) → End
+  end_with how cost = record { how = how; cost = cost }
+
   end_is : end_of (report_given g) ≡ told.end
   end_is =
-      ap (λ (stop : RunStop). record { how = ending_of stop; cost = (report_given g).cost }) told.how
-      ∙ ap (λ (cost : ℕ). record { how = told.end.how; cost = cost }) told.cost
+      ap (λ (stop : RunStop). end_with (ending_of stop) (report_given g).cost) told.how ∙ ap (λ (cost : ℕ). end_with told.end.how cost) told.cost
 
   pub tells_so : (before after : SinkState) (s : Status) → PrintsEvaluation g before after s → PrintsWhatMinersTell g before after s
   tells_so before after s (inl printed) =
