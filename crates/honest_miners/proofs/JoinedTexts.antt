@@ -21,7 +21,10 @@ use Rattle.code_runs.specs.ClientTold.{all_added_up}
 use Rattle.code_runs.proofs.Together.{told_together_are_the_events}
 use Rattle.miner_text.specs.Shares.{ResultShare}
 use Rattle.miner_text.specs.Lines.{type_word, line_text, text_of}
-use Rattle.miner_text.specs.Texts.{IsText}
+use Rattle.miner_text.specs.Texts.{IsEnd, IsText}
+use Rattle.view_laws.specs.Named.{AreNamed}
+use Rattle.view_laws.proofs.Openings.{elements_are}
+use Rattle.view_laws.proofs.Shares.{are_words}
 use Rattle.miner_text.specs.declared.line.MinerLine.{MinerLine}
 use Rattle.miner_text.specs.declared.line.MinerLine.TheVariants as lines
 use Rattle.miner_text.proofs.Rounds.{read_again}
@@ -143,8 +146,20 @@ lines_joined k end (handed {events = events} {notices = notices} text form words
 text_back : (i : Number) (ls : List MinerLine) → IsText ls → text_in i (Some (text_of ls)) ≡ Ok ls
 text_back i ls h = ap (named i) (read_again ls h)
 
+-- what three miners tell who tell named events is a text of each
+pub are_texts : {events : List Event} {notices : Number → List Notice} (i : Number) (end : End) → Tells events notices → AreNamed events → IsEnd end
+    → IsText (lines_told (notices i) end)
+are_texts i end nothing named fits = fits
+are_texts i end (opened form words range more) named fits =
+    (elements_are (type_of form.element) words range, are_texts i end more named fits)
+are_texts i end (published text form words range more) named fits =
+    ((named.0, elements_are (type_of form.element) words range), are_texts i end more named.1 fits)
+are_texts i end (handed text form words shares range are more) named fits =
+    ((named.0, are_words (shares i) (are.words i)), are_texts i end more named.1 fits)
+
 pub texts_of_a_run_are_its_text : TextsOfARunAreItsText
-texts_of_a_run_are_its_text events notices end tells are =
+texts_of_a_run_are_its_text events notices end tells named fits =
+    let are : (i : Number) → IsText (lines_told (notices i) end) = λ i. are_texts i end tells named fits in
     let found : Number → Option (List ℕ) = λ i. Some (text_of (lines_told (notices i) end)) in
     ap (λ r. and_then r (join_second found)) (text_back One (lines_told (notices One) end) (are One))
     ∙ ap (λ r. and_then r (join_third found (lines_told (notices One) end))) (text_back Two (lines_told (notices Two) end) (are Two))

@@ -46,7 +46,7 @@ use Rattle.joined_nodes.specs.Runs.{gates_to_run, messages}
 use Rattle.joined_nodes.specs.Stories.{IsStoryOf}
 use Rattle.joined_nodes.proofs.Stories.{does_its_part}
 use Rattle.miner_text.specs.Lines.{text_of}
-use Rattle.miner_text.specs.Texts.{IsText}
+use Rattle.miner_text.specs.Texts.{IsEnd}
 use Rattle.trio.specs.Answers.{join_of}
 use Rattle.node_run.specs.Told.{lines_told}
 use Rattle.miner_node.specs.Serving.{CutOff, Finished, Serving, hello_to, serving}
@@ -55,6 +55,11 @@ use Rattle.joined_nodes.specs.Joined.{AgreeWith, AreJoined, EndsAs, sent_by}
 use Rattle.joined_nodes.proofs.Ends.{begins-told}
 use Rattle.joined_nodes.proofs.Nodes.{joined_nodes_agree_on_programs}
 use Rattle.honest_miners.proofs.JoinedTexts.{texts_of_a_run_are_its_text}
+use Rattle.view_laws.specs.Ends.{CanBeWritten}
+use Rattle.view_laws.specs.Named.{AreNamed}
+use Rattle.view_laws.specs.Views.{AreCounted, CanBeRun}
+use Rattle.view_laws.proofs.Named.{events_named}
+use Rattle.view_laws.proofs.Views.{cost, ends}
 use Rattle.honest_miners.specs.Honest.{HasItsPart}
 use Rattle.node_run.specs.Nodes.{end_in, ended_at, own_hello}
 use Rattle.honest_miners.proofs.Digests.{sha256_length}
@@ -260,6 +265,22 @@ module _ (p : TypedProgramTree) (entries : List Entry) (t : FourTapes) (budget :
       ∙ joined.ends_whole nodes full outputs hello coming joins (λ l. all l ∙ sent_is l) i)
   finished all i (has_ended ended) = ended
 
+  -- ---- what they tell can be written
+
+  named : AreNamed report.events
+  named = events_named p offer budget h.accepted
+
+  fits : AreCounted entries t budget → IsEnd end
+  fits counted =
+      let can : CanBeRun p entries t budget =
+      record {
+        program = h.accepted;
+        inputs = h.can.sound;
+        tapes = record { dealer = h.can.suffice.words; miners = h.can.words };
+        counted = counted;
+      } in
+      (subst CanBeWritten agree.stop (ends p entries t budget can), cost p entries t budget can)
+
   pub agrees : AgreeWithTheRun p entries t budget digest code coming report
   agrees =
       record {
@@ -281,10 +302,10 @@ module _ (p : TypedProgramTree) (entries : List Entry) (t : FourTapes) (budget :
         cost = refl;
         each = each;
         finished = λ all i. finished all i (each i);
-        texts = λ ended are.
+        end_fits = fits;
+        texts = λ writable ended.
             ap (λ (told : Number → List Notice). join_of (λ i. Some (text_of (lines_told (told i) end)))) (λ d. λ i. (ended i).told_all d)
-            ∙ texts_of_a_run_are_its_text report.events agree.all end agree.tells
-            (λ i. subst (λ (told : List Notice). IsText (lines_told told end)) (ended i).told_all (are i));
+            ∙ texts_of_a_run_are_its_text report.events agree.all end agree.tells named writable;
       }
 
 pub served_agree : (p : TypedProgramTree) (entries : List Entry) (t : FourTapes) (budget : ℕ) (digest : List ℕ) (code : RawCode)

@@ -14,7 +14,9 @@ use Rattle.program_trees.specs.TypedPrograms.{TypedProgramTree}
 use Rattle.value_file.specs.declared.inputs.Entry.{Entry}
 use Rattle.tape_file.specs.Tapes.{FourTapes}
 use Rattle.language_model.specs.Reports.{Report}
-use Rattle.program_run.specs.Reports.{eval_with}
+use Rattle.program_run.specs.Offers.{offered}
+use Rattle.program_run.specs.Reports.{eval_with, lengths_of}
+use Rattle.view_laws.proofs.Named.{events_named}
 use Rattle.miner_text.specs.Lines.{text_of}
 use Rattle.honest_miners.specs.Told.{lines_told}
 use Rattle.miner_node.specs.Serving.{Outcome, Serving}
@@ -112,7 +114,9 @@ module _ (p : TypedProgramTree) (entries : List Entry) (t : FourTapes) (budget :
     cost = agree.cost;
     finished = λ all i. writes_so i (agree.finished (λ l. all l ∙ sent_so l) i);
     each = λ i. by_stand i (agree.each i);
-    texts = three_served_miners.texts_make_the_run_text report.events agree.all agree.end agree.tells;
+    end_fits = agree.end_fits;
+    texts = three_served_miners.texts_make_the_run_text report.events agree.all agree.end agree.tells
+        (events_named p (offered entries (lengths_of t)) budget h.accepted);
   }
 
 pub three_miners_answer : (p : TypedProgramTree) (entries : List Entry) (t : FourTapes) (budget : ℕ) (digest : List ℕ) (code : RawCode)

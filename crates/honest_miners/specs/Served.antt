@@ -23,8 +23,8 @@ use Rattle.program_run.specs.Reports.{eval_with, lengths_of}
 use Rattle.joined_nodes.specs.Runs.{messages}
 use Rattle.joined_nodes.specs.Telling.{Tells}
 use Rattle.joined_nodes.specs.OwnCode.{Ended}
-use Rattle.miner_text.specs.Texts.{IsText}
-use Rattle.node_run.specs.Told.{lines_told}
+use Rattle.miner_text.specs.Texts.{IsEnd}
+use Rattle.view_laws.specs.Views.{AreCounted}
 use Rattle.trio.specs.Answers.{join_of}
 use Rattle.wire.specs.Hellos.{hello_bytes}
 use Rattle.miner_node.specs.Serving.{CutOff, Finished, Serving, frames, hello_to}
@@ -97,10 +97,11 @@ module _ (p : TypedProgramTree) (entries : List Entry) (t : FourTapes) (budget :
       pub cost : end.cost ≡ r.cost
       pub each : (i : Number) → WaitsOrHasEnded budget end r.opened (all i) (served i)
       pub finished : ((l : Link) → came_on l ≡ sent_on l) → (i : Number) → HasEndedSo budget end r.opened (all i) (served i)
-      -- the texts of three that have ended are put together to the text of the run; they are texts where names are names, and words have 64 bits
+      -- this end can be written: its numbers have room, where 64 bits count the steps of the budget, the inputs, and the words of each tape
+      pub end_fits : AreCounted entries t budget → IsEnd end
+      -- and then the texts of three that have ended are put together to the text of the run
       pub texts :
-          ((i : Number) → HasEndedSo budget end r.opened (all i) (served i))
-          → ((i : Number) → IsText (lines_told (told_in (served i).acts) end))
+          IsEnd end → ((i : Number) → HasEndedSo budget end r.opened (all i) (served i))
           → join_of (λ i. Some (node_text (served i).acts end)) ≡ Ok (record { text = run_text r.events end; end = end })
 
     -- they agree with the program's evaluation

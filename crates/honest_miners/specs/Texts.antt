@@ -7,13 +7,13 @@ use Rattle.proto_core.specs.declared.party.Number.{Number}
 use Rattle.proto_core.specs.Strand.{Notice}
 use Rattle.code_runs.specs.Telling.{Tells}
 use Rattle.miner_text.specs.Lines.{text_of}
-use Rattle.miner_text.specs.Texts.{IsText}
+use Rattle.miner_text.specs.Texts.{IsEnd}
+use Rattle.view_laws.specs.Named.{AreNamed}
 use Rattle.node_run.specs.Told.{lines_told}
 use Rattle.trio.specs.Answers.{join_of}
 
--- where each miner's names are names, and its words of 64 bits, as those of every miner are
+-- of events that are told under names, as those of each accepted program are, and an end that can be written; that the miners' words have 64 bits follows
 abbrev pub TextsOfARunAreItsText : Type 0
 TextsOfARunAreItsText =
-    (events : List Event) (notices : Number → List Notice) (end : End) → Tells events notices
-    → ((i : Number) → IsText (lines_told (notices i) end))
+    (events : List Event) (notices : Number → List Notice) (end : End) → Tells events notices → AreNamed events → IsEnd end
     → join_of (λ i. Some (text_of (lines_told (notices i) end))) ≡ Ok (record { text = run_text events end; end = end })

@@ -23,7 +23,8 @@ use Rattle.program_run.specs.Dealt.{CanBeDealt}
 use Rattle.program_run.specs.Reports.{eval_with}
 use Rattle.code_runs.specs.Telling.{Tells}
 use Rattle.miner_text.specs.Lines.{text_of}
-use Rattle.miner_text.specs.Texts.{IsText}
+use Rattle.miner_text.specs.Texts.{IsEnd}
+use Rattle.view_laws.specs.Views.{AreCounted}
 use Rattle.honest_miners.specs.Told.{lines_told}
 use Rattle.trio.specs.Answers.{join_of}
 use Rattle.honest_miners.specs.Nodes.{Outgoing}
@@ -76,10 +77,11 @@ module _ (p : TypedProgramTree) (entries : List Entry) (t : FourTapes) (budget :
       pub finished :
           ((l : Link) → came_on l ≡ sent_on l) → (i : Number) → answer i ≡ Ok (text_effect (asks i).out (text_of (lines_told (all i) end)) end)
       pub each : (i : Number) → (answer i ≡ Err cut_off) ⊎ (answer i ≡ Ok (text_effect (asks i).out (text_of (lines_told (all i) end)) end))
-      -- these texts are put together to the text of the run; they are texts where names are names, and words have 64 bits
+      -- this end can be written: its numbers have room, where 64 bits count the steps of the budget, the inputs, and the words of each tape
+      pub end_fits : AreCounted entries t budget → IsEnd end
+      -- and then these texts are put together to the text of the run
       pub texts :
-          ((i : Number) → IsText (lines_told (all i) end))
-          → join_of (λ i. Some (text_of (lines_told (all i) end))) ≡ Ok (record { text = run_text r.events end; end = end })
+          IsEnd end → join_of (λ i. Some (text_of (lines_told (all i) end))) ≡ Ok (record { text = run_text r.events end; end = end })
 
     abbrev pub ThreeMinersAnswer : Type 0
     ThreeMinersAnswer = AreCalled → AnswerTheRun (eval_with p entries t budget)

@@ -8,4 +8,7 @@ mod honest_nets;
 mod one_net;
 
 pub use honest_nets::{honest_nets_go_on, honest_nodes_go_on};
-pub use one_net::run_views_and_simulator_have_one_net;
+pub use one_net::{
+    run_views_and_simulator_have_one_net, runs_are_told_by_their_miners,
+    views_have_the_messages_of_links,
+};

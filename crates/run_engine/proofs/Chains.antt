@@ -10,7 +10,10 @@ use Rattle.command_words.specs.Ask.{MapAsk, SimulateAsk, TwinAsk}
 use Rattle.proto_core.specs.declared.party.Number.{Number}
 use Rattle.proto_core.specs.declared.party.Number.TheVariants.{One, Two, Three}
 use Rattle.proto_core.specs.Lists.{AreWords}
-use Rattle.protocol_model.specs.Network.{Delivery}
+use Rattle.miner_commands.specs.Deliveries.{net_of}
+use Rattle.miner_commands.specs.Premises.{HaveWords}
+use Rattle.miner_commands.proofs.Taken.{made_deliveries_are_taken}
+use Rattle.protocol_model.specs.Network.{Accepted, Delivery}
 use Rattle.program_trees.specs.TypedPrograms.{TypedProgramTree}
 use Rattle.tape_file.specs.Format.{answer_unless, fault_of, lengths_fault, read_of, tape_bytes, tapes_at, word_at, words_at}
 use Rattle.tape_file.specs.Tapes.{AreShort, FourTapes, IsWord, lengths_of}
@@ -26,20 +29,24 @@ use Rattle.value_file.proofs.Forms.{IsWritable-part_of}
 use Rattle.input_share.specs.AddUp.{HasWords}
 use Rattle.input_share.specs.OfWords.{ArePublicRead, IsShownOfWords}
 use Rattle.input_share.proofs.PartAgain.{part_is_read_again}
+use Rattle.view_text.specs.View.{View}
 use Rattle.view_model.specs.TapeMaps.{miners_of, AreTapes}
 use Rattle.view_reader.specs.Opened.{opened_of}
+use Rattle.view_laws.specs.Accepted.{IsAccepted}
 use Rattle.view_laws.proofs.Openings.{opened_file_is_read_again}
 use Rattle.program_views.specs.Inputs.{AreSound}
 use Rattle.program_views.specs.TapeMaps.{MapsCorrespond, mapped, twinned}
-use Rattle.program_views.specs.Views.{run_on}
+use Rattle.program_views.specs.Views.{run_on, view_of}
 use Rattle.program_commands.specs.Reading.{opened_at, public_at, tape_file_at, read_or, bad_tape, bad_opened, bad_input}
 use Rattle.program_commands.proofs.Accepted.{accepted_so}
 use Rattle.program_commands.proofs.Held.{read_there}
 use Rattle.tape_commands.specs.Map.{open_bytes, sim_bytes}
+use Rattle.tape_commands.specs.Simulate.{simulate_effect}
 use Rattle.tape_commands.specs.Twin.{twin_bytes}
 use Rattle.run_engine.specs.Chains.{HoldsMapped, MappedIsSimulated, SimulatesRun, TwinIsReadAgain}
 use Rattle.run_engine.specs.MapPromises.{HoldsMap}
-use Rattle.run_engine.specs.SimulatePromises.{HoldsOfRun}
+use Rattle.run_engine.specs.Runs.{IsNotTaken}
+use Rattle.run_engine.specs.SimulatePromises.{HoldsOfRun, IsOfRun, SimulateEffect, net_refuses, opened_and, tapes_mapped}
 use Rattle.run_engine.specs.TwinPromises.{AreTaken, HoldsTwin}
 use Rattle.run_engine.proofs.Miners.{of_words}
 use Rattle.run_engine.proofs.OfWords.{file_of_words}
@@ -164,6 +171,33 @@ opened_held files path text opened there same =
 
 -- ---- the chains
 
+simulates : (ask : SimulateAsk) (files : Contents) (p : TypedProgramTree) (entries : List Entry) (tapes : FourTapes) (delivery : Delivery)
+    → IsAccepted p → HaveWords entries tapes → HoldsOfRun ask p entries tapes [] delivery files → SimulatesRun ask files p entries tapes delivery
+simulates ask files p entries tapes delivery accepted have holds =
+    let is : IsOfRun ask p entries tapes [] delivery = simulated_so ask files p entries tapes [] delivery holds have in
+    let part : List PublicEntry = part_of entries in
+    let opened : List ℕ = opened_and ask p entries tapes [] in
+    let to : FourTapes = tapes_mapped ask p entries tapes in
+    let takes : net_of p entries tapes ask.budget delivery ≡ Accepted
+    → SimulateEffect ask files (simulate_effect ask (view_of ask.miner p entries tapes ask.budget delivery)) =
+    λ is_taken. (
+      p,
+      part,
+      opened,
+      to,
+      delivery,
+      holds,
+      record { suffice = is.suffice; taken = is.net ∙ is_taken },
+      ap (λ (view : Option View). simulate_effect ask view) (sym is.view),
+    ) in
+    record {
+      holds = holds;
+      view = is;
+      taken = takes;
+      made = λ made. takes (made_deliveries_are_taken p entries tapes ask.budget delivery accepted have made);
+      refused = λ refused. net_refuses refl p part opened to delivery holds is.suffice (subst IsNotTaken (sym is.net) refused);
+    }
+
 pub mapped_simulated : (mapping : MapAsk) (before : Contents) (p : TypedProgramTree) (entries : List Entry) (tapes : FourTapes)
     → HoldsMap mapping before p entries tapes → MappedIsSimulated mapping p entries tapes
 unfolding sim_bytes open_bytes
@@ -182,7 +216,7 @@ mapped_simulated mapping before p entries tapes h ask files delivery miner budge
       tapes = tapes_held files ask.sim (mapped ask.miner p entries tapes ask.budget) held.sim short maps.words;
       order = held.order;
     } in
-    record { holds = holds; view = simulated_so ask files p entries tapes [] delivery holds have }
+    simulates ask files p entries tapes delivery (accepted_so ask.program files p held.program_held) have holds
 
 pub twin_read_again : (ask : TwinAsk) (before : Contents) (p : TypedProgramTree) (first second : List Entry) (tapes : FourTapes)
     → HoldsTwin ask before p first second tapes → AreTaken ask p first second tapes → TwinIsReadAgain ask p first second tapes

@@ -9,6 +9,13 @@ use Rattle.command_frame.specs.Moments.{AreSteady, AreTold, Moment, Reach, files
 use Rattle.command_frame.specs.Status.{can_refuse, is_end}
 use Rattle.command_frame.specs.Whole.{CarriedOut, HasFailed, IsDone}
 use Rattle.command_words.specs.Ask.{RunAsk, run, words_of}
+use Rattle.net_laws.specs.MinersTold.{IsToldByMiners}
+use Rattle.outside.specs.Sink.{Appends, SinkState}
+use Rattle.program_commands.specs.Ends.{ending_status}
+use Rattle.program_commands.specs.Eval.{end_of, ending_of}
+use Rattle.sc_text.specs.declared.end.End.{End}
+use Rattle.sc_text.specs.declared.end.Ending.{Ending}
+use Rattle.sc_text.specs.Event.{run_text}
 use Rattle.sc_text.specs.declared.end.Ending.TheVariants.{Done, Trap, Budget, Tape}
 use Rattle.clear_eval.specs.Offers.{offered}
 use Rattle.language_model.specs.Effects.{Clear, RunStop, Ended, Short, World}
@@ -22,8 +29,8 @@ use Rattle.protocol_model.specs.Network.{Accepted}
 use Rattle.tape_file.specs.Tapes.{FourTapes}
 use Rattle.program_trees.specs.TypedPrograms.{TypedProgramTree}
 use Rattle.value_file.specs.declared.inputs.Entry.{Entry}
-use Rattle.run_engine.specs.Headline.{EndsByBudgetAndTapes, EndsSomewhere, Given, IsGiven, PrintsEvaluation, RefusesSchedule, ScheduleRefused}
-use Rattle.run_engine.specs.Headline.{WritesViewsAndLinks, is_whole, net_given, not_a_schedule, not_complete, refused_line}
+use Rattle.run_engine.specs.Headline.{EndsByBudgetAndTapes, EndsSomewhere, Given, IsGiven, PrintsEvaluation, PrintsWhatMinersTell, RefusesSchedule}
+use Rattle.run_engine.specs.Headline.{ScheduleRefused, WritesViewsAndLinks, is_whole, net_given, not_a_schedule, not_complete, refused_line, report_given}
 use Rattle.run_engine.specs.Call.{Call}
 use Rattle.run_engine.specs.Promises.{Gives, Keeps, RunEffect}
 use Rattle.run_engine.specs.Told.{contents_in, outside_of}
@@ -51,6 +58,26 @@ module _ (words : List (List ℕ)) (m m' : Moment) (s : Status)
 
   pub writes : WritesViewsAndLinks g (contents_in m) (contents_in m') s
   writes = elim done [ inl whole ↦ inl whole.files | inr memory ↦ inr memory ]
+
+-- what evaluation tells is what three miners tell
+module _ (g : Given) (told : IsToldByMiners g.program g.entries g.tapes g.ask.budget g.delivery (report_given g)) where
+  abbrev end_with : Ending → (cost : ℕ) → End
+  end_with how cost = record { how = how; cost = cost }
+
+  end_is : end_of (report_given g) ≡ told.end
+  end_is =
+      ap (λ (stop : RunStop). end_with (ending_of stop) (report_given g).cost) told.how ∙ ap (λ (cost : ℕ). end_with told.end.how cost) told.cost
+
+  pub tells_so : (before after : SinkState) (s : Status) → PrintsEvaluation g before after s → PrintsWhatMinersTell g before after s
+  tells_so before after s (inl printed) =
+      inl (
+        (report_given g).events,
+        told.end,
+        told.are,
+        printed.0 ∙ ap (λ (end : End). ending_status end.how) end_is,
+        subst (λ (end : End). Appends before after (run_text (report_given g).events end)) end_is printed.1,
+      )
+  tells_so before after s (inr memory) = inr memory
 
 -- ---- one that is refused
 

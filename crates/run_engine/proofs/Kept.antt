@@ -12,14 +12,16 @@ use Rattle.run_engine.specs.Headline.{Given, Headline, IsGiven}
 use Rattle.run_engine.specs.Laws.{Laws}
 use Rattle.run_engine.specs.Told.{contents_in}
 use Rattle.run_engine.proofs.Gathers.{gather_keeps}
-use Rattle.run_engine.proofs.Headline.{ends_by_budget_and_tapes, prints, refuses, schedule_refused, writes}
-use Rattle.run_engine.proofs.Miners.{made_taken, maps_made, miners_run, views_made, views_seen}
+use Rattle.run_engine.proofs.Headline.{ends_by_budget_and_tapes, prints, refuses, schedule_refused, tells_so, writes}
+use Rattle.run_engine.proofs.Miners.{made_taken, maps_made, miners_run, told_by_miners, views_made, views_seen}
 use Rattle.run_engine.proofs.Promises.{check_keeps, compile_keeps, deal_keeps, eval_keeps, need_keeps, run_keeps}
 use Rattle.run_engine.proofs.JoinedKept.{join_keeps, mine_keeps}
 use Rattle.run_engine.proofs.TrioKept.{starts_where_dealt, trio_keeps}
 use Rattle.honest_miners.proofs.Served.{three_served_miners}
 use Rattle.honest_miners.proofs.Three.{three_miners_answer}
 use Rattle.honest_miners.proofs.Written.{writes_with_honest_peers}
+use Rattle.host_views.proofs.Hosts.{hosts_see}
+use Rattle.net_laws.proofs.OneNet.{have_one_net}
 use Rattle.run_engine.proofs.Chains.{mapped_simulated, twin_read_again}
 use Rattle.view_laws.proofs.OpenedWords.{opened_is_told}
 use Rattle.clear_eval.specs.Offers.{offered}
@@ -54,6 +56,9 @@ module _ (words : List (List ℕ)) (m m' : Moment) (s : Status) (call : Call wor
   headline_kept g is = record {
     run_prints_evaluation = λ taken t steady.
         prints words m m' s (λ ask asks. (run_keeps words m m' s call ask asks t).gives) g is taken steady;
+    run_prints_what_miners_tell = λ can taken t steady.
+        tells_so g (told_by_miners g.ask (contents_in m) g.program g.entries g.tapes g.delivery is.held can taken) m.out m'.out s
+        (prints words m m' s (λ ask asks. (run_keeps words m m' s call ask asks t).gives) g is taken steady);
     made_deliveries_are_complete = λ made. made_taken g.ask (contents_in m) g.program g.entries g.tapes g.delivery is.held made;
     run_ends_by_budget_and_tapes = ends_by_budget_and_tapes g.program g.entries g.tapes g.ask.budget;
     run_writes_views_and_links = λ taken t steady.
@@ -68,6 +73,7 @@ module _ (words : List (List ℕ)) (m m' : Moment) (s : Status) (call : Call wor
 pub laws_kept : (words : List (List ℕ)) (files : Contents) → Laws words files
 laws_kept words files = record {
   three_miners_answer_the_run = three_miners_answer;
+  hosts_see_their_views = hosts_see;
   three_served_miners = three_served_miners;
   miner_writes_with_honest_peers = λ ask program entries tapes given coming. writes_with_honest_peers program entries tapes ask files given coming;
   compiled_code_means_program = λ ask program reached asks holds are. code_means ask.program files program holds reached are;
@@ -75,6 +81,7 @@ laws_kept words files = record {
   mapped_tapes_correspond = λ ask program entries tapes asks held. maps_correspond ask files program entries tapes held;
   simulated_views_are_views = λ ask program entries tapes more delivery asks held have.
       simulated_so ask files program entries tapes more delivery held have;
+  run_views_and_simulator_have_one_net = have_one_net;
   twins_see_the_same = λ ask program first second tapes asks held alike. twins_see_it ask files program first second tapes held alike;
   load_program_is_runnable = load_is_runnable;
   runs_open_what_they_tell = λ program entries lengths budget. opened_is_told (world_of Clear (offered entries lengths)) program budget [];

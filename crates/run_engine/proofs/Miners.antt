@@ -6,7 +6,10 @@ use Rattle.tape_file.specs.Tapes.{FourTapes}
 use Rattle.program_trees.specs.TypedPrograms.{TypedProgramTree}
 use Rattle.value_file.specs.declared.inputs.Entry.{Entry}
 use Rattle.protocol_model.specs.Network.{Accepted, Delivery}
+use Rattle.net_laws.specs.MinersTold.{IsToldByMiners}
+use Rattle.net_laws.proofs.MinersTold.{run_is_told}
 use Rattle.program_commands.specs.Dealt.{CanBeDealt}
+use Rattle.program_commands.specs.Reports.{eval_with}
 use Rattle.miner_commands.specs.Programs.{OwnRunsOnShares}
 use Rattle.miner_commands.proofs.Programs.{own_runs_where_accepted}
 use Rattle.miner_commands.specs.Premises.{HaveWords, IsMade}
@@ -31,6 +34,13 @@ pub miners_run : (ask : RunAsk) (files : Contents) (p : TypedProgramTree) (entri
     → HoldsRun ask files p entries tapes delivery → CanBeDealt entries tapes → OwnRunsOnShares p entries tapes ask.budget
 miners_run ask files p entries tapes delivery h can =
     own_runs_where_accepted p entries tapes ask.budget (accepted_so ask.program files p h.program) can
+
+-- they tell what evaluation tells
+pub told_by_miners : (ask : RunAsk) (files : Contents) (p : TypedProgramTree) (entries : List Entry) (tapes : FourTapes) (delivery : Delivery)
+    → HoldsRun ask files p entries tapes delivery → CanBeDealt entries tapes → net_for ask p entries tapes delivery ≡ Accepted
+    → IsToldByMiners p entries tapes ask.budget delivery (eval_with p entries tapes ask.budget)
+told_by_miners ask files p entries tapes delivery h can taken =
+    run_is_told p entries tapes ask.budget delivery (accepted_so ask.program files p h.program) can taken
 
 pub made_taken : (ask : RunAsk) (files : Contents) (p : TypedProgramTree) (entries : List Entry) (tapes : FourTapes) (delivery : Delivery)
     → HoldsRun ask files p entries tapes delivery → IsMade delivery → net_for ask p entries tapes delivery ≡ Accepted

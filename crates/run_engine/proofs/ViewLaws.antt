@@ -8,6 +8,7 @@ use Rattle.program_trees.specs.TypedPrograms.{TypedProgramTree}
 use Rattle.value_file.specs.declared.inputs.Entry.{Entry}
 use Rattle.value_file.specs.Public.{part_of}
 use Rattle.miner_commands.specs.Premises.{HaveWords}
+use Rattle.miner_commands.proofs.Agreeing.{nets_agree}
 use Rattle.protocol_model.specs.Network.{Delivery}
 use Rattle.program_views.specs.Simulated.{ViewIsSimulated}
 use Rattle.program_views.specs.TapeMaps.{IsTwin, MapsCorrespond, twinned}
@@ -39,7 +40,8 @@ simulated_so ask files p entries tapes more delivery h have =
       suffice =
           view_ended ask p (part_of entries) (opened_and ask p entries tapes more) (tapes_mapped ask p entries tapes) delivery v.view (v.made_with_more more);
       net =
-          nets_simulated ask.miner h.program.tree p entries tapes ask.budget delivery h.program.within.list given (of_words entries tapes have) more;
+          nets_simulated ask.miner h.program.tree p entries tapes ask.budget delivery h.program.within.list given (of_words entries tapes have) more
+          ∙ (nets_agree p entries tapes ask.budget delivery).answers;
       view = v.made_with_more more ∙ sym v.seen;
     }
 

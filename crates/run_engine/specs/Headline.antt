@@ -8,6 +8,9 @@ use Rattle.command_frame.specs.Answer.{after_writes}
 use Rattle.command_frame.specs.Finish.{PutLine}
 use Rattle.command_frame.specs.Moments.{AreSteady, Moment, files_alone}
 use Rattle.command_words.specs.Ask.{RunAsk, run, scheduled, words_of}
+use Rattle.sc_text.specs.declared.end.End.{End}
+use Rattle.sc_text.specs.declared.event.Event.{Event}
+use Rattle.sc_text.specs.Event.{run_text}
 use Rattle.sc_text.specs.declared.end.Ending.TheVariants.{Done, Trap, Budget, Tape}
 use Rattle.proto_core.specs.declared.link.Link.{Link}
 use Rattle.proto_core.specs.declared.party.Number.{Number}
@@ -29,7 +32,9 @@ use Rattle.miner_commands.specs.CodeViews.{SeesItsView}
 use Rattle.miner_commands.specs.Premises.{IsMade}
 use Rattle.miner_commands.specs.Programs.{OwnRunsOnShares}
 use Rattle.miner_commands.specs.Run.{recorded_links}
+use Rattle.net_laws.specs.MinersTold.{AreToldByMiners}
 use Rattle.program_commands.specs.Dealt.{CanBeDealt}
+use Rattle.program_commands.specs.Ends.{ending_status}
 use Rattle.program_views.specs.Simulated.{ViewIsSimulated}
 use Rattle.program_views.specs.TapeMaps.{MapsCorrespond}
 use Rattle.program_commands.specs.Schedules.{empty_line, stalled_line}
@@ -73,6 +78,14 @@ module _ (g : Given) where
   abbrev pub PrintsEvaluation : (before after : SinkState) → Status → Type 0
   PrintsEvaluation before after given =
       ((given ≡ end_status report_given) × Appends before after (eval_text report_given)) ⊎ (given ≡ Memory)
+
+  -- the text is that of what three miners tell who run the program's code, each by its shares and tape alone, their messages delivered in this order: put
+  -- together as the client does, and then the end at which all three have stopped; or memory ran out
+  abbrev pub PrintsWhatMinersTell : (before after : SinkState) → Status → Type 0
+  PrintsWhatMinersTell before after given =
+      ((events : List Event) × (end : End) × AreToldByMiners g.program g.entries g.tapes g.ask.budget g.delivery events end
+      × (given ≡ ending_status end.how) × Appends before after (run_text events end))
+      ⊎ (given ≡ Memory)
 
   -- the views and the delivered links are written, where they are asked for, and nothing else
   abbrev pub WritesViewsAndLinks : (before after : Contents) → Status → Type 0
@@ -133,6 +146,10 @@ pub record Headline (g : Given) (before after : Moment) (given : Status) : Type 
   -- exactly what evaluation in the clear does with tapes of these lengths, and end as it ends; or memory ran out.
   pub run_prints_evaluation :
       net_given g ≡ Accepted → before.sources.files.told ≡ true → AreSteady files_alone before → PrintsEvaluation g before.out after.out given
+  -- This text is what the three miners tell, each by its shares and tape alone, also where no views and no schedule are asked for; or memory ran out.
+  pub run_prints_what_miners_tell :
+      CanBeDealt g.entries g.tapes → net_given g ≡ Accepted → before.sources.files.told ≡ true → AreSteady files_alone before
+      → PrintsWhatMinersTell g before.out after.out given
   -- The delivery that takes always the first link with a message, and each that words choose, is complete.
   pub made_deliveries_are_complete : IsMade g.delivery → net_given g ≡ Accepted
   -- It ends done, or with a trap, exactly where some budget and some tapes let evaluation end so, at a cost within the budget and with

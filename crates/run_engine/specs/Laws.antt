@@ -15,8 +15,10 @@ use Rattle.gather_command.specs.Owners.{Lengths, Owner}
 use Rattle.honest_miners.specs.Laws.{ThreeServedMiners}
 use Rattle.honest_miners.specs.Miners.{WritesWithHonestPeers}
 use Rattle.honest_miners.specs.Three.{ThreeMinersAnswer}
+use Rattle.host_views.specs.Laws.{HostsSeeTheirViews}
 use Rattle.miner_command.specs.Files.{Given}
 use Rattle.miner_commands.specs.Premises.{HaveWords}
+use Rattle.net_laws.specs.OneNet.{HaveOneNet}
 use Rattle.program_commands.specs.Compile.{CodeMeansProgram}
 use Rattle.program_commands.specs.Held.{HoldsTyped}
 use Rattle.program_views.specs.TapeMaps.{IsTwin, MapsCorrespond, twinned}
@@ -39,6 +41,14 @@ pub record Laws (words : List (List ℕ)) (files : Contents) : Type 0 where
       (program : TypedProgramTree) (entries : List Entry) (tapes : FourTapes) (budget : ℕ) (digest : List ℕ) (code : RawCode)
       (asks : Number → MinerAsk) (files : Number → Contents) (coming : Number → ℕ → List ℕ)
       → ThreeMinersAnswer program entries tapes budget digest code asks files coming
+  -- PRIVACY ON THREE HOSTS. Of three such calls each host sees no more than its miner's view: the bytes that have come to it on a link, all or cut off
+  -- anywhere, begin the hello, which is made of what all three know, and the frames of the messages that its view has there, under every complete order
+  -- of delivery; so they begin what is made of the simulator's view, without any private word. Its share file has the public part and the shares of that
+  -- view, and its tape is its own of the mapped tapes. This is so of share files that `gather` wrote, too: they are those of one dealing, as below.
+  pub hosts_see_their_views :
+      (program : TypedProgramTree) (entries : List Entry) (tapes : FourTapes) (budget : ℕ) (digest : List ℕ) (code : RawCode)
+      (asks : Number → MinerAsk) (files : Number → Contents) (coming : Number → ℕ → List ℕ)
+      → HostsSeeTheirViews program entries tapes budget digest code asks files coming
   -- The same of the three nodes, with what each has opened and told by then; of one node alone; of messages instead of bytes; and of texts.
   pub three_served_miners : ThreeServedMiners
   -- One such call whose peers send all that the joint run sends writes its part of what evaluation tells, whatever its peers have received.
@@ -65,6 +75,11 @@ pub record Laws (words : List (List ℕ)) (files : Contents) : Type 0 where
       (ask : SimulateAsk) (program : TypedProgramTree) (entries : List Entry) (tapes : FourTapes) (more : List ℕ) (delivery : Delivery)
       → words_of words ≡ Some (simulate ask) → HoldsOfRun ask program entries tapes more delivery files → HaveWords entries tapes
       → IsOfRun ask program entries tapes more delivery
+  -- One net: whatever the delivery, the simulator that is told of a run takes or refuses it as `run` does, with the same entry, link and miner; and
+  -- where `run` takes it, the messages of a miner's view came on the links that it delivered, those that lead to the miner, in their order.
+  pub run_views_and_simulator_have_one_net :
+      (miner : Number) (program : TypedProgramTree) (entries : List Entry) (tapes : FourTapes) (budget : ℕ) (delivery : Delivery)
+      → HaveOneNet miner program entries tapes budget delivery
   -- Under every order of delivery the tapes that `twin` writes give the miner the same view, and the twin of the twin is the first tape.
   pub twins_see_the_same :
       (ask : TwinAsk) (program : TypedProgramTree) (first second : List Entry) (tapes : FourTapes) → words_of words ≡ Some (twin ask)
@@ -76,8 +91,8 @@ pub record Laws (words : List (List ℕ)) (files : Contents) : Type 0 where
       (program : TypedProgramTree) (entries : List Entry) (lengths : List ℕ) (budget : ℕ)
       → (run_on program entries lengths budget).opened ≡ opened_words (openings (run_on program entries lengths budget).events)
   -- Whatever the files are later: where they hold what `map` writes, and the same program, `simulate` for the same miner and budget finds there the
-  -- public part, the opened words and the mapped tapes of the run, under every order of delivery; so it writes the miner's view of the run,
-  -- which is the view that `run` writes.
+  -- public part, the opened words and the mapped tapes of the run, under every order of delivery; so where `run` takes the order it writes the
+  -- miner's view of the run, which is the view that `run` writes, and where `run` refuses it, so does `simulate`.
   pub mapped_files_are_simulated :
       (mapping : MapAsk) (program : TypedProgramTree) (entries : List Entry) (tapes : FourTapes) → words_of words ≡ Some (map_tape mapping)
       → HoldsMap mapping files program entries tapes → MappedIsSimulated mapping program entries tapes

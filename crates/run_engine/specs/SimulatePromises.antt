@@ -19,7 +19,8 @@ use Rattle.view_reader.specs.Opened.{opened_of}
 use Rattle.language_model.specs.Effects.{Short}
 use Rattle.blind_evaluation.specs.Courses.{IsEnded}
 use Rattle.program_views.specs.TapeMaps.{mapped}
-use Rattle.program_views.specs.Views.{lengths_of, net_of, run_on, view_of}
+use Rattle.program_views.specs.Views.{lengths_of, run_on, view_of}
+use Rattle.miner_commands.specs.Deliveries.{net_of}
 use Rattle.program_commands.specs.Reading.{delivery_at, opened_at, public_at, tape_file_at}
 use Rattle.program_commands.specs.Held.{HoldsTyped, ProgramRefused}
 use Rattle.run_engine.specs.Runs.{IsNotTaken}
@@ -92,7 +93,7 @@ module _ (ask : SimulateAsk) (program : TypedProgramTree) (entries : List Entry)
   HoldsOfRun files =
       HoldsSimulation ask files program (part_of entries) (opened_and ask program entries tapes more) (tapes_mapped ask program entries tapes) delivery
 
-  -- the words suffice, the delivery comes to what it comes to in the run, and the view is the one that the miner has of the run
+  -- the words suffice, the delivery comes to what it comes to in the run of `run`, and the view is the one that the miner has of the run
   pub record IsOfRun : Type 0 where
     pub suffice : IsEnded (stop_told ask program (part_of entries) (opened_and ask program entries tapes more) (tapes_mapped ask program entries tapes))
     pub net :

@@ -9,3 +9,4 @@ pub mod Openings
 pub mod Views
 pub mod OpenedWords
 pub mod OpenedFiles
+pub mod Named

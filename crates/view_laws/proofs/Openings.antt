@@ -28,7 +28,7 @@ use Rattle.view_reader.specs.Opened.{opened_bytes, opened_of}
 use Rattle.view_laws.proofs.OpenedFiles.{words_again}
 use Rattle.view_laws.proofs.OpenedWords.{opened_is_told}
 
-elements_are : (e : DataType) (words : List ℕ) → InRange e words → AreElements (map (element_of e) words)
+pub elements_are : (e : DataType) (words : List ℕ) → InRange e words → AreElements (map (element_of e) words)
 elements_are e [] h = tt
 elements_are datatype.Uint64 (x ∷ xs) h = (h 0, elements_are datatype.Uint64 xs (λ k. h (suc k)))
 elements_are datatype.Bool (x ∷ xs) h = (tt, elements_are datatype.Bool xs (λ k. h (suc k)))

@@ -59,12 +59,12 @@ module _ (p : TypedProgramTree) (entries : List Entry) (t : FourTapes) (budget :
         dealt = omega (arith, most, few, same);
       }
 
-  ends : CanBeWritten r.stop
+  pub ends : CanBeWritten r.stop
   ends =
       let a = can.program in
       programs_end a.source w budget [] a.typed a.written a.placed p a.of a.within room
 
-  cost : r.cost < 2 ^ 64
+  pub cost : r.cost < 2 ^ 64
   cost = let kept = cost_kept w p budget [] in let fits = can.counted.budget_fits in omega (arith, kept, fits)
 
   -- ---- what was opened

@@ -7,7 +7,7 @@
 mod ending_laws;
 mod laws;
 
-pub use ending_laws::ends_can_be_written;
+pub use ending_laws::{ends_can_be_written, events_are_named};
 pub use laws::{
     equal_view_texts_are_of_equal_views, opened_files_are_read_again, runs_open_what_they_tell,
     view_texts_are_read_again, views_are_of_their_form,
