@@ -4,6 +4,7 @@ use Rattle.std.specs.Str.{bytes_eq}
 use Rattle.clap.specs.Words.{Kinds, Row, Text, all_of, fault_of, first_of, subcommand_of}
 use Rattle.proto_core.specs.declared.party.Number.{Number}
 use Rattle.command_words.specs.Numbers.{number_of, miner_of, port_of, seed_of}
+use Rattle.command_words.specs.declared.command.TapeLengths.{TapeLengths}
 use Rattle.command_words.specs.Shapes.{secrec_app}
 
 -- where the tapes come from: a tape file, or a seed and how many words each tape has
@@ -119,11 +120,14 @@ pub record AuditAsk : Type 0 where
   pub second : Text
   pub third : Text
   pub public : Text
-  -- how many words the tapes of the dealer and of miners 1, 2 and 3 have
-  pub lengths : List ℕ
+  pub lengths : TapeLengths
   pub budget : ℕ
   -- where the order of deliveries is written
   pub recorded : Option Text
+
+-- the dealer's first
+abbrev pub four_lengths : TapeLengths → List ℕ
+four_lengths lengths = lengths.dealer ∷ lengths.first ∷ lengths.second ∷ lengths.third ∷ []
 
 -- a command, without where its words lie in memory
 pub data Ask : Type 0 where
@@ -297,13 +301,13 @@ trio_of rows = do
   })
 
 -- how many words the four tapes have
-unfoldable pub lengths_in : List Row → Option (List ℕ)
+unfoldable pub lengths_in : List Row → Option TapeLengths
 lengths_in rows = do
   dealer ← number_of (required_of (codes "len0") rows)
   one ← number_of (required_of (codes "len1") rows)
   two ← number_of (required_of (codes "len2") rows)
   three ← number_of (required_of (codes "len3") rows)
-  Some (dealer ∷ one ∷ two ∷ three ∷ [])
+  Some (record { dealer = dealer; first = one; second = two; third = three })
 
 unfoldable pub audit_of : List Row → Option AuditAsk
 audit_of rows = do

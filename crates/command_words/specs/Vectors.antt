@@ -419,7 +419,7 @@ audit_words : audit_with (codes "--len3" ∷ codes "18446744073709551615" ∷ co
       second = codes "b";
       third = codes "c";
       public = codes "f";
-      lengths = 4 ∷ 1 ∷ 2 ∷ 18446744073709551615 ∷ [];
+      lengths = record { dealer = 4; first = 1; second = 2; third = 18446744073709551615 };
       budget = 1000000;
       recorded = Some (codes "r");
     }))

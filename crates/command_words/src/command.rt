@@ -190,15 +190,24 @@ pub struct TrioWords {
     pub budget: u64,
 }
 
-/// The words of `audit`: the paths of the program, of the views of miners 1, 2 and 3 and of the public part of the inputs, how many words the
-/// tapes of the dealer and of miners 1, 2 and 3 have, the most that the run may cost, and the path to which an order of deliveries is written.
+/// How many words the tapes of the dealer and of miners 1, 2 and 3 have.
+#[derive(Clone, Copy)]
+pub struct TapeLengths {
+    pub dealer: u64,
+    pub first: u64,
+    pub second: u64,
+    pub third: u64,
+}
+
+/// The words of `audit`: the paths of the program, of the views of miners 1, 2 and 3 and of the public part of the inputs, the lengths of the
+/// tapes, the most that the run may cost, and the path to which an order of deliveries is written.
 pub struct AuditWords {
     pub program: String,
     pub first: String,
     pub second: String,
     pub third: String,
     pub public: String,
-    pub lengths: [u64; 4],
+    pub lengths: TapeLengths,
     pub budget: u64,
     pub recorded: Option<String>,
 }

@@ -13,8 +13,8 @@ mod values;
 
 pub use command::{
     AuditWords, CheckWords, Command, CompileWords, DealWords, DeliveryOrder, EvalWords,
-    GatherWords, JoinWords, LoadWords, MapWords, MinerWords, RunWords, SimulateWords, TapeOrigin,
-    TrioWords, TwinWords, WordsErr,
+    GatherWords, JoinWords, LoadWords, MapWords, MinerWords, RunWords, SimulateWords, TapeLengths,
+    TapeOrigin, TrioWords, TwinWords, WordsErr,
 };
 pub use reading::read;
 pub use tape_seed::TapeSeed;

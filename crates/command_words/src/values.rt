@@ -12,8 +12,8 @@ ghost use Rattle.command_words.specs.Views.{Reads, text_in, source_ask, order_as
 
 use crate::command::{
     AuditWords, CheckWords, Command, CompileWords, DealWords, DeliveryOrder, EvalWords,
-    GatherWords, JoinWords, LoadWords, MapWords, MinerWords, RunWords, SimulateWords, TapeOrigin,
-    TrioWords, TwinWords, WordsErr,
+    GatherWords, JoinWords, LoadWords, MapWords, MinerWords, RunWords, SimulateWords, TapeLengths,
+    TapeOrigin, TrioWords, TwinWords, WordsErr,
 };
 use crate::numbers::{miner, number, port, seed};
 use crate::tape_seed::TapeSeed;
@@ -470,14 +470,15 @@ fn length_in(matches: &ArgMatches, id: &str) -> Option<u64>
 
 // How many words the tapes of the dealer and of the three miners have.
 #[tactic(auto, unfolding(crate::specs::Ask::lengths_in))]
-fn lengths_in(matches: &ArgMatches) -> Option<[u64; 4]>
+fn lengths_in(matches: &ArgMatches) -> Option<TapeLengths>
     ensures { result ≡ lengths_in (rows_of (found_of matches.now)) }
 {
-    let dealer = length_in(matches, "len0")?;
-    let one = length_in(matches, "len1")?;
-    let two = length_in(matches, "len2")?;
-    let three = length_in(matches, "len3")?;
-    Some([dealer, one, two, three])
+    Some(TapeLengths {
+        dealer: length_in(matches, "len0")?,
+        first: length_in(matches, "len1")?,
+        second: length_in(matches, "len2")?,
+        third: length_in(matches, "len3")?,
+    })
 }
 
 // The paths of the views of miners 1, 2 and 3.
