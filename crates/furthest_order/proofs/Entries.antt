@@ -6,7 +6,7 @@ use Rattle.std.specs.Prelude.{slice_get}
 use Rattle.proto_core.specs.declared.party.Number.{Number}
 use Rattle.proto_core.specs.declared.party.Number.TheVariants.{One, Two, Three}
 use Rattle.proto_core.specs.declared.link.Link.{Link}
-use Rattle.proto_core.specs.Parties.{receiver_of, is_same, of_three}
+use Rattle.proto_core.specs.Parties.{count_of, receiver_of, is_same, of_three}
 use Rattle.proto_core.specs.Script.{Move}
 use Rattle.proto_core.proofs.Beginnings.{append-none}
 use Rattle.proto_core.proofs.Numbers.{same_is}
@@ -74,28 +74,45 @@ blocked_here net (x ∷ xs) (suc k) l at e = blocked_here net xs k l at e
 -- ---- one step
 
 module _ (orders : Number → List Link) (before later : NetState) (places : Places) where
+  -- no miner is lower than the first
+  below_one : (h : Number) → count_of h < count_of One → ⊥
+  below_one One lt = omega (arith, lt)
+  below_one Two lt = omega (arith, lt)
+  below_one Three lt = omega (arith, lt)
+
   pub serve_one : (next : ℕ) → GoesOn (orders One) before later places.one next true
       → StepsOn orders before later places (record { one = next; two = places.two; three = places.three }) true
-  serve_one next g = (One, record { gives = g.0; here = g.1; others = others })
+  serve_one next g = (One, record { gives = g.0; here = g.1; others = others; lower = λ h lt. absurd (below_one h lt) })
     where
       others : (k : Number) → is_same One k ≡ false → of_three next places.two places.three k ≡ place_of places k
       others One e = absurd cc
       others Two e = refl
       others Three e = refl
 
-  pub serve_two : (next : ℕ) → GoesOn (orders Two) before later places.two next true
+  pub serve_two : (next : ℕ) → IsBlockedIn before (drop places.one (orders One)) → GoesOn (orders Two) before later places.two next true
       → StepsOn orders before later places (record { one = places.one; two = next; three = places.three }) true
-  serve_two next g = (Two, record { gives = g.0; here = g.1; others = others })
+  serve_two next first g = (Two, record { gives = g.0; here = g.1; others = others; lower = lower })
     where
+      lower : (h : Number) → count_of h < count_of Two → IsBlockedIn before (drop (place_of places h) (orders h))
+      lower One lt = first
+      lower Two lt = absurd (omega (arith, lt))
+      lower Three lt = absurd (omega (arith, lt))
+
       others : (k : Number) → is_same Two k ≡ false → of_three places.one next places.three k ≡ place_of places k
       others One e = refl
       others Two e = absurd cc
       others Three e = refl
 
-  pub serve_three : (next : ℕ) → GoesOn (orders Three) before later places.three next true
+  pub serve_three : (next : ℕ) → IsBlockedIn before (drop places.one (orders One)) → IsBlockedIn before (drop places.two (orders Two))
+      → GoesOn (orders Three) before later places.three next true
       → StepsOn orders before later places (record { one = places.one; two = places.two; three = next }) true
-  serve_three next g = (Three, record { gives = g.0; here = g.1; others = others })
+  serve_three next first second g = (Three, record { gives = g.0; here = g.1; others = others; lower = lower })
     where
+      lower : (h : Number) → count_of h < count_of Three → IsBlockedIn before (drop (place_of places h) (orders h))
+      lower One lt = first
+      lower Two lt = second
+      lower Three lt = absurd (omega (arith, lt))
+
       others : (k : Number) → is_same Three k ≡ false → of_three places.one places.two next k ≡ place_of places k
       others One e = refl
       others Two e = refl

@@ -2,7 +2,7 @@
 use Rattle.std.specs.Prelude.{◌≡◌, ◌<◌, ◌≤◌, ◌+◌, ◌^◌, ℕ, Bool, true, false, List, [], ◌∷◌, length, drop, Some, slice_get}
 use Rattle.proto_core.specs.declared.party.Number.{Number}
 use Rattle.proto_core.specs.declared.link.Link.{Link}
-use Rattle.proto_core.specs.Parties.{receiver_of, is_same, of_three}
+use Rattle.proto_core.specs.Parties.{count_of, receiver_of, is_same, of_three}
 use Rattle.counted_net.specs.Nets.{NetState, after, is_under_way}
 use Rattle.furthest_order.specs.declared.along.Orders.{Orders}
 use Rattle.furthest_order.specs.declared.along.Places.{Places}
@@ -50,11 +50,12 @@ abbrev pub GoesOn : List Link → (before later : NetState) → (place next : �
 GoesOn order before later place next true = Gives order before later place × (next ≡ place + 1)
 GoesOn order before later place next false = IsBlockedIn before (drop place order) × (later ≡ before) × (next ≡ place)
 
--- the next entry of this miner's order is delivered, and the places in the other orders are as before
+-- the next entry of this miner's order is delivered, that of no lower miner can be, and the places in the other orders are as before
 pub record Serves (orders : Number → List Link) (before later : NetState) (places then : Places) (i : Number) : Type 0 where
   pub gives : Gives (orders i) before later (place_of places i)
   pub here : place_of then i ≡ place_of places i + 1
   pub others : (k : Number) → is_same i k ≡ false → place_of then k ≡ place_of places k
+  pub lower : (h : Number) → count_of h < count_of i → IsBlockedIn before (drop (place_of places h) (orders h))
 
 -- one order goes on; or none can
 abbrev pub StepsOn : (Number → List Link) → (before later : NetState) → (places then : Places) → Bool → Type 0

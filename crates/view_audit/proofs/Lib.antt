@@ -1,10 +1,16 @@
+pub mod Answered
 pub mod Asked
+pub mod Delivered
 pub mod Fit
+pub mod Joined
 pub mod LastLines
+pub mod Needs
 pub mod Nothing
 pub mod Padded
 pub mod Passed
+pub mod Ready
 pub mod Refuted
+pub mod Right
 pub mod Shown
 pub mod Undealt
 pub mod Whole

@@ -4,4 +4,6 @@ pub mod Laws
 pub mod OneRun
 pub mod Places
 pub mod Steps
+pub mod Told
 pub mod Vectors
+pub mod inner

@@ -30,6 +30,10 @@ mod view;
 mod words;
 
 pub use errors::SimulateErr;
+pub use gate_by_gate::scripts;
 pub use laws::{runs_are_simulated, told_runs_can_be_made};
+pub use script_laws::few_words_fit;
 pub use share_laws::made_shares_are_sized;
 pub use simulating::{SimulatedRun, simulate};
+pub use sizes::hidden_sizes;
+pub use words::see_part;

@@ -14,8 +14,8 @@ fn see_known(value: &PublicValue)
     }
 }
 
-/// What is known of inputs is of words of 64 bits.
-pub(crate) fn see_part(entries: &[PublicEntry])
+/// For proofs: from here on each word that is known of the inputs is known to be below 2^64. Nothing is changed or answered.
+pub fn see_part(entries: &[PublicEntry])
     ensures { All IsOfWords entries.now }
 {
     for entry in entries {

@@ -1,0 +1,1 @@
+use Rattle.audit_command.proofs.view_files.read_view.Goals as goal
