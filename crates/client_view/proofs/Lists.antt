@@ -86,13 +86,13 @@ words_back e (x ∷ words) h =
     ap (λ y. y ∷ map element_word (map (element_of e) words)) (word_back e x (h zero))
     ∙ ap (λ ys. x ∷ ys) (words_back e words (λ k. h (suc k)))
 
-handed_append : (es fs : List Event) → handed_elements (es ++ fs) ≡ handed_elements es ++ handed_elements fs
+pub handed_append : (es fs : List Event) → handed_elements (es ++ fs) ≡ handed_elements es ++ handed_elements fs
 handed_append [] fs = refl
 handed_append (Open elements ∷ es) fs = handed_append es fs
 handed_append (Publish text elements ∷ es) fs = handed_append es fs
 handed_append (Hand text elements ∷ es) fs = ap (λ (xs : List (List Element)). elements ∷ xs) (handed_append es fs)
 
-words_append : (es fs : List Event) → words_of (es ++ fs) ≡ words_of es ++ words_of fs
+pub words_append : (es fs : List Event) → words_of (es ++ fs) ≡ words_of es ++ words_of fs
 words_append es fs =
     ap (map (map element_word)) (handed_append es fs) ∙ map-append (map element_word) (handed_elements es) (handed_elements fs)
 

@@ -1,7 +1,6 @@
 -- What the client sees of the run of a program, and what the simulator makes of it.
 use Rattle.std.specs.Prelude.{ℕ, nat_le, if◌then◌else◌, List, [], ◌∷◌, ◌++◌, length, map, take, drop, Option, Some, None}
 use Rattle.sc_text.specs.declared.elements.Element.{Element}
-use Rattle.sc_text.specs.declared.end.End.{End}
 use Rattle.sc_text.specs.declared.event.Event.{Event}
 use Rattle.sc_text.specs.declared.event.Event.TheVariants.{Open, Publish, Hand}
 use Rattle.gates.specs.declared.gate.Gate.{Gate}
@@ -18,19 +17,9 @@ use Rattle.program_views.specs.Views.{lengths_of, run_on, told_run}
 use Rattle.handed_shares.specs.Handed.{all_of}
 use Rattle.client_model.specs.Given.{Given, made_from}
 use Rattle.client_model.specs.Laws.{given}
+pub use Rattle.client_text.specs.Seen.{Sighting, Opened, Said, Got, ClientView}
 
 -- ---- A VIEW
-
--- a value that was opened, one that was published, or one that was handed over: a share of it by each miner, and its elements
-pub data Sighting : Type 0 where
-  Opened : (elements : List Element) → Sighting
-  Said : (name : List ℕ) → (elements : List Element) → Sighting
-  Got : (name : List ℕ) → (given : Given) → (elements : List Element) → Sighting
-
--- in order, and how the run ended
-pub record ClientView : Type 0 where
-  pub sightings : List Sighting
-  pub end : End
 
 -- the events of a run, each that hands over with the next of these shares
 abbrev pub sightings : List Event → List Given → List Sighting

@@ -10,7 +10,7 @@ ghost use Rattle.view_model.specs.TapeMaps.{miners_of, four_of, to_simulated, fr
 use crate::dealer::seen_dealer;
 use crate::dealt::dealt_values;
 use crate::walk::map_gates;
-use crate::way::{ViewMap, Way};
+use crate::way::{Looker, TapeMap, Way};
 use gates::Gate;
 use joint_run::{JointErr, SharedValues, Tapes as MinersTapes};
 use proto_core::Number;
@@ -19,7 +19,7 @@ use tape_file::Tapes;
 use value_file::Inputs;
 
 /// The same tapes.
-fn copied(alloc: Global, tapes: &Tapes) -> Result<Tapes, AllocError>
+pub(crate) fn copied(alloc: Global, tapes: &Tapes) -> Result<Tapes, AllocError>
     ensures { IfOk result (λ copy. copy ≡ tapes.now) }
 {
     let dealer = tapes.dealer().to_vec(alloc)?;
@@ -30,7 +30,7 @@ fn copied(alloc: Global, tapes: &Tapes) -> Result<Tapes, AllocError>
 }
 
 /// Of gates that can be run, nothing but want of memory comes.
-fn memory_wanting(refused: JointErr) -> AllocError
+pub fn memory_wanting(refused: JointErr) -> AllocError
     requires { refused ≡ Memory }
 {
     match refused {
@@ -40,9 +40,9 @@ fn memory_wanting(refused: JointErr) -> AllocError
 }
 
 /// The miners' tapes, mapped on what was dealt, with these words of the dealer.
-fn mapped(
+pub(crate) fn mapped(
     alloc: Global,
-    map: ViewMap,
+    map: TapeMap,
     gates: &[Gate],
     dealt: &SharedValues,
     dealer: Vec<u64>,
@@ -82,7 +82,8 @@ pub fn to_simulated(
     };
     let seen = seen_dealer(alloc, miner, inputs, &dealt, tapes.dealer())?;
     let way = Way::ToView;
-    mapped(alloc, ViewMap { miner, way }, gates, &dealt, seen, tapes)
+    let looker = Looker::Miner(miner);
+    mapped(alloc, TapeMap { looker, way }, gates, &dealt, seen, tapes)
 }
 
 /// The way back: the tapes of the run whose view is made of these.
@@ -106,5 +107,6 @@ pub fn from_simulated(
         unreachable!()
     };
     let way = Way::FromView;
-    mapped(alloc, ViewMap { miner, way }, gates, &dealt, dealer, tapes)
+    let looker = Looker::Miner(miner);
+    mapped(alloc, TapeMap { looker, way }, gates, &dealt, dealer, tapes)
 }

@@ -1,0 +1,134 @@
+-- What two runs hand over, and that inputs which are alike to the client have twins.
+use Rattle.std.proofs.Common.{◌≡◌, ℕ, ◌+◌, ◌<◌, ◌≤◌, List, [], ◌∷◌, ◌++◌, length, take, get_or, refl, sym, ◌∙◌, ap, subst, inl, inr, arith, ◌⊎◌}
+use Rattle.std.proofs.Common.{append_assoc, length-append}
+use Rattle.std.proofs.lemmas.List.{take_more}
+use Rattle.proto_core.proofs.Beginnings.{append-none}
+use Rattle.sc_text.specs.declared.elements.Element.{Element}
+use Rattle.sc_text.specs.declared.event.Event.{Event}
+use Rattle.sc_text.specs.declared.event.Event.TheVariants.{Open, Publish, Hand}
+use Rattle.gates.specs.declared.gate.Gate.{Gate}
+use Rattle.program_trees.specs.TypedPrograms.{TypedProgramTree}
+use Rattle.value_file.specs.declared.inputs.Entry.{Entry}
+use Rattle.value_file.specs.declared.public.PublicEntry.{PublicEntry}
+use Rattle.value_file.specs.Public.{part_of}
+use Rattle.input_share.specs.Dealing.{need_of}
+use Rattle.tape_file.specs.Tapes.{FourTapes}
+use Rattle.language_model.specs.Reports.{Report}
+use Rattle.blind_evaluation.specs.Courses.{LikeEvents, TakeSameCourse}
+use Rattle.view_model.specs.Dealing.{dealt_to, private_sizes}
+use Rattle.view_model.specs.TapeMaps.{miners_of, four_of, AreTapes, CanRun, SameLengths}
+use Rattle.program_views.specs.Views.{lengths_of, run_on, told_run}
+use Rattle.program_views.specs.TapeMaps.{AreAlike}
+use Rattle.program_views.specs.Accepted.{IsAcceptedProgram}
+use Rattle.program_views.proofs.Blind.{same_course_exactly}
+use Rattle.program_views.proofs.Simulated.{same_lengths}
+use Rattle.tape_twin.specs.Alike.{BeginsWith, OneBegins}
+use Rattle.tape_twin.proofs.Runs.{alike-so, runs-on-same}
+use Rattle.client_view.specs.Views.{handed_elements, all_elements, published_of}
+use Rattle.client_view.specs.TapeMaps.{to_seen, from_seen, client_mapped, client_mapped_back, client_twinned, AreAlikeToClient}
+use Rattle.client_view.proofs.Lists.{handed_append}
+
+-- ---- WHAT EVENTS HAND OVER
+
+all_append : (xs ys : List (List Element)) → all_elements (xs ++ ys) ≡ all_elements xs ++ all_elements ys
+all_append [] ys = refl
+all_append (x ∷ xs) ys = ap (λ (es : List Element). x ++ es) (all_append xs ys) ∙ sym (append_assoc x (all_elements xs) (all_elements ys))
+
+pub published-append : (es fs : List Event) → published_of (es ++ fs) ≡ published_of es ++ published_of fs
+published-append es fs = ap all_elements (handed_append es fs) ∙ all_append (handed_elements es) (handed_elements fs)
+
+pub published-more :
+    (events : List Event) (published more : List Element) (k : ℕ) (d e : Event) → k < length events → e ≡ get_or events k d →
+    published ≡ published_of (take k events) → more ≡ published ++ published_of (e ∷ []) → more ≡ published_of (take (k + 1) events)
+published-more events published more k d e lt is so new =
+    new
+    ∙ ap (λ (es : List Element). es ++ published_of (e ∷ [])) so
+    ∙ sym (published-append (take k events) (e ∷ []))
+    ∙ ap published_of (ap (λ (x : Event). take k events ++ x ∷ []) is ∙ sym (take_more events k d lt))
+
+-- ---- ALIKE
+
+-- who takes the same course hands over as many elements
+as_many : (es fs : List Event) → LikeEvents es fs → length (published_of es) ≡ length (published_of fs)
+as_many [] [] h = refl
+as_many [] (f ∷ fs) h = absurd h
+as_many (e ∷ es) [] h = absurd h
+as_many (Open elements ∷ es) (Open others ∷ fs) h = as_many es fs h.1
+as_many (Publish text elements ∷ es) (Publish text' others ∷ fs) h = as_many es fs h.1
+as_many (Hand text elements ∷ es) (Hand text' others ∷ fs) h =
+    length-append elements (published_of es)
+    ∙ ap (λ n. n + length (published_of es)) h.0.1
+    ∙ ap (λ n. length others + n) (as_many es fs h.1)
+    ∙ sym (length-append others (published_of fs))
+as_many (Open elements ∷ es) (Publish text others ∷ fs) h = absurd h.0
+as_many (Open elements ∷ es) (Hand text others ∷ fs) h = absurd h.0
+as_many (Publish text elements ∷ es) (Open others ∷ fs) h = absurd h.0
+as_many (Publish text elements ∷ es) (Hand text' others ∷ fs) h = absurd h.0
+as_many (Hand text elements ∷ es) (Open others ∷ fs) h = absurd h.0
+as_many (Hand text elements ∷ es) (Publish text' others ∷ fs) h = absurd h.0
+
+begins_as_long : (xs ys : List Element) → BeginsWith xs ys → length xs ≡ length ys → xs ≡ ys
+begins_as_long xs ys begins long =
+    begins.is ∙ ap (λ (more : List Element). ys ++ more) (nothing begins.more (ap length (sym begins.is) ∙ long)) ∙ append-none ys
+  where
+    nothing : (more : List Element) → length (ys ++ more) ≡ length ys → more ≡ []
+    nothing [] e = refl
+    nothing (x ∷ more) e = let l = length-append ys (x ∷ more) in absurd (omega (arith, e, l))
+
+same_so : (xs ys : List Element) → OneBegins xs ys → length xs ≡ length ys → xs ≡ ys
+same_so xs ys one long =
+    elim one as (λ _. xs ≡ ys) [
+      | inl begins ↦ begins_as_long xs ys begins long
+      | inr begins ↦ sym (begins_as_long ys xs begins (sym long))
+    ]
+
+module _ (p : TypedProgramTree) (lengths : List ℕ) (budget : ℕ) (first second : List Entry) where
+  abbrev run : List Entry → Report
+  run entries = run_on p entries lengths budget
+
+  abbrev told : Report
+  told = told_run p (part_of first) (run first).opened lengths budget
+
+  module _ (alike : AreAlike p first second lengths budget) where
+    -- the second run takes the course of one who is told what the first opens
+    second_course : TakeSameCourse (run second) told
+    second_course =
+        subst (λ (opened : List ℕ). TakeSameCourse (run second) (told_run p (part_of first) opened lengths budget)) (sym alike.opened)
+        (subst (λ (part : List PublicEntry). TakeSameCourse (run second) (told_run p part (run second).opened lengths budget)) (sym alike.known)
+        (same_course_exactly p second lengths budget))
+
+    equally_many : length (published_of (run first).events) ≡ length (published_of (run second).events)
+    equally_many =
+        as_many (run first).events told.events (same_course_exactly p first lengths budget).events
+        ∙ sym (as_many (run second).events told.events second_course.events)
+
+    pub alike-to-client : OneBegins (published_of (run first).events) (published_of (run second).events) → AreAlikeToClient p first second lengths budget
+    alike-to-client one =
+        record {
+          known = alike.known;
+          opened = alike.opened;
+          published = same_so (published_of (run first).events) (published_of (run second).events) one equally_many;
+        }
+
+  pub all-alike :
+      part_of first ≡ part_of second → OneBegins (run first).opened (run second).opened →
+      OneBegins (published_of (run first).events) (published_of (run second).events) → AreAlikeToClient p first second lengths budget
+  all-alike known opened published = alike-to-client (alike-so p lengths budget first second known opened) published
+
+-- ---- THE TWIN
+
+-- the tapes that the client's view is made of are as long as those of the run
+pub seen-long :
+    (entries : List Entry) (gates : List Gate) (t seen : FourTapes) → SameLengths (to_seen entries gates t) t → seen ≡ to_seen entries gates t →
+    SameLengths seen t
+seen-long entries gates t seen same is = subst (λ (s : FourTapes). SameLengths s t) (sym is) same
+
+pub twin-is :
+    (p : TypedProgramTree) (first second : List Entry) (t seen made : FourTapes) (budget : ℕ) (one other : Report) → SameLengths seen t →
+    one ≡ run_on p first (lengths_of t) budget → other ≡ run_on p second (lengths_of t) budget →
+    seen ≡ to_seen first one.gates t → made ≡ from_seen second other.gates seen → made ≡ client_twinned p first second t budget
+twin-is p first second t seen made budget one other kept first-run second-run there back =
+    back
+    ∙ ap (λ (r : Report). from_seen second r.gates seen) second-run
+    ∙ ap (λ (ls : List ℕ). from_seen second (run_on p second ls budget).gates seen) (sym (same_lengths seen t kept))
+    ∙ ap (λ (s : FourTapes). client_mapped_back p second s budget) (there ∙ ap (λ (r : Report). to_seen first r.gates t) first-run)
