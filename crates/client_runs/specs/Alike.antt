@@ -1,36 +1,26 @@
 -- The first difference of two inputs to the client: of their public parts, of what is opened, or of what is handed over.
 use Rattle.std.specs.Prelude.{◌≡◌, ℕ, List}
-use Rattle.sc_text.specs.declared.elements.Element.{Element}
 use Rattle.program_trees.specs.TypedPrograms.{TypedProgramTree}
 use Rattle.value_file.specs.declared.inputs.Entry.{Entry}
 use Rattle.value_file.specs.Public.{part_of}
-use Rattle.view_reader.specs.Opened.{element_word}
 use Rattle.program_views.specs.Views.{run_on}
-use Rattle.tape_twin.specs.Alike.{PartsDiffer, ListsDiffer, WordsDiffer}
+use Rattle.tape_twin.specs.Alike.{PartsDiffer, WordsDiffer}
 use Rattle.client_view.specs.Views.{published_of}
 use Rattle.client_runs.specs.declared.twin_err.TwinErr.{TwinErr}
 use Rattle.client_runs.specs.declared.twin_err.TwinErr.TheVariants.{PublicDiffers, OpenedDiffers, PublishedDiffers, Memory}
-
--- at this place two lists of elements first differ, and there are elements of these words
-pub record ElementsDiffer (first second : List Element) (place x y : ℕ) : Type 0 where
-  pub one : Element
-  pub other : Element
-  pub differ : ListsDiffer first second place one other
-  pub one_word : x ≡ element_word one
-  pub other_word : y ≡ element_word other
 
 module _ (p : TypedProgramTree) (first second : List Entry) (lengths : List ℕ) (budget : ℕ) where
   abbrev pub opened_with : List Entry → List ℕ
   opened_with entries = (run_on p entries lengths budget).opened
 
-  abbrev pub published_with : List Entry → List Element
+  abbrev pub published_with : List Entry → List ℕ
   published_with entries = published_of (run_on p entries lengths budget).events
 
-  -- the public parts are the same and so are the opened words, and the elements that are handed over differ here
+  -- the public parts are the same and so are the opened words, and what is handed over differs here
   pub record PublishedDiffer (place x y : ℕ) : Type 0 where
     pub known : part_of first ≡ part_of second
     pub opened : opened_with first ≡ opened_with second
-    pub published : ElementsDiffer (published_with first) (published_with second) place x y
+    pub published : WordsDiffer (published_with first) (published_with second) place x y
 
   -- why there is no twin
   abbrev pub RefusesClientTwin : TwinErr → Type 0

@@ -1,29 +1,27 @@
-// Whether two runs hand over the same.
-ghost use Rattle.std.specs.Prelude.{◌≡◌, ◌↔◌, ◌++◌, [], ◌∷◌, IsTrue, IfOk, IfSome, IfNone, OnOk};
-ghost use Rattle.view_reader.specs.Opened.{element_word};
+// What two runs hand over, and where they differ.
+ghost use Rattle.std.specs.Prelude.{◌≡◌, ◌++◌, [], ◌∷◌, IfOk, IfErr, OnOk};
 ghost use Rattle.client_view.specs.Views.{published_of};
-ghost use Rattle.tape_twin.specs.Alike.{OneBegins};
-ghost use Rattle.client_runs.specs.Alike.{ElementsDiffer};
+ghost use Rattle.client_runs.specs.inner.Steps.{RunsAgree, RunsRefuse};
 
-use sc_text::{Element, Event};
+use crate::twin_err::TwinErr;
+use clear_eval::Report;
+use sc_text::Event;
 use std::alloc::{AllocError, Global};
-use view_reader::element_word;
+use tape_twin::first_difference;
+use view_reader::push_words;
 
-/// The elements that an event hands over, after those that are there.
-fn push_handed(published: &mut Vec<Element>, event: &Event) -> Result<(), AllocError>
+/// The words of what an event hands over, after those that are there.
+fn push_handed(published: &mut Vec<u64>, event: &Event) -> Result<(), AllocError>
     ensures { OnOk result (published.new.items ≡ published.old.items ++ published_of (event.now ∷ [])) }
 {
     match event {
-        Event::Hand(_, elements) => {
-            published.extend_from_slice(elements.as_slice())?;
-            Ok(())
-        }
+        Event::Hand(_, elements) => push_words(published, elements.as_slice()),
         Event::Open(_) | Event::Publish(_, _) => Ok(()),
     }
 }
 
-/// The elements that are handed over, value after value.
-pub fn published_of(alloc: Global, events: &[Event]) -> Result<Vec<Element>, AllocError>
+/// The words of what is handed over, value after value.
+pub fn published_of(alloc: Global, events: &[Event]) -> Result<Vec<u64>, AllocError>
     ensures { IfOk result (λ published. published.items ≡ published_of events.now) }
 {
     let mut published = Vec::new(alloc);
@@ -33,27 +31,29 @@ pub fn published_of(alloc: Global, events: &[Event]) -> Result<Vec<Element>, All
     Ok(published)
 }
 
-/// Whether two elements are the same.
-fn same_element(x: Element, y: Element) -> bool
-    ensures { IsTrue result ↔ (x ≡ y) }
+/// What differs to the client in two runs, if anything does: the first word that is opened, else the first that is handed over.
+pub(crate) fn run_difference(alloc: Global, one: &Report, other: &Report) -> Result<(), TwinErr>
+    ensures same { OnOk result (RunsAgree one.now other.now) }
+    ensures differ { IfErr result (RunsRefuse one.now other.now) }
 {
-    match (x, y) {
-        (Element::Word(a), Element::Word(b)) => a == b,
-        (Element::Truth(a), Element::Truth(b)) => a == b,
-        _ => false,
-    }
-}
-
-/// The place at which two lists of elements first differ, with the word of each there; none where one of them begins with the other.
-pub(crate) fn first_difference(first: &[Element], second: &[Element]) -> Option<(usize, u64, u64)>
-    ensures some { IfSome result (λ found. ElementsDiffer first.now second.now found.0 found.1 found.2) }
-    ensures none { IfNone result (OneBegins first.now second.now) }
-{
-    let shorter = first.len().min(second.len());
-    for k in 0..shorter {
-        if !same_element(first[k], second[k]) {
-            return Some((k, element_word(first[k]), element_word(second[k])));
+    match first_difference(&one.opened, &other.opened) {
+        Some((place, first, second)) => {
+            return Err(TwinErr::OpenedDiffers {
+                place,
+                first,
+                second,
+            });
         }
+        None => {}
     }
-    None
+    let published = published_of(alloc, &one.events)?;
+    let others = published_of(alloc, &other.events)?;
+    match first_difference(&published, &others) {
+        Some((place, first, second)) => Err(TwinErr::PublishedDiffers {
+            place,
+            first,
+            second,
+        }),
+        None => Ok(()),
+    }
 }

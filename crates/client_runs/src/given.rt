@@ -30,8 +30,11 @@ fn made_by(gate: &Gate) -> u64
 
 /// Each miner's share of the value of a number.
 fn shares_at(alloc: Global, shares: &SharedValues, number: u64) -> Result<Given, AllocError>
-    ensures { IfOk result (λ given. given ≡ record { first = value (values_of shares.now One) number; second = value (values_of shares.now Two) number;
-        third = value (values_of shares.now Three) number }) }
+    ensures { IfOk result (λ given. given ≡ record {
+      first = value (values_of shares.now One) number;
+      second = value (values_of shares.now Two) number;
+      third = value (values_of shares.now Three) number;
+    }) }
 {
     let first = shares.first.value(number).to_vec(alloc)?;
     let second = shares.second.value(number).to_vec(alloc)?;
@@ -63,7 +66,11 @@ fn push_given(
 }
 
 /// The shares of what these gates hand over.
-fn given_from(alloc: Global, gates: &[Gate], shares: &SharedValues) -> Result<Vec<Given>, AllocError>
+fn given_from(
+    alloc: Global,
+    gates: &[Gate],
+    shares: &SharedValues,
+) -> Result<Vec<Given>, AllocError>
     ensures { IfOk result (λ given. given.items ≡ given_from all_of 0 (values_of shares.now) gates.now) }
 {
     let mut given = Vec::new(alloc);

@@ -7,48 +7,20 @@ ghost use Rattle.program_views.specs.Accepted.{IsAcceptedProgram};
 ghost use Rattle.program_views.specs.Views.{lengths_of};
 ghost use Rattle.client_view.specs.TapeMaps.{client_twinned, AreAlikeToClient};
 ghost use Rattle.client_runs.specs.Alike.{RefusesClientTwin};
-ghost use Rattle.client_runs.specs.inner.Steps.{RunsAgree, RunsRefuse};
 
-use crate::alike::{first_difference, published_of};
+use crate::alike::run_difference;
 use crate::twin_err::TwinErr;
-use clear_eval::Report;
+use input_share::see_entries;
 use program_trees::TypedProgram;
 use std::alloc::Global;
 use tape_file::Tapes;
-use tape_twin::{Both, first_difference as first_opened, from_client, public_difference, report_on, to_client};
+use tape_twin::{Both, from_client, public_difference, report_on, to_client};
 use value_file::Inputs;
 use view_model::see_tapes;
 
-/// What differs to the client in two runs, if anything does: the first word that is opened, else the first element that is handed over.
-fn run_difference(alloc: Global, one: &Report, other: &Report) -> Result<(), TwinErr>
-    ensures same { OnOk result (RunsAgree one.now other.now) }
-    ensures differ { IfErr result (RunsRefuse one.now other.now) }
-{
-    match first_opened(&one.opened, &other.opened) {
-        Some((place, first, second)) => {
-            return Err(TwinErr::OpenedDiffers {
-                place,
-                first,
-                second,
-            });
-        }
-        None => {}
-    }
-    let published = published_of(alloc, &one.events)?;
-    let others = published_of(alloc, &other.events)?;
-    match first_difference(&published, &others) {
-        Some((place, first, second)) => Err(TwinErr::PublishedDiffers {
-            place,
-            first,
-            second,
-        }),
-        None => Ok(()),
-    }
-}
-
 /// The tapes with which the client's view of an accepted program's run on the second inputs is its view of the run on the first inputs with
 /// these tapes, for two inputs that are alike to it: with the same public part, and with which the same words are opened and the same
-/// elements handed over.
+/// handed over.
 ///
 /// Where they are not alike, the first difference is told, that of the public parts before that of the opened words, and this before that of
 /// what is handed over.
@@ -75,6 +47,7 @@ pub fn twin(
         Some(name) => return Err(TwinErr::PublicDiffers(name)),
         None => {}
     }
+    see_entries(first.entries());
     see_tapes(tapes);
     let one = report_on(alloc, program, first, tapes, budget)?;
     let other = report_on(alloc, program, second, tapes, budget)?;

@@ -1,14 +1,16 @@
 -- What is made of gates, one after another.
 use Rattle.std.proofs.Common.{◌≡◌, ℕ, ◌+◌, ◌-◌, ◌<◌, ◌≤◌, true, List, [], ◌∷◌, ◌++◌, length, take, drop, refl, sym, ◌∙◌, ap, subst, arith, length-drop}
-use Rattle.std.proofs.lemmas.List.{append_assoc}
+use Rattle.std.proofs.lemmas.List.{append_assoc, drop_all, drop_more}
 use Rattle.proto_core.proofs.Beginnings.{append-none}
 use Rattle.proto_core.specs.declared.party.Number.{Number}
 use Rattle.proto_core.specs.declared.party.Number.TheVariants.{One}
 use Rattle.protocol_model.specs.Gates.{needed, sizes_of}
 use Rattle.protocol_model.specs.Runs.{Tapes}
+use Rattle.protocol_model.proofs.Sizes.{needed-append}
 use Rattle.gates.specs.declared.gate.Gate.{Gate}
 use Rattle.gates.specs.declared.gate.Gate.TheVariants.{Mul, And, Split, Conv, Open, Result}
-use Rattle.gates.specs.Clear.{Values, value}
+use Rattle.gates.specs.declared.ring_kind.RingKind.{RingKind}
+use Rattle.gates.specs.Clear.{Values, value, ring_of}
 use Rattle.gates.specs.Counts.{made_by, size_of}
 use Rattle.shared_gates.specs.Model.{SizesSuit, sizes_made, sizes_after, run_gate, run_gates}
 use Rattle.shared_gates.proofs.GatesBehind.{sizes-then}
@@ -18,7 +20,7 @@ use Rattle.joint_run.specs.JointRuns.{dealt_sizes, IsEven, CanRun, sizes_behind,
 use Rattle.joint_run.specs.GateByGate.{Through, own_sizes, RunsGate}
 use Rattle.joint_run.proofs.GateLists.{next-through}
 use Rattle.handed_shares.specs.Handed.{all_of}
-use Rattle.client_model.specs.Given.{Given, made_by_gate, published_after, after_gate, made_from}
+use Rattle.client_model.specs.Given.{Given, made_given, slots_of, made_by_gate, published_after, after_gate, made_from}
 use Rattle.tape_twin.proofs.Passing.{same_for}
 use Rattle.client_runs.proofs.Given.{draws-at}
 use Rattle.client_simulator.specs.inner.Steps.{HasSlots}
@@ -35,11 +37,57 @@ needs-same dealt ds sizes (Open ring u) i = refl
 needs-same dealt ds sizes (Result ring u) i = refl
 needs-same dealt ds sizes _ i = refl
 
+pub all-need-same :
+    (dealt other : Number → Values) (ds sizes : List ℕ) (gates : List Gate) (i : Number) →
+    needed (run_gates dealt ds sizes gates) i ≡ needed (run_gates other ds sizes gates) i
+all-need-same dealt other ds sizes [] i = refl
+all-need-same dealt other ds sizes (gate ∷ gates) i =
+    let next : List ℕ = sizes ++ sizes_made ds sizes gate in
+    needed-append (run_gate dealt ds sizes gate ∷ []) (run_gates dealt ds next gates) i
+    ∙ ap (λ n. n + needed (run_gates dealt ds next gates) i) (needs-same dealt ds sizes gate i ∙ sym (needs-same other ds sizes gate i))
+    ∙ ap (λ n. needed (run_gate other ds sizes gate ∷ []) i + n) (all-need-same dealt other ds next gates i)
+    ∙ sym (needed-append (run_gate other ds sizes gate ∷ []) (run_gates other ds next gates) i)
+
+-- ---- ONE GATE
+
+pub nothing-made :
+    (gate : Gate) (sizes : List ℕ) (words : Values) (tapes : Tapes) → ((ring : RingKind) (u : ℕ) → gate ≡ Result ring u → ⊥) →
+    made_by_gate gate true sizes words tapes ≡ []
+nothing-made (Result ring u) sizes words tapes not = absurd (not ring u refl)
+nothing-made _ sizes words tapes not = refl
+
+pub nothing-taken :
+    (gate : Gate) (words : Values) → ((ring : RingKind) (u : ℕ) → gate ≡ Result ring u → ⊥) → published_after gate true words ≡ words
+nothing-taken (Result ring u) words not = absurd (not ring u refl)
+nothing-taken _ words not = refl
+
+pub none-left : (ring : RingKind) (u : ℕ) (sizes : List ℕ) (words : Values) (tapes : Tapes) (k : ℕ) → length words ≤ k →
+    made_by_gate (Result ring u) true sizes (drop k words) tapes ≡ []
+none-left ring u sizes words tapes k le = ap (λ (ws : Values). made_by_gate (Result ring u) true sizes ws tapes) (drop_all k words le)
+
+pub none-after : (ring : RingKind) (u : ℕ) (words : Values) (k : ℕ) → length words ≤ k → drop k words ≡ published_after (Result ring u) true (drop k words)
+none-after ring u words k le =
+    drop_all k words le ∙ sym (ap (λ (ws : Values). published_after (Result ring u) true ws) (drop_all k words le))
+
+next-words : (words : Values) (k : ℕ) → k < length words → drop k words ≡ value words k ∷ drop (k + 1) words
+next-words words k lt = drop_more words k [] lt
+
+pub one-made : (ring : RingKind) (u : ℕ) (sizes : List ℕ) (words : Values) (tapes : Tapes) (k : ℕ) → k < length words →
+    made_by_gate (Result ring u) true sizes (drop k words) tapes
+    ≡ made_given (ring_of ring) (size_of sizes u) (slots_of sizes (Result ring u) tapes) (value words k) ∷ []
+one-made ring u sizes words tapes k lt = ap (λ (ws : Values). made_by_gate (Result ring u) true sizes ws tapes) (next-words words k lt)
+
+pub one-after : (ring : RingKind) (u : ℕ) (words : Values) (k : ℕ) → k < length words →
+    drop (k + 1) words ≡ published_after (Result ring u) true (drop k words)
+one-after ring u words k lt = sym (ap (λ (ws : Values). published_after (Result ring u) true ws) (next-words words k lt))
+
+-- ---- GATE AFTER GATE
+
 module _ (dealt : Number → Values) (gates : List Gate) (words : Values) (tapes : Tapes) where
-  abbrev ds : List ℕ
+  abbrev pub ds : List ℕ
   ds = dealt_sizes dealt
 
-  abbrev whole : List Given
+  abbrev pub whole : List Given
   whole = made_from all_of 0 ds [] gates words tapes
 
   -- these gates are run, and what is made of them and of the later ones is the whole

@@ -1,16 +1,15 @@
 // The shares that the simulator makes of what is handed over.
-ghost use Rattle.std.specs.Prelude.{◌≡◌, ◌≤◌, ◌++◌, [], length, drop, take, IfOk, OnOk};
+ghost use Rattle.std.specs.Prelude.{◌≡◌, true, [], ◌++◌, length, drop, IfOk, OnOk};
+ghost use Rattle.proto_core.specs.Lists.{at};
 ghost use Rattle.open_result.specs.Opening.{left_of_opened};
-ghost use Rattle.gates.specs.Clear.{value};
-ghost use Rattle.gates.specs.declared.gate.Gate.TheVariants.{Result as ResultGate};
-ghost use Rattle.proto_core.specs.declared.party.Number.{Number as NumberValue};
+ghost use Rattle.gates.specs.declared.gate.Gate.TheVariants.{Result};
 ghost use Rattle.joint_run.specs.Three.{each_of, values_of};
 ghost use Rattle.joint_run.specs.States.{state_of};
 ghost use Rattle.joint_run.specs.GateByGate.{own_sizes};
 ghost use Rattle.joint_run.specs.JointRuns.{CanRun, dealt_sizes};
 ghost use Rattle.handed_shares.specs.Handed.{all_of};
-ghost use Rattle.client_model.specs.Given.{made_given, made_by_gate, made_from};
-ghost use Rattle.client_simulator.specs.inner.Steps.{HasSlots, taken_after};
+ghost use Rattle.client_model.specs.Given.{made_by_gate, published_after, made_from};
+ghost use Rattle.client_simulator.specs.inner.Steps.{HasSlots};
 
 use client_text::Given;
 use gates::{Gate, RingKind, Values};
@@ -18,6 +17,13 @@ use joint_run::{JointRun, SharedValues, Tapes, run_gate};
 use proto_core::{AddRing, ShareRing, XorRing};
 use std::alloc::{AllocError, Global};
 use tape_twin::memory_wanting;
+
+/// A gate that hands over.
+#[derive(Clone, Copy)]
+struct Handed {
+    ring: RingKind,
+    operand: u64,
+}
 
 /// The word at a place, and 0 past the end.
 fn word_at(words: &[u64], at: usize) -> u64
@@ -63,8 +69,38 @@ fn made_of<R: ShareRing>(
     })
 }
 
-/// What is made of a gate, after what is made before: of one that hands over by the words of the value of this number, if there are such. The
-/// answer is the number of the next.
+/// What is made of a gate that hands over, after what is made before: by the words of the value of this number, if there are such. The answer
+/// is the number of the next.
+fn push_handed(
+    alloc: Global,
+    made: &mut Vec<Given>,
+    handed: Handed,
+    run: &JointRun,
+    words: &Values,
+    number: usize,
+) -> Result<usize, AllocError>
+    requires { HasSlots (Result handed.ring handed.operand) (state_of run.now) }
+    ensures made { OnOk result (made.new.items ≡ made.old.items
+        ++ made_by_gate (Result handed.ring handed.operand) true (own_sizes (state_of run.now)) (drop number words.now) (state_of run.now).tapes) }
+    ensures next { IfOk result (λ next.
+        drop next words.now ≡ published_after (Result handed.ring handed.operand) true (drop number words.now)) }
+{
+    if number >= words.len() {
+        return Ok(number);
+    }
+    let n = run.shares.first.value(handed.operand).len();
+    let first = &run.tapes.first[..n];
+    let second = &run.tapes.second[..n];
+    let own = words.value(number as u64);
+    let given = match handed.ring {
+        RingKind::Arithmetic => made_of::<AddRing>(alloc, own, first, second)?,
+        RingKind::Boolean => made_of::<XorRing>(alloc, own, first, second)?,
+    };
+    made.push(given)?;
+    Ok(number + 1)
+}
+
+/// The same of any gate: of one that does not hand over nothing is made.
 fn push_made(
     alloc: Global,
     made: &mut Vec<Given>,
@@ -78,22 +114,16 @@ fn push_made(
         (made.new.items ≡ made.old.items ++ made_by_gate gate.now true (own_sizes (state_of run.now)) (drop number words.now) (state_of run.now).tapes) }
     ensures next { IfOk result (λ next. drop next words.now ≡ published_after gate.now true (drop number words.now)) }
 {
-    let Gate::Result { ring, operand } = gate else {
-        return Ok(number);
-    };
-    if number >= words.len() {
-        return Ok(number);
+    match gate {
+        Gate::Result { ring, operand } => {
+            let handed = Handed {
+                ring: *ring,
+                operand: *operand,
+            };
+            push_handed(alloc, made, handed, run, words, number)
+        }
+        _ => Ok(number),
     }
-    let n = run.shares.first.value(*operand).len();
-    let first = &run.tapes.first[..n];
-    let second = &run.tapes.second[..n];
-    let handed = words.value(number as u64);
-    let given = match ring {
-        RingKind::Arithmetic => made_of::<AddRing>(alloc, handed, first, second)?,
-        RingKind::Boolean => made_of::<XorRing>(alloc, handed, first, second)?,
-    };
-    made.push(given)?;
-    Ok(number + 1)
 }
 
 /// What is made of these gates, by sizes alone: the words of the values that are handed over, and the tapes.

@@ -9,7 +9,7 @@ use std::alloc::AllocError;
 pub enum SimulateErr {
     /// An opened value wanted more words than were left; `have` were told in all.
     OpenedShort { have: u64 },
-    /// A value that is handed over wanted more elements than were left; `have` were told in all.
+    /// A value that is handed over wanted more words than were left; `have` were told in all.
     PublishedShort { have: u64 },
     /// There is no memory left.
     Memory,

@@ -25,21 +25,21 @@ use gates::Gate;
 use input_share::see_words;
 use joint_run::Tapes as MinersTapes;
 use program_trees::TypedProgram;
-use sc_text::{Element, Event};
+use sc_text::Event;
 use std::alloc::{AllocError, Global};
 use tape_file::Tapes;
 use value_file::PublicPart;
 use view_model::see_tapes;
 use view_simulator::{hidden_sizes, see_part};
 
-/// What the simulator is told of a run: the program, what everybody may know of the inputs, the words that are opened and the elements that are
+/// What the simulator is told of a run: the program, what everybody may know of the inputs, the words that are opened and those that are
 /// handed over, each one after another, and tapes and a budget.
 #[derive(Clone, Copy)]
 pub struct SimulatedRun<'r> {
     pub program: &'r TypedProgram,
     pub part: &'r PublicPart,
     pub opened: &'r [u64],
-    pub published: &'r [Element],
+    pub published: &'r [u64],
     pub tapes: &'r Tapes,
     pub budget: u64,
 }
@@ -92,12 +92,8 @@ fn given_told(
     made_from(alloc, gates, &dealt, &words, own)
 }
 
-/// The view of a run that ended, told these elements.
-fn view_told(
-    alloc: Global,
-    run: &SimulatedRun,
-    report: &Report,
-) -> Result<ClientView, SimulateErr>
+/// The view of a run that ended, told these words.
+fn view_told(alloc: Global, run: &SimulatedRun, report: &Report) -> Result<ClientView, SimulateErr>
     requires { CanBeMade run.now.part.now report.now.gates.items run.now.tapes.now }
     ensures { IsMadeOf run.now.part.now run.now.published.now run.now.tapes.now (report_seen report.now) result }
 {
@@ -128,10 +124,10 @@ fn shortage(alloc: Global, run: &SimulatedRun, events: &[Event]) -> Result<Simul
     }
 }
 
-/// The client's view that the simulator makes of a run of an accepted program. Words and elements that are told after those that are opened or
-/// handed over are left alone.
+/// The client's view that the simulator makes of a run of an accepted program. Words that are told after those that are opened or handed
+/// over are left alone.
 ///
-/// Where an opened value wants more words than were told, or a value that is handed over more elements, that is said of the first of these.
+/// Where an opened value wants more words than were told, or a value that is handed over does, that is said of the first of these.
 /// An error also comes where memory runs short.
 pub fn simulate(alloc: Global, run: &SimulatedRun) -> Result<ClientView, SimulateErr>
     requires sound { IsSound (typed_program_tree run.now.program.now) }

@@ -1,6 +1,6 @@
-// The events of a run, with the elements that are told.
-ghost use Rattle.std.specs.Prelude.{◌≡◌, ◌++◌, [], ◌∷◌, map, IfOk, OnOk, option_map};
-ghost use Rattle.client_view.specs.Views.{told_events, words_of};
+// The events of a run, with the words that are told.
+ghost use Rattle.std.specs.Prelude.{◌≡◌, ◌≤◌, ◌++◌, [], ◌∷◌, length, IfOk, OnOk, option_map};
+ghost use Rattle.client_view.specs.Views.{told_as, told_elements, told_events, words_of};
 ghost use Rattle.client_simulator.specs.inner.Steps.{told_at, left_after};
 
 use gates::{Values, Words};
@@ -15,12 +15,30 @@ fn same_elements(alloc: Global, elements: &[Element]) -> Result<Elements, AllocE
     Ok(Elements::from_vec(elements.to_vec(alloc)?))
 }
 
-/// The event, with the first of the elements that are told where it hands over; none where they are too few.
-fn told_at(
-    alloc: Global,
-    event: &Event,
-    published: &[Element],
-) -> Result<Option<Event>, AllocError>
+/// The next words as elements of the kinds of these.
+fn told_elements(alloc: Global, elements: &[Element], words: &[u64]) -> Result<Elements, AllocError>
+    requires { length elements.now ≤ length words.now }
+    ensures { IfOk result (λ told. told ≡ told_elements elements.now words.now) }
+{
+    let mut told = Elements::new(alloc);
+    for at in 0..elements.len() {
+        told.push(told_as(elements[at], words[at]))?;
+    }
+    Ok(told)
+}
+
+/// A word as an element of this one's kind: of a truth value bit 0 counts.
+fn told_as(element: Element, word: u64) -> Element
+    ensures { result ≡ told_as element word }
+{
+    match element {
+        Element::Word(_) => Element::Word(word),
+        Element::Truth(_) => Element::Truth(word % 2 != 0),
+    }
+}
+
+/// The event, with the first of the words that are told where it hands over; none where they are too few.
+fn told_at(alloc: Global, event: &Event, published: &[u64]) -> Result<Option<Event>, AllocError>
     ensures { IfOk result (λ told. told ≡ told_at event.now published.now) }
 {
     match event {
@@ -33,18 +51,17 @@ fn told_at(
             Ok(Some(Event::Publish(name.copy(alloc)?, elements)))
         }
         Event::Hand(name, elements) => {
-            let count = elements.as_slice().len();
-            if count > published.len() {
+            if elements.as_slice().len() > published.len() {
                 return Ok(None);
             }
-            let handed = same_elements(alloc, &published[..count])?;
+            let handed = told_elements(alloc, elements.as_slice(), published)?;
             Ok(Some(Event::Hand(name.copy(alloc)?, handed)))
         }
     }
 }
 
-/// The elements that are left after an event.
-fn left_after<'p>(event: &Event, published: &'p [Element]) -> &'p [Element]
+/// The words that are left after an event.
+fn left_after<'p>(event: &Event, published: &'p [u64]) -> &'p [u64]
     ensures { result.now ≡ left_after event.now published.now }
 {
     match event {
@@ -60,11 +77,11 @@ fn left_after<'p>(event: &Event, published: &'p [Element]) -> &'p [Element]
     }
 }
 
-/// These events, each that hands over with the next of the elements that are told; none where they are too few.
+/// These events, each that hands over with the next of the words that are told; none where they are too few.
 pub(crate) fn told_events(
     alloc: Global,
     events: &[Event],
-    published: &[Element],
+    published: &[u64],
 ) -> Result<Option<Vec<Event>>, AllocError>
     ensures { IfOk result (λ told. option_map (λ es. es.items) told ≡ told_events events.now published.now) }
 {

@@ -1,5 +1,5 @@
 // Values of given sizes, of which no word is known.
-ghost use Rattle.std.specs.Prelude.{◌≡◌, ◌++◌, [], ◌∷◌, IfOk, OnOk};
+ghost use Rattle.std.specs.Prelude.{◌≡◌, length, IfOk};
 ghost use Rattle.proto_core.specs.declared.party.Number.{Number as NumberValue};
 ghost use Rattle.protocol_model.specs.Gates.{sizes_of};
 ghost use Rattle.joint_run.specs.Three.{values_of};
@@ -8,13 +8,15 @@ use gates::{Values, Words};
 use joint_run::SharedValues;
 use std::alloc::{AllocError, Global};
 
-/// One value more, of so many zeros.
-fn push_zeros(alloc: Global, values: &mut Values, size: u64) -> Result<(), AllocError>
-    ensures { OnOk result (sizes_of values.new ≡ sizes_of values.old ++ size ∷ []) }
+/// So many zeros.
+fn zero_words(alloc: Global, count: u64) -> Result<Words, AllocError>
+    ensures { IfOk result (λ words. length words ≡ count) }
 {
-    let zeros = vec![in alloc; 0u64; size as usize]?;
-    values.push(Words::new(zeros))?;
-    Ok(())
+    let mut zeros = Vec::new(alloc);
+    for _at in 0..count {
+        zeros.push(0)?;
+    }
+    Ok(Words::new(zeros))
 }
 
 /// Values of these sizes.
@@ -23,7 +25,7 @@ fn zeros(alloc: Global, sizes: &[u64]) -> Result<Values, AllocError>
 {
     let mut values = Values::new(alloc);
     for size in sizes {
-        push_zeros(alloc, &mut values, *size)?;
+        values.push(zero_words(alloc, *size)?)?;
     }
     Ok(values)
 }

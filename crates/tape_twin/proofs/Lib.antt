@@ -4,6 +4,6 @@ pub mod Differences
 pub mod FirstDifferences
 pub mod Runs
 mod Blocks
-mod Looking
+mod Looks
 pub mod Passing
 mod Walking

@@ -21,7 +21,7 @@ use Rattle.tape_twin.specs.declared.way.Way.{Way}
 use Rattle.tape_twin.specs.declared.way.Way.TheVariants.{ToView, FromView}
 use Rattle.tape_twin.specs.declared.way.Looker.TheVariants.{Miner, Client}
 use Rattle.tape_twin.specs.Maps.{gates_map, run_map, client_map}
-use Rattle.tape_twin.proofs.Looking.{miner_map, miner-looks, client-looks}
+use Rattle.tape_twin.proofs.Looks.{miner_map, miner-looks, client-looks}
 use Rattle.tape_twin.proofs.Passing.{same_for}
 use Rattle.view_model.specs.Dealing.{dealt_to, private_sizes, seen_dealer}
 use Rattle.view_model.specs.TapeMaps.{miners_of, four_of, no_values, gates_dealt, to_simulated, from_simulated, Reaches, CanRun}

@@ -89,7 +89,11 @@ fn handed_words<R: ShareRing>(
 }
 
 /// The same words.
-fn same_words(alloc: Global, exchange: Exchange, operands: &Operands) -> Result<MadeTapes, AllocError>
+fn same_words(
+    alloc: Global,
+    exchange: Exchange,
+    operands: &Operands,
+) -> Result<MadeTapes, AllocError>
     requires { IsSized (protocol_of exchange) (length operands.now.u.first) (joint operands.now) }
     ensures words { IfOk result (λ made. (k : NumberValue) → each_of made k ≡ (joint operands.now).words k) }
     ensures len { IfOk result (λ made. (k : NumberValue) →

@@ -7,10 +7,10 @@ ghost use Rattle.handed_shares.specs.Handed.{all_of};
 ghost use Rattle.client_model.specs.ClientMaps.{to_client, from_client};
 ghost use Rattle.tape_twin.specs.Maps.{client_map};
 
-use crate::dealt::dealt_values;
 use crate::tape_maps::{copied, mapped};
 use crate::way::{Looker, TapeMap, Way};
 use gates::Gate;
+use joint_steps::dealt_values;
 use std::alloc::{AllocError, Global};
 use tape_file::Tapes;
 use value_file::Inputs;

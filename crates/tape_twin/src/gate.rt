@@ -52,7 +52,7 @@ fn map_exchange<'a>(
     ensures given { IfOk result (λ both. (k : NumberValue) →
         each_of both.0 k ≡ (drawn_for gate (values_of shares.now) (each_of passing.old.rest)).words k) }
     ensures mapped { IfOk result (λ both. (k : NumberValue) →
-        each_of both.1 k ≡ block_map map.way (looked_protocol map.looker placed.gate.now (blocked (protocol_of gate.exchange)))
+        each_of both.1 k ≡ block_map map.way (looked_protocol map.looker placed.entry.gate.now (blocked (protocol_of gate.exchange)))
         (size_of_operand gate (values_of shares.now)) Three (drawn_for gate (values_of shares.now) (each_of passing.old.rest)) k) }
     ensures len { IfOk result (λ both. (k : NumberValue) →
         length (each_of both.1 k) ≡ (protocol_of gate.exchange).draws (size_of_operand gate (values_of shares.now)) k) }

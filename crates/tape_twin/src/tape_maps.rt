@@ -3,16 +3,15 @@ ghost use Rattle.std.specs.Prelude.{◌≡◌, IfOk};
 ghost use Rattle.joint_run.specs.Three.{values_of};
 ghost use Rattle.joint_run.specs.JointRuns.{IsEven};
 ghost use Rattle.joint_run.specs.JointRuns as joint;
-ghost use Rattle.joint_run.specs.declared.joint_err.JointErr.TheVariants.{Memory};
 ghost use Rattle.tape_twin.specs.Maps.{run_map};
 ghost use Rattle.view_model.specs.TapeMaps.{miners_of, four_of, to_simulated, from_simulated, CanRun};
 
 use crate::dealer::seen_dealer;
-use crate::dealt::dealt_values;
 use crate::walk::map_gates;
 use crate::way::{Looker, TapeMap, Way};
 use gates::Gate;
-use joint_run::{JointErr, SharedValues, Tapes as MinersTapes};
+use joint_run::{SharedValues, Tapes as MinersTapes};
+use joint_steps::{dealt_values, memory_wanting};
 use proto_core::Number;
 use std::alloc::{AllocError, Global};
 use tape_file::Tapes;
@@ -27,16 +26,6 @@ pub(crate) fn copied(alloc: Global, tapes: &Tapes) -> Result<Tapes, AllocError>
     let two = tapes.miner2().to_vec(alloc)?;
     let three = tapes.miner3().to_vec(alloc)?;
     Ok(Tapes::new(dealer, one, two, three))
-}
-
-/// Of gates that can be run, nothing but want of memory comes.
-pub fn memory_wanting(refused: JointErr) -> AllocError
-    requires { refused ≡ Memory }
-{
-    match refused {
-        JointErr::Memory => AllocError,
-        JointErr::Dealt | JointErr::Unsuited { .. } | JointErr::TapeEnds { .. } => unreachable!(),
-    }
 }
 
 /// The miners' tapes, mapped on what was dealt, with these words of the dealer.

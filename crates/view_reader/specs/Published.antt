@@ -1,13 +1,13 @@
 -- The file of what is handed over: a line for each publication, the word `publish`, the name and then the elements, each line with its newline.
-use Rattle.std.specs.Prelude.{ℕ, true, if◌then◌else◌, List, [], ◌∷◌, ◌++◌, map, codes, bytes_eq, Option, Some, None, Result, Ok, Err}
+use Rattle.std.specs.Prelude.{ℕ, if◌then◌else◌, List, [], ◌∷◌, map, codes, bytes_eq, Option, None, Result}
 use Rattle.std.specs.Prelude.{option_map, option_and_then}
 use Rattle.std.specs.List.{flat_map}
 use Rattle.std.specs.Result.{result_map_both}
 use Rattle.sc_text.specs.declared.elements.Element.{Element}
-use Rattle.sc_text.specs.Elements.{element_text}
-use Rattle.view_text.specs.Text.{spaced}
+use Rattle.sc_text.specs.declared.event.Event.TheVariants.{Hand}
+use Rattle.sc_text.specs.Event.{event_line}
 use Rattle.view_text.specs.Reading.{all_in, element_in, name_in, lines_in}
-use Rattle.view_reader.specs.Opened.{read_from}
+use Rattle.view_reader.specs.Opened.{element_word, read_from}
 
 pub record Publication : Type 0 where
   pub name : List ℕ
@@ -15,12 +15,12 @@ pub record Publication : Type 0 where
 
 -- ---- THE TEXT
 
-abbrev pub publication_words : Publication → List (List ℕ)
-publication_words p = codes "publish" ∷ p.name ∷ map element_text p.elements
+-- a line of the run's text
+abbrev pub publication_line : Publication → List ℕ
+publication_line p = event_line (Hand p.name p.elements)
 
 abbrev pub published_bytes : List Publication → List ℕ
-published_bytes [] = []
-published_bytes (p ∷ ps) = spaced (publication_words p) ++ 10 ∷ published_bytes ps
+published_bytes publications = flat_map publication_line publications
 
 -- ---- WHAT IS READ OF A FILE
 
@@ -40,9 +40,12 @@ publication_in (w ∷ ws) = if bytes_eq (codes "publish") w then named_in ws els
 unfoldable pub publications_of : List ℕ → Result (List Publication) ℕ
 publications_of bytes = read_from publication_in 1 (lines_in bytes)
 
--- their elements, one after another
-abbrev pub published_elements : List Publication → List Element
-published_elements publications = flat_map (λ p. p.elements) publications
+-- their words, one after another
+abbrev pub words_published : Publication → List ℕ
+words_published p = map element_word p.elements
 
-abbrev pub published_in : List ℕ → Result (List Element) ℕ
-published_in bytes = result_map_both published_elements (λ line. line) (publications_of bytes)
+abbrev pub published_words : List Publication → List ℕ
+published_words publications = flat_map words_published publications
+
+abbrev pub published_in : List ℕ → Result (List ℕ) ℕ
+published_in bytes = result_map_both published_words (λ line. line) (publications_of bytes)

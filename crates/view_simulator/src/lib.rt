@@ -33,3 +33,5 @@ pub use errors::SimulateErr;
 pub use laws::{runs_are_simulated, told_runs_can_be_made};
 pub use share_laws::made_shares_are_sized;
 pub use simulating::{SimulatedRun, simulate};
+pub use sizes::hidden_sizes;
+pub use words::see_part;

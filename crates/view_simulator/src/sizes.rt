@@ -19,7 +19,7 @@ fn push_size(sizes: &mut Vec<u64>, value: &PublicValue) -> Result<(), AllocError
 }
 
 /// How many elements each hidden input has.
-pub(crate) fn hidden_sizes(alloc: Global, part: &[PublicEntry]) -> Result<Vec<u64>, AllocError>
+pub fn hidden_sizes(alloc: Global, part: &[PublicEntry]) -> Result<Vec<u64>, AllocError>
     ensures { IfOk result (λ sizes. sizes.items ≡ hidden_sizes part.now) }
 {
     let mut sizes = Vec::new(alloc);

@@ -15,7 +15,7 @@ fn see_known(value: &PublicValue)
 }
 
 /// What is known of inputs is of words of 64 bits.
-pub(crate) fn see_part(entries: &[PublicEntry])
+pub fn see_part(entries: &[PublicEntry])
     ensures { All IsOfWords entries.now }
 {
     for entry in entries {

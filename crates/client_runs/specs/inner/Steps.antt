@@ -1,14 +1,12 @@
 -- Cited by private functions alone: no contract of another crate rests on it.
 -- One step of what is put together here.
 use Rattle.std.specs.Prelude.{◌≡◌, ℕ, List, [], ◌∷◌}
-use Rattle.sc_text.specs.declared.elements.Element.{Element}
 use Rattle.sc_text.specs.declared.event.Event.{Event}
 use Rattle.sc_text.specs.declared.event.Event.TheVariants.{Open, Publish, Hand}
 use Rattle.client_model.specs.Given.{Given}
 use Rattle.clear_eval.specs.declared.report.Report.{Report}
 use Rattle.tape_twin.specs.Alike.{WordsDiffer, OneBegins}
 use Rattle.client_view.specs.Views.{Sighting, Opened, Said, Got, published_of}
-use Rattle.client_runs.specs.Alike.{ElementsDiffer}
 use Rattle.client_runs.specs.declared.twin_err.TwinErr.{TwinErr}
 use Rattle.client_runs.specs.declared.twin_err.TwinErr.TheVariants as error
 
@@ -35,7 +33,7 @@ pub record RunsAgree (one other : Report) : Type 0 where
 
 pub record PublishedDiffers (one other : Report) (place x y : ℕ) : Type 0 where
   pub opened : OneBegins one.opened.items other.opened.items
-  pub published : ElementsDiffer (published_of one.events.items) (published_of other.events.items) place x y
+  pub published : WordsDiffer (published_of one.events.items) (published_of other.events.items) place x y
 
 abbrev pub RunsRefuse : (one other : Report) → TwinErr → Type 0
 RunsRefuse one other (error.PublicDiffers name) = ⊥

@@ -13,11 +13,10 @@ loop-place-preserved c =
     let gate = c.index-gates-place.result in
     let next : drop c.loop-place.place gates ≡ gate ∷ drop (c.loop-place.place + 1) gates =
     next-gate gates c.loop-place.place gate c.loop-place-test.true c.index-gates-place.is in
-    let few = made-few gate in
-    (
+    let few = made-few gate in (
       omega (arith, few, c.loop-place.invariant.0, c.made_by.ensures),
       given-more (values_of c.args.shares.now) gates c.loop-place.given.items c.push_given.new.given.items c.loop-place.place c.loop-place.next gate next
-      c.loop-place.invariant.1 c.in_ok-push_given.ensures,
+          c.loop-place.invariant.1 c.in_ok-push_given.ensures,
     )
 
 pub returns : goal.returns

@@ -7,7 +7,7 @@ use Rattle.joint_run.specs.Exchanges.{protocol_of}
 use Rattle.tape_twin.specs.declared.way.Looker.{Looker}
 use Rattle.tape_twin.specs.declared.way.Looker.TheVariants.{Miner, Client}
 use Rattle.tape_twin.specs.Maps.{block_map, looked_protocol, rows_map, exchange_rows}
-use Rattle.tape_twin.proofs.Looking.{miner-words, client-words}
+use Rattle.tape_twin.proofs.Looks.{miner-words, client-words}
 use Rattle.tape_twin.proofs.Passing.{if-ok}
 use Rattle.tape_twin.proofs.looking.looked_words.Goals as goal
 
@@ -25,8 +25,8 @@ returns-in-Miner-clause-words c =
     ∙ ap (λ (l : Looker). block_map way (looked_protocol l c.args.gate.now p) n Three j k) (sym c.in-Miner.is))
     c.map_gate.result c.map_gate.ensures.words
 
-pub returns-clause-words : goal.returns-clause-words
-returns-clause-words c =
+pub returns-in-Client-clause-words : goal.returns-in-Client-clause-words
+returns-in-Client-clause-words c =
     let p = blocked (protocol_of c.args.exchanged.exchange) in
     let n = length c.args.operands.u.first in
     let j = joint c.args.operands in

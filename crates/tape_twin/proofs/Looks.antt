@@ -60,21 +60,21 @@ miner_map FromView = from_view
 
 module _ (i : Number) (dealt : Number → Values) (ds : List ℕ) where
   to-one :
-      (gate : Gate) (g : model.Gate) (as bs : List model.Gate) →
-      ((shares : Shares) (tapes : Tapes) (k : Number) → to_view Three as shares tapes k ≡ to_view i bs shares tapes k) →
-      (shares : Shares) (tapes : Tapes) (k : Number) → to_view Three (looked (Miner i) gate g ∷ as) shares tapes k ≡ to_view i (g ∷ bs) shares tapes k
-  to-one gate (Joined p n u v) as bs h shares tapes k =
+      (gate : Gate) (g : model.Gate) (gs bs : List model.Gate) →
+      ((shares : Shares) (tapes : Tapes) (k : Number) → to_view Three gs shares tapes k ≡ to_view i bs shares tapes k) →
+      (shares : Shares) (tapes : Tapes) (k : Number) → to_view Three (looked (Miner i) gate g ∷ gs) shares tapes k ≡ to_view i (g ∷ bs) shares tapes k
+  to-one gate (Joined p n u v) gs bs h shares tapes k =
       ap (λ w. p.tape n i (gate_joint u v shares (drawn p n tapes)) k ++ w) (h (after p n u v shares (drawn p n tapes)) (left p n tapes) k)
-  to-one gate (Local n f) as bs h shares tapes k = h (after_local f shares) tapes k
+  to-one gate (Local n f) gs bs h shares tapes k = h (after_local f shares) tapes k
 
   from-one :
-      (gate : Gate) (g : model.Gate) (as bs : List model.Gate) →
-      ((shares : Shares) (tapes : Tapes) (k : Number) → from_view Three as shares tapes k ≡ from_view i bs shares tapes k) →
+      (gate : Gate) (g : model.Gate) (gs bs : List model.Gate) →
+      ((shares : Shares) (tapes : Tapes) (k : Number) → from_view Three gs shares tapes k ≡ from_view i bs shares tapes k) →
       (shares : Shares) (tapes : Tapes) (k : Number) →
-      from_view Three (looked (Miner i) gate g ∷ as) shares tapes k ≡ from_view i (g ∷ bs) shares tapes k
-  from-one gate (Joined p n u v) as bs h shares tapes k =
+      from_view Three (looked (Miner i) gate g ∷ gs) shares tapes k ≡ from_view i (g ∷ bs) shares tapes k
+  from-one gate (Joined p n u v) gs bs h shares tapes k =
       ap (λ w. found i p n u v shares tapes k ++ w) (h (after p n u v shares (found i p n u v shares tapes)) (left p n tapes) k)
-  from-one gate (Local n f) as bs h shares tapes k = h (after_local f shares) tapes k
+  from-one gate (Local n f) gs bs h shares tapes k = h (after_local f shares) tapes k
 
   to-miner :
       (sizes : List ℕ) (gates : List Gate) (shares : Shares) (tapes : Tapes) (k : Number) →
@@ -105,10 +105,10 @@ module _ (i : Number) (dealt : Number → Values) (ds : List ℕ) where
 -- ---- AS THE CLIENT LOOKS AT IT
 
 client-one :
-    (gate : Gate) (rows : List Rows) (g : model.Gate) (as bs : List model.Gate) → as ≡ with_rows rows bs →
-    looked Client gate g ∷ as ≡ with_rows (row_of gate true ∷ rows) (g ∷ bs)
-client-one gate rows (Joined p n u v) as bs h = ap (λ (gs : List model.Gate). Joined (rowed (row_of gate true) p) n u v ∷ gs) h
-client-one gate rows (Local n f) as bs h = ap (λ (gs : List model.Gate). Local n f ∷ gs) h
+    (gate : Gate) (rows : List Rows) (g : model.Gate) (gs bs : List model.Gate) → gs ≡ with_rows rows bs →
+    looked Client gate g ∷ gs ≡ with_rows (row_of gate true ∷ rows) (g ∷ bs)
+client-one gate rows (Joined p n u v) gs bs h = ap (λ (ms : List model.Gate). Joined (rowed (row_of gate true) p) n u v ∷ ms) h
+client-one gate rows (Local n f) gs bs h = ap (λ (ms : List model.Gate). Local n f ∷ ms) h
 
 pub client-looks :
     (dealt : Number → Values) (ds : List ℕ) (next : ℕ) (sizes : List ℕ) (gates : List Gate) →
