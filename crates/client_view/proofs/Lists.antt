@@ -1,53 +1,83 @@
 -- The elements that are told, cut as the events hand them over, and their words.
-use Rattle.std.proofs.Common.{◌≡◌, ℕ, zero, suc, ◌≤◌, ◌<◌, if◌then◌else◌, List, [], ◌∷◌, ◌++◌, length, map, take, drop, refl, sym}
+use Rattle.std.proofs.Common.{◌≡◌, ℕ, zero, suc, ◌≤◌, ◌<◌, true, false, if◌then◌else◌, List, [], ◌∷◌, ◌++◌, length, map, drop, refl, sym}
 use Rattle.std.proofs.Common.{Option, Some, None, ap, ◌∙◌, ◌+◌, arith, append_assoc, length-append}
 use Rattle.std.specs.Prelude.{nat_le}
-use Rattle.std.proofs.lemmas.List.{map-append, take_at, drop_at}
+use Rattle.std.proofs.lemmas.List.{map-append, length-map, drop_at}
 use Rattle.proto_core.proofs.Beginnings.{append-none}
 use Rattle.gates.specs.declared.gate.Gate.{Gate}
 use Rattle.gates.specs.declared.gate.Gate.TheVariants.{Result}
 use Rattle.gates.specs.Clear.{Values, value}
 use Rattle.gates.specs.Counts.{made_by}
 use Rattle.sc_text.specs.declared.elements.Element.{Element}
+use Rattle.sc_text.specs.declared.elements.Element.TheVariants.{Word, Truth}
 use Rattle.sc_text.specs.declared.event.Event.{Event}
 use Rattle.sc_text.specs.declared.event.Event.TheVariants.{Open, Publish, Hand}
 use Rattle.program_trees.specs.declared.expression.DataType.{DataType}
 use Rattle.program_trees.specs.declared.expression.DataType.TheVariants as datatype
 use Rattle.language_model.specs.Values.{element_of}
-use Rattle.blind_evaluation.specs.Courses.{LikeEvents}
+use Rattle.blind_evaluation.specs.Courses.{is_truth, LikeEvents}
 use Rattle.gate_laws.specs.Dealt.{bound, InRange}
 use Rattle.gate_laws.specs.Facts as facts
 use Rattle.view_reader.specs.Opened.{element_word}
 use Rattle.view_model.proofs.Corresponding.{le_true}
 use Rattle.handed_shares.specs.Handed.{all_of, handed_values}
-use Rattle.client_view.specs.Views.{handed_elements, published_of, words_of, and_then, told_events}
+use Rattle.client_view.specs.Views.{handed_elements, words_of, published_of, and_then, told_as, told_elements, told_events}
 
 -- ---- TOLD EVENTS
 
-abbrev handing : (text : List ℕ) (events : List Event) (published : List Element) → ℕ → Option (List Event)
-handing text events published n =
-    if nat_le n (length published) then and_then (Hand text (take n published)) (told_events events (drop n published)) else None
+-- words of elements, told as elements of the same kinds
+told_back : (e o : Element) → is_truth e ≡ is_truth o → told_as o (element_word e) ≡ e
+told_back (Word x) (Word y) h = refl
+told_back (Word x) (Truth y) h = absurd cc
+told_back (Truth x) (Word y) h = absurd cc
+told_back (Truth true) (Truth y) h = refl
+told_back (Truth false) (Truth y) h = refl
 
--- told its own elements first
+same_first : {A : Type 0} (x y : A) (xs ys : List A) → x ∷ xs ≡ y ∷ ys → x ≡ y
+same_first x y xs ys e = cc
+
+same_more : {A : Type 0} (x y : A) (xs ys : List A) → x ∷ xs ≡ y ∷ ys → xs ≡ ys
+same_more x y xs ys e = cc
+
+told_own : (es os : List Element) (more : List ℕ) → map is_truth es ≡ map is_truth os → told_elements os (map element_word es ++ more) ≡ es
+told_own [] [] more h = refl
+told_own [] (o ∷ os) more h = absurd cc
+told_own (e ∷ es) [] more h = absurd cc
+told_own (e ∷ es) (o ∷ os) more h =
+    ap (λ (x : Element). x ∷ told_elements os (map element_word es ++ more)) (told_back e o (same_first _ _ _ _ h))
+    ∙ ap (λ (xs : List Element). e ∷ xs) (told_own es os more (same_more _ _ _ _ h))
+
+-- elements of the same kinds are equally many
+pub as_long : (es os : List Element) → map is_truth es ≡ map is_truth os → length es ≡ length os
+as_long es os h = sym (length-map es is_truth) ∙ ap length h ∙ length-map os is_truth
+
+abbrev handing : (text : List ℕ) (others : List Element) (events : List Event) (published : List ℕ) → ℕ → Option (List Event)
+handing text others events published n =
+    if nat_le n (length published) then and_then (Hand text (told_elements others published)) (told_events events (drop n published)) else None
+
+-- told its own words first
 handing_own :
-    (text : List ℕ) (events others : List Event) (elements more : List Element) → told_events events more ≡ Some others
-    → handing text events (elements ++ more) (length elements) ≡ Some (Hand text elements ∷ others)
-handing_own text events others elements more told =
+    (text : List ℕ) (events rest : List Event) (elements others : List Element) (more : List ℕ) → map is_truth elements ≡ map is_truth others
+    → told_events events more ≡ Some rest
+    → handing text others events (map element_word elements ++ more) (length elements) ≡ Some (Hand text elements ∷ rest)
+handing_own text events rest elements others more kinds told =
+    let words : List ℕ = map element_word elements in
+    let many : length words ≡ length elements = length-map elements element_word in
     ap
     (λ b.
-    if b then and_then (Hand text (take (length elements) (elements ++ more))) (told_events events (drop (length elements) (elements ++ more)))
+    if b then and_then (Hand text (told_elements others (words ++ more))) (told_events events (drop (length elements) (words ++ more)))
     else None)
-    (le_true (length elements) (length (elements ++ more)) (room (length elements) (length more) (length (elements ++ more)) (length-append elements more)))
-    ∙ ap (λ (es : List Element). and_then (Hand text es) (told_events events (drop (length elements) (elements ++ more))))
-    (take_at elements more (length elements) refl)
-    ∙ ap (λ (es : List Element). and_then (Hand text elements) (told_events events es)) (drop_at elements more (length elements) refl)
+    (le_true (length elements) (length (words ++ more)) (room (length elements) (length more) (length (words ++ more))
+    (length-append words more ∙ ap (λ n. n + length more) many)))
+    ∙ ap (λ (es : List Element). and_then (Hand text es) (told_events events (drop (length elements) (words ++ more)))) (told_own elements others more kinds)
+    ∙ ap (λ (ws : List ℕ). and_then (Hand text elements) (told_events events ws)) (drop_at words more (length elements) many)
     ∙ ap (and_then (Hand text elements)) told
   where
     room : (n m l : ℕ) → l ≡ n + m → n ≤ l
     room n m l e = omega (arith, e)
 
--- who knows the course, and is told the elements of a run, has the run's events
-pub told_exactly : (es fs : List Event) → LikeEvents es fs → (more : List Element) → told_events fs (published_of es ++ more) ≡ Some es
+-- who knows the course, and is told the words of what a run hands over, has the run's events
+pub told_exactly : (es fs : List Event) → LikeEvents es fs → (more : List ℕ) → told_events fs (published_of es ++ more) ≡ Some es
 told_exactly [] [] h more = refl
 told_exactly [] (f ∷ fs) h more = absurd h
 told_exactly (e ∷ es) [] h more = absurd h
@@ -58,10 +88,10 @@ told_exactly (Publish text elements ∷ es) (Publish text' others ∷ fs) h more
     ∙ ap (λ (x : List ℕ). Some (Publish x others ∷ es)) (sym h.0.0)
     ∙ ap (λ (x : List Element). Some (Publish text x ∷ es)) (sym h.0.1)
 told_exactly (Hand text elements ∷ es) (Hand text' others ∷ fs) h more =
-    ap (handing text' fs ((elements ++ published_of es) ++ more)) (sym h.0.1)
-    ∙ ap (λ (x : List ℕ). handing x fs ((elements ++ published_of es) ++ more) (length elements)) (sym h.0.0)
-    ∙ ap (λ (x : List Element). handing text fs x (length elements)) (append_assoc elements (published_of es) more)
-    ∙ handing_own text fs es elements (published_of es ++ more) (told_exactly es fs h.1 more)
+    ap (handing text' others fs ((map element_word elements ++ published_of es) ++ more)) (sym (as_long elements others h.0.1))
+    ∙ ap (λ (x : List ℕ). handing x others fs ((map element_word elements ++ published_of es) ++ more) (length elements)) (sym h.0.0)
+    ∙ ap (λ (x : List ℕ). handing text others fs x (length elements)) (append_assoc (map element_word elements) (published_of es) more)
+    ∙ handing_own text fs es elements others (published_of es ++ more) h.0.1 (told_exactly es fs h.1 more)
 told_exactly (Open elements ∷ es) (Publish text others ∷ fs) h more = absurd h.0
 told_exactly (Open elements ∷ es) (Hand text others ∷ fs) h more = absurd h.0
 told_exactly (Publish text elements ∷ es) (Open others ∷ fs) h more = absurd h.0
@@ -86,13 +116,13 @@ words_back e (x ∷ words) h =
     ap (λ y. y ∷ map element_word (map (element_of e) words)) (word_back e x (h zero))
     ∙ ap (λ ys. x ∷ ys) (words_back e words (λ k. h (suc k)))
 
-handed_append : (es fs : List Event) → handed_elements (es ++ fs) ≡ handed_elements es ++ handed_elements fs
+pub handed_append : (es fs : List Event) → handed_elements (es ++ fs) ≡ handed_elements es ++ handed_elements fs
 handed_append [] fs = refl
 handed_append (Open elements ∷ es) fs = handed_append es fs
 handed_append (Publish text elements ∷ es) fs = handed_append es fs
 handed_append (Hand text elements ∷ es) fs = ap (λ (xs : List (List Element)). elements ∷ xs) (handed_append es fs)
 
-words_append : (es fs : List Event) → words_of (es ++ fs) ≡ words_of es ++ words_of fs
+pub words_append : (es fs : List Event) → words_of (es ++ fs) ≡ words_of es ++ words_of fs
 words_append es fs =
     ap (map (map element_word)) (handed_append es fs) ∙ map-append (map element_word) (handed_elements es) (handed_elements fs)
 

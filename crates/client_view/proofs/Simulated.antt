@@ -5,7 +5,6 @@ use Rattle.proto_core.proofs.Beginnings.{append-none}
 use Rattle.protocol_model.specs.Runs.{Tapes, Ready, run_values}
 use Rattle.gates.specs.declared.gate.Gate.{Gate}
 use Rattle.gates.specs.Clear.{Values}
-use Rattle.sc_text.specs.declared.elements.Element.{Element}
 use Rattle.sc_text.specs.declared.event.Event.{Event}
 use Rattle.program_trees.specs.Programs.{ProgramTree}
 use Rattle.program_trees.specs.TypedPrograms.{TypedProgramTree}
@@ -109,19 +108,19 @@ module _
         ∙ ap (λ cost. view_at r.events (given_in entries r.gates t) r.stop cost) (sym course.cost)
 
     pub with_more :
-        (words : List ℕ) (elements : List Element)
-        → client_simulated p (part_of entries) (r.opened ++ words) (published_of r.events ++ elements) s budget ≡ client_view_of p entries t budget
-    with_more words elements =
+        (words more : List ℕ)
+        → client_simulated p (part_of entries) (r.opened ++ words) (published_of r.events ++ more) s budget ≡ client_view_of p entries t budget
+    with_more words more =
         let o : Report = told_run p (part_of entries) (r.opened ++ words) (lengths_of t) budget in
         let course : TakeSameCourse r o = takes_same_course p entries (lengths_of t) budget words in
-        ap (λ lengths. made_view (part_of entries) (published_of r.events ++ elements) s (told_run p (part_of entries) (r.opened ++ words) lengths budget)) long
-        ∙ ap (made_with (part_of entries) s o) (told_exactly r.events o.events course.events elements)
+        ap (λ lengths. made_view (part_of entries) (published_of r.events ++ more) s (told_run p (part_of entries) (r.opened ++ words) lengths budget)) long
+        ∙ ap (made_with (part_of entries) s o) (told_exactly r.events o.events course.events more)
         ∙ same_view o course
 
     pub client_is_simulated : ClientViewIsSimulated p entries t budget
     client_is_simulated =
         let v = gives_view r.events (given_in entries r.gates t) r.stop r.cost (is_ended p entries (lengths_of t) budget) in
-        record { view = v.0; seen = v.1; made = λ words elements. with_more words elements ∙ v.1 }
+        record { view = v.0; seen = v.1; made = λ words more. with_more words more ∙ v.1 }
       where
         gives_view : (events : List Event) (gs : List Given) (stop : RunStop) (cost : ℕ) → IsEnded stop
             → (view : ClientView) × (view_at events gs stop cost ≡ Some view)

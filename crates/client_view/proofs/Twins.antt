@@ -1,7 +1,6 @@
 -- Twins of tapes give the client the same view, and there are as many of them.
 use Rattle.std.proofs.Common.{◌≡◌, ℕ, List, [], ◌∷◌, ◌++◌, map, Option, sym, ap, ◌∙◌, subst}
 use Rattle.std.proofs.lemmas.List.{length-map}
-use Rattle.sc_text.specs.declared.elements.Element.{Element}
 use Rattle.program_trees.specs.Programs.{ProgramTree}
 use Rattle.program_trees.specs.TypedPrograms.{TypedProgramTree}
 use Rattle.reached_instances.specs.Instances.{Instance}
@@ -31,8 +30,8 @@ module _ (source : ProgramTree) (p : TypedProgramTree) (is : List Instance) (fir
       let two : ClientMapsCorrespond p second s budget = client_maps_correspond source p is second both.other budget s one.words in
       let again : client_mapped p second t2 budget ≡ s = two.back_and_there in
       let long : lengths_of t2 ≡ lengths_of t = same_lengths t2 s two.back_kept ∙ same_lengths s t one.kept in
-      let made : (part : List PublicEntry) (opened : List ℕ) (published : List Element) (v : FourTapes) → Option ClientView =
-      λ (part : List PublicEntry) (opened : List ℕ) (published : List Element) (v : FourTapes).
+      let made : (part : List PublicEntry) (opened : List ℕ) (published : List ℕ) (v : FourTapes) → Option ClientView =
+      λ (part : List PublicEntry) (opened : List ℕ) (published : List ℕ) (v : FourTapes).
       client_simulated p part (opened ++ []) (published ++ []) v budget in
       let run : List ℕ → Report = λ lengths. run_on p second lengths budget in
       let real : Report = run_on p first (lengths_of t) budget in

@@ -1,6 +1,5 @@
 -- What is promised of the client's view of a program's run.
 use Rattle.std.specs.Prelude.{◌≡◌, ℕ, List, [], ◌∷◌, ◌++◌, length, map, Some}
-use Rattle.sc_text.specs.declared.elements.Element.{Element}
 use Rattle.program_trees.specs.Programs.{ProgramTree}
 use Rattle.program_trees.specs.TypedPrograms.{TypedProgramTree}
 use Rattle.reached_instances.specs.Instances.{Instance}
@@ -16,15 +15,15 @@ use Rattle.client_view.specs.TapeMaps.{client_mapped, ClientMapsCorrespond, clie
 
 -- ---- VIEWS
 
--- there is one; and the simulator makes it of the public part of the inputs, the words that were opened, the elements that were handed over, each
+-- there is one; and the simulator makes it of the public part of the inputs, the words that were opened and those of what was handed over, both
 -- also with more after them, and the mapped tapes
 pub record ClientViewIsSimulated (p : TypedProgramTree) (entries : List Entry) (t : FourTapes) (budget : ℕ) : Type 0 where
   pub view : ClientView
   pub seen : client_view_of p entries t budget ≡ Some view
   pub made :
-      (words : List ℕ) (elements : List Element)
+      (words more : List ℕ)
       → client_simulated p (part_of entries) ((run_on p entries (lengths_of t) budget).opened ++ words)
-      (published_of (run_on p entries (lengths_of t) budget).events ++ elements) (client_mapped p entries t budget) budget
+      (published_of (run_on p entries (lengths_of t) budget).events ++ more) (client_mapped p entries t budget) budget
       ≡ Some view
 
 abbrev pub ClientViewsAreSimulated : (source : ProgramTree) (p : TypedProgramTree) → List Entry → FourTapes → (budget : ℕ) → Type 0

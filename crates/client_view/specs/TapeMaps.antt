@@ -45,7 +45,7 @@ abbrev pub client_twinned : TypedProgramTree → (first second : List Entry) →
 client_twinned p first second t budget = client_mapped_back p second (client_mapped p first t budget) budget
 
 -- on tapes as long as these: two inputs that differ in private values alone, with which the same words are opened and the same
--- elements handed over
+-- handed over
 pub record AreAlikeToClient (p : TypedProgramTree) (first second : List Entry) (lengths : List ℕ) (budget : ℕ) : Type 0 where
   pub known : part_of first ≡ part_of second
   pub opened : (run_on p first lengths budget).opened ≡ (run_on p second lengths budget).opened

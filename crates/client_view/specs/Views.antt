@@ -1,7 +1,7 @@
 -- What the client sees of the run of a program, and what the simulator makes of it.
-use Rattle.std.specs.Prelude.{ℕ, nat_le, if◌then◌else◌, List, [], ◌∷◌, ◌++◌, length, map, take, drop, Option, Some, None}
+use Rattle.std.specs.Prelude.{ℕ, nat_le, ◌==◌, ◌%◌, not, if◌then◌else◌, List, [], ◌∷◌, ◌++◌, length, map, drop, Option, Some, None}
 use Rattle.sc_text.specs.declared.elements.Element.{Element}
-use Rattle.sc_text.specs.declared.end.End.{End}
+use Rattle.sc_text.specs.declared.elements.Element.TheVariants.{Word, Truth}
 use Rattle.sc_text.specs.declared.event.Event.{Event}
 use Rattle.sc_text.specs.declared.event.Event.TheVariants.{Open, Publish, Hand}
 use Rattle.gates.specs.declared.gate.Gate.{Gate}
@@ -18,19 +18,9 @@ use Rattle.program_views.specs.Views.{lengths_of, run_on, told_run}
 use Rattle.handed_shares.specs.Handed.{all_of}
 use Rattle.client_model.specs.Given.{Given, made_from}
 use Rattle.client_model.specs.Laws.{given}
+pub use Rattle.client_text.specs.Seen.{Sighting, Opened, Said, Got, ClientView}
 
 -- ---- A VIEW
-
--- a value that was opened, one that was published, or one that was handed over: a share of it by each miner, and its elements
-pub data Sighting : Type 0 where
-  Opened : (elements : List Element) → Sighting
-  Said : (name : List ℕ) → (elements : List Element) → Sighting
-  Got : (name : List ℕ) → (given : Given) → (elements : List Element) → Sighting
-
--- in order, and how the run ended
-pub record ClientView : Type 0 where
-  pub sightings : List Sighting
-  pub end : End
 
 -- the events of a run, each that hands over with the next of these shares
 abbrev pub sightings : List Event → List Given → List Sighting
@@ -66,16 +56,17 @@ handed_elements (Open elements ∷ events) = handed_elements events
 handed_elements (Publish text elements ∷ events) = handed_elements events
 handed_elements (Hand text elements ∷ events) = elements ∷ handed_elements events
 
--- all of them, one after another
-abbrev pub all_elements : List (List Element) → List Element
-all_elements [] = []
-all_elements (elements ∷ more) = elements ++ all_elements more
-
-abbrev pub published_of : List Event → List Element
-published_of events = all_elements (handed_elements events)
-
+-- their words
 abbrev pub words_of : List Event → List (List ℕ)
 words_of events = map (map element_word) (handed_elements events)
+
+-- all of them, one after another
+abbrev pub all_words : List (List ℕ) → List ℕ
+all_words [] = []
+all_words (words ∷ more) = words ++ all_words more
+
+abbrev pub published_of : List Event → List ℕ
+published_of events = all_words (words_of events)
 
 -- ---- THE SIMULATOR: no private word but those that are handed over, and no share, among its arguments
 
@@ -83,14 +74,25 @@ abbrev pub and_then : Event → Option (List Event) → Option (List Event)
 and_then e None = None
 and_then e (Some events) = Some (e ∷ events)
 
--- these events, each that hands over with the next of the elements that are told, as many as it has; nothing where they are too few
-abbrev pub told_events : List Event → (published : List Element) → Option (List Event)
+-- a word as an element of this one's kind: of a truth value bit 0 counts
+abbrev pub told_as : Element → (word : ℕ) → Element
+told_as (Word old) word = Word word
+told_as (Truth old) word = Truth (not (word % 2 == 0))
+
+-- the next words as elements of the kinds of these
+abbrev pub told_elements : List Element → (words : List ℕ) → List Element
+told_elements [] words = []
+told_elements (e ∷ elements) [] = []
+told_elements (e ∷ elements) (word ∷ words) = told_as e word ∷ told_elements elements words
+
+-- these events, each that hands over with the next of the words that are told, as many as it has elements; nothing where they are too few
+abbrev pub told_events : List Event → (published : List ℕ) → Option (List Event)
 told_events [] published = Some []
 told_events (Open elements ∷ events) published = and_then (Open elements) (told_events events published)
 told_events (Publish text elements ∷ events) published = and_then (Publish text elements) (told_events events published)
 told_events (Hand text elements ∷ events) published =
     if nat_le (length elements) (length published)
-    then and_then (Hand text (take (length elements) published)) (told_events events (drop (length elements) published))
+    then and_then (Hand text (told_elements elements published)) (told_events events (drop (length elements) published))
     else None
 
 -- of the run of one who is told what is opened, with these events in it
@@ -99,9 +101,9 @@ made_with part s r None = None
 made_with part s r (Some events) =
     view_at events (made_from all_of 0 (hidden_sizes part) [] r.gates (words_of events) (miners_of s)) r.stop r.cost
 
-abbrev pub made_view : List PublicEntry → (published : List Element) → FourTapes → Report → Option ClientView
+abbrev pub made_view : List PublicEntry → (published : List ℕ) → FourTapes → Report → Option ClientView
 made_view part published s r = made_with part s r (told_events r.events published)
 
 abbrev pub client_simulated :
-    TypedProgramTree → List PublicEntry → (opened : List ℕ) → (published : List Element) → FourTapes → (budget : ℕ) → Option ClientView
+    TypedProgramTree → List PublicEntry → (opened published : List ℕ) → FourTapes → (budget : ℕ) → Option ClientView
 client_simulated p part opened published s budget = made_view part published s (told_run p part opened (lengths_of s) budget)

@@ -8,7 +8,7 @@ ghost use Rattle.client_view.specs.Views.{ClientView};
 ghost use Rattle.client_view.specs.Laws.{ClientViewsAreSimulated, ClientTapesCorrespond, ClientTwinsSeeTheSame, ClientTwinsAreAsMany};
 
 /// Law: what the client sees of the run of an accepted program on the inputs of a file is what the simulator makes of the public part of the
-/// inputs, the opened words, the elements that are handed over and the mapped tapes, whatever the budget and the tapes, also where these end the run.
+/// inputs, the opened words, those of what is handed over and the mapped tapes, whatever the budget and the tapes, also where these end the run.
 pub fn client_views_are_simulated()
     ensures { (source : ProgramTree) (p : TypedProgramTree) (entries : List Entry) (t : FourTapes) (budget : ℕ) →
         ClientViewsAreSimulated source p entries t budget }

@@ -8,7 +8,7 @@ use Rattle.view_text.specs.Reading.{Stage, AtHeading, AtInputs, AtMessages, AtOp
 use Rattle.view_text.specs.Reading.{at_the_end, or_fault, read_from, read_view_of}
 use Rattle.view_text.proofs.Found.{nothing_found, same_found}
 use Rattle.view_reader.specs.Places.{whole_of}
-use Rattle.view_reader.proofs.OpenedRead.{left_from, left_more, map_last}
+use Rattle.view_reader.proofs.LinesRead.{left_from, left_more, map_last}
 
 first_line : (k : ℕ) (stage : Stage) (l : List ℕ) (ls : List (List ℕ)) (rest : List ℕ) →
     read_from k stage (l ∷ (ls ++ rest ∷ []))

@@ -27,21 +27,25 @@ opening_in [] = None
 opening_in (w ∷ ws) = if bytes_eq (codes "open") w then all_in element_in ws else None
 
 -- a line in front of what is read of the lines after it, or its number where it is wrong
-abbrev pub in_front : ℕ → Option (List Element) → Result (List (List Element)) ℕ → Result (List (List Element)) ℕ
+abbrev pub in_front : {A : Type 0} → ℕ → Option A → Result (List A) ℕ → Result (List A) ℕ
 in_front k None more = Err k
-in_front k (Some opening) (Ok openings) = Ok (opening ∷ openings)
-in_front k (Some opening) (Err line) = Err line
+in_front k (Some one) (Ok ones) = Ok (one ∷ ones)
+in_front k (Some one) (Err line) = Err line
 
 -- after the last newline nothing may stand
-abbrev pub at_the_end : ℕ → List ℕ → Result (List (List Element)) ℕ
+abbrev pub at_the_end : {A : Type 0} → ℕ → List ℕ → Result (List A) ℕ
 at_the_end k [] = Ok []
 at_the_end k (x ∷ xs) = Err k
 
+-- what the lines from number k on are read as, each by its words
+abbrev pub read_from : {A : Type 0} → (one : List (List ℕ) → Option A) → ℕ → List (List ℕ) → Result (List A) ℕ
+read_from one k [] = Err k
+read_from one k (l ∷ []) = at_the_end k l
+read_from one k (l ∷ m ∷ ms) = in_front k (one (words_in_line l)) (read_from one (k + 1) (m ∷ ms))
+
 -- the openings of the lines from number k on
 abbrev pub openings_from : ℕ → List (List ℕ) → Result (List (List Element)) ℕ
-openings_from k [] = Err k
-openings_from k (l ∷ []) = at_the_end k l
-openings_from k (l ∷ m ∷ ms) = in_front k (opening_in (words_in_line l)) (openings_from (k + 1) (m ∷ ms))
+openings_from k lines = read_from opening_in k lines
 
 -- the openings of a text, or the number of its first wrong line
 unfoldable pub openings_of : List ℕ → Result (List (List Element)) ℕ

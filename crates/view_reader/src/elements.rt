@@ -39,7 +39,7 @@ pub fn elements_in(alloc: Global, parts: &[&[u8]]) -> Result<Option<Vec<Element>
 }
 
 /// An element as a word: a truth value is 1 or 0.
-fn element_word(element: Element) -> u64
+pub fn element_word(element: Element) -> u64
     ensures { result ≡ element_word element }
 {
     match element {

@@ -13,12 +13,13 @@ mod lines;
 mod opened;
 mod parts;
 mod place;
+mod published;
 mod read_err;
 mod reading;
 mod view_reading;
 mod words;
 
-pub use elements::elements_in;
+pub use elements::{element_word, elements_in, push_words};
 pub use ends::end_in;
 pub use laws::{
     first_wrong_opening_is_named, opened_values_are_read_again,
@@ -27,6 +28,7 @@ pub use laws::{
 pub use limited::name_in;
 pub use lines::{lines_in, words_in_line};
 pub use opened::read_opened;
+pub use published::read_published;
 pub use read_err::ReadErr;
 pub use view_reading::read;
 pub use words::{is_word, words_in};
