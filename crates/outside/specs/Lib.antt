@@ -2,6 +2,7 @@ pub mod Causes
 pub mod FileCall
 pub mod Files
 pub mod Links
+pub mod LinkCall
 pub mod MemFile
 pub mod MemFiles
 pub mod MemLinks
