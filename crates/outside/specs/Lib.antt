@@ -1,6 +1,7 @@
 pub mod Causes
 pub mod FileCall
 pub mod Files
+pub mod HeldFiles
 pub mod Links
 pub mod LinkCall
 pub mod MemFile

@@ -1,5 +1,5 @@
 -- What is told of links: the calls that moved bytes, in order, the bytes sent to each peer, and those that are still to come from it.
-use Rattle.std.specs.Prelude.{◌≡◌, ◌≢◌, ◌<◌, ℕ, ◌==◌, if◌then◌else◌, List, [], ◌∷◌, ◌++◌, length, take, Bool, true}
+use Rattle.std.specs.Prelude.{◌≡◌, ◌≢◌, ◌<◌, ◌⊎◌, ℕ, ◌==◌, if◌then◌else◌, List, [], ◌∷◌, ◌++◌, length, take, Bool, true}
 
 -- a call that was answered: this miner joined its peers at three ports, of which this is the first; these bytes were given to a peer; or they were
 -- taken from it
@@ -66,21 +66,19 @@ pub record SameLinks (old new : LinksState) : Type 0 where
   pub sent : new.sent ≡ old.sent
   pub coming : new.coming ≡ old.coming
 
--- this call was answered after the others
+-- this one call was answered after the others
 abbrev pub OneMore : (old new : LinksState) → LinkMove → Type 0
 OneMore old new move = old.told ≡ true → new.moves ≡ old.moves ++ move ∷ []
 
--- the peers were joined so, and no byte moved
-pub record Joined (old new : LinksState) (me port : ℕ) : Type 0 where
+-- no byte moved
+pub record SameBytes (old new : LinksState) : Type 0 where
   pub told : new.told ≡ old.told
-  pub moves : OneMore old new (joined me port)
   pub sent : new.sent ≡ old.sent
   pub coming : new.coming ≡ old.coming
 
 -- this peer was sent these bytes, and all else is as it was
 pub record Sent (old new : LinksState) (peer : ℕ) (bytes : List ℕ) : Type 0 where
   pub told : new.told ≡ old.told
-  pub moves : OneMore old new (gave peer bytes)
   pub sent : old.told ≡ true → new.sent peer ≡ old.sent peer ++ bytes
   pub others : old.told ≡ true → (p : ℕ) → p ≢ peer → new.sent p ≡ old.sent p
   pub coming : new.coming ≡ old.coming
@@ -88,7 +86,6 @@ pub record Sent (old new : LinksState) (peer : ℕ) (bytes : List ℕ) : Type 0 
 -- these bytes came from this peer, the next of those that were to come, and all else is as it was
 pub record Came (old new : LinksState) (peer : ℕ) (bytes : List ℕ) : Type 0 where
   pub told : new.told ≡ old.told
-  pub moves : OneMore old new (took peer bytes)
   pub sent : new.sent ≡ old.sent
   pub came : old.told ≡ true → old.coming peer ≡ bytes ++ new.coming peer
   pub others : old.told ≡ true → (p : ℕ) → p ≢ peer → new.coming p ≡ old.coming p
@@ -99,10 +96,28 @@ IsDry state peer = state.told ≡ true → state.coming peer ≡ []
 
 -- ---- several calls
 
--- these calls were answered, in an order in which each byte was due; what was sent and what is still to come are functions of them
-pub record Orderly (Due : (given came : ℕ → List ℕ) → ℕ → Type 0) (old new : LinksState) : Type 0 where
+-- after these calls, in which each byte was due, these bytes were given to each peer and those taken from it, and that is all that moved
+pub record Did (Due : (given came : ℕ → List ℕ) → ℕ → Type 0) (old new : LinksState) (given taken : ℕ → List ℕ) : Type 0 where
   pub since : List LinkMove
   pub moves : new.moves ≡ old.moves ++ since
-  pub sent : (p : ℕ) → new.sent p ≡ old.sent p ++ given_in since p
-  pub came : (p : ℕ) → old.coming p ≡ taken_in since p ++ new.coming p
+  pub gave_these : given_in since ≡ given
+  pub took_those : taken_in since ≡ taken
+  pub sent : new.sent ≡ and_then old.sent given
+  pub came : old.coming ≡ and_then taken new.coming
   pub due : AreDue Due no_bytes no_bytes since
+
+-- the same of links that are told, whatever was given and taken
+abbrev pub Ordered : (Due : (given came : ℕ → List ℕ) → ℕ → Type 0) → (old new : LinksState) → Type 0
+Ordered Due old new = old.told ≡ true → (given : ℕ → List ℕ) × (taken : ℕ → List ℕ) × Did Due old new given taken
+
+-- first the peers were joined, as this miner at this port, and then the links were used so
+pub record JoinedFirst (Due : (given came : ℕ → List ℕ) → ℕ → Type 0) (me port : ℕ) (old new : LinksState) : Type 0 where
+  pub since : List LinkMove
+  pub moves : new.moves ≡ old.moves ++ joined me port ∷ since
+  pub sent : new.sent ≡ and_then old.sent (given_in since)
+  pub came : old.coming ≡ and_then (taken_in since) new.coming
+  pub due : AreDue Due no_bytes no_bytes since
+
+-- so they were, or not at all
+abbrev pub JoinedOrNot : (Due : (given came : ℕ → List ℕ) → ℕ → Type 0) → (me port : ℕ) → (old new : LinksState) → Type 0
+JoinedOrNot Due me port old new = SameLinks old new ⊎ JoinedFirst Due me port old new

@@ -1,7 +1,7 @@
 // The links to the other peers, by their numbers 1 to 3.
 ghost use Rattle.std.specs.Prelude.{◌≡◌, ◌<◌, ◌≤◌, true, length, take, IfOk, OnOk, OnErr};
 ghost use Rattle.outside.specs.Causes.{HasCause, IsSteady};
-ghost use Rattle.outside.specs.Links.{LinksState, SameLinks, Joined, Sent, Came, IsDry};
+ghost use Rattle.outside.specs.Links.{LinksState, SameBytes, SameLinks, OneMore, Sent, Came, IsDry, joined, gave, took};
 
 use crate::FileErr;
 
@@ -15,7 +15,8 @@ pub trait Links {
         requires me_to { me ≤ 3 }
         requires port_from { 1 ≤ port }
         requires port_to { port ≤ 65533 }
-        ensures ok { OnOk result (Joined (state self.old) (state self.new) me port) }
+        ensures moves_none { SameBytes (state self.old) (state self.new) }
+        ensures called { OnOk result (OneMore (state self.old) (state self.new) (joined me port)) }
         ensures err { OnErr result (SameLinks (state self.old) (state self.new)) }
         ensures cause { HasCause (state self.old).faults (state self.new).faults result }
         ensures steady { (state self.old).steady ≡ true →
@@ -29,6 +30,7 @@ pub trait Links {
         ensures most { IfOk result (λ k. k ≤ length piece.now) }
         ensures some { IfOk result (λ k. 0 < length piece.now → 0 < k) }
         ensures ok { IfOk result (λ k. Sent (state self.old) (state self.new) peer (take k piece.now)) }
+        ensures called { IfOk result (λ k. OneMore (state self.old) (state self.new) (gave peer (take k piece.now))) }
         ensures err { OnErr result (SameLinks (state self.old) (state self.new)) }
         ensures cause { HasCause (state self.old).faults (state self.new).faults result }
         ensures steady { (state self.old).steady ≡ true →
@@ -43,6 +45,7 @@ pub trait Links {
         ensures most { IfOk result (λ k. k ≤ length into.old) }
         ensures some { IfOk result (λ k. 0 < length into.old → 0 < k) }
         ensures ok { IfOk result (λ k. Came (state self.old) (state self.new) peer (take k into.new)) }
+        ensures called { IfOk result (λ k. OneMore (state self.old) (state self.new) (took peer (take k into.new))) }
         ensures err { OnErr result (SameLinks (state self.old) (state self.new)) }
         ensures cause { HasCause (state self.old).faults (state self.new).faults result }
         ensures steady { (state self.old).steady ≡ true →
