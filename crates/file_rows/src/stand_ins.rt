@@ -60,7 +60,7 @@ fn tell_cut(lines: &mut Lines, cut: &mut MemSink) {
     note_bytes(lines, cut.bytes());
 }
 
-fn note_received(lines: &mut Lines, into: &[u8], count: Result<usize, Failed>) {
+fn note_received(lines: &mut Lines, into: &[u8], count: Result<usize, FileErr>) {
     match count {
         Ok(count) => note_bytes(lines, &into[..count.min(into.len())]),
         Err(error) => note(lines, error),
@@ -121,8 +121,9 @@ fn words(alloc: Global) -> Result<Vec<String>, AllocError> {
 }
 
 fn tell_starts(alloc: Global, lines: &mut Lines, children: &mut MemSpawner, words: &[String]) {
+    let files = MemFiles::new(alloc, Vec::new(alloc));
     for _ in 0..3u32 {
-        note(lines, children.start(alloc, words));
+        note(lines, children.start(alloc, &files, words));
     }
 }
 

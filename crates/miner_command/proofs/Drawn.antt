@@ -42,8 +42,8 @@ module _ (i : Number) (party : ℕ) (is_own : party ≡ count_of i) (file : Tape
   source_tells : f.told ≡ true → (s.told ≡ true) × (s.words (count_of i) ≡ words_in (file_in f path) 8 file.words)
   source_tells told = told_in told (file_in f path) refl (whole told)
 
-  module _ (own : (tape : List ℕ) → Own) (f' : FilesState) (a c : LinksState) (t : TapesState) (result : Result NodeText ServeErr)
-      (under : s.under ≡ f) (under' : t.under ≡ f') (h : RunsFrom i own a c s t result) where
+  module _ (own : (tape : List ℕ) → Own) (port : ℕ) (f' : FilesState) (a c : LinksState) (t : TapesState) (result : Result NodeText ServeErr)
+      (under : s.under ≡ f) (under' : t.under ≡ f') (h : RunsFrom i own a c s t port result) where
     fault_so : IsErrOf result TapeFault → TapeFaulted f f'
     fault_so is =
         let fault = h.fault is in
@@ -52,23 +52,24 @@ module _ (i : Number) (party : ℕ) (is_own : party ≡ count_of i) (file : Tape
           unsteady = λ told st. fault.unsteady (opens.steady st (source_tells told).0);
         }
 
-    pub runs_on : RunsOn i own file path f f' a c result
+    pub runs_on : RunsOn i own file path f f' a c port result
     runs_on = tells_or_not f.told by_words by_any
       where
-        by_words : f.told ≡ true → RunsOn i own file path f f' a c result
+        by_words : f.told ≡ true → RunsOn i own file path f f' a c port result
         by_words told =
             let there = source_tells told in
             record {
               tape = s.words (count_of i);
               there = λ t. there.1;
               runs = h.runs (s.words (count_of i)) (told_tape s t (count_of i) h.taken there.0 h.drew);
+              joins = h.joins (s.words (count_of i)) (told_tape s t (count_of i) h.taken there.0 h.drew);
               fault = fault_so;
             }
 
-        by_any : f.told ≡ false → RunsOn i own file path f f' a c result
+        by_any : f.told ≡ false → RunsOn i own file path f f' a c port result
         by_any silent =
             let one = some_tape h.taken (left_for i t) in
-            record { tape = one.0; there = λ told. untold f.told silent told; runs = h.runs one.0 one.1; fault = fault_so }
+            record { tape = one.0; there = λ told. untold f.told silent told; runs = h.runs one.0 one.1; joins = h.joins one.0 one.1; fault = fault_so }
 
     pub files_so : OnlyRead f f'
     files_so = subst (λ x. OnlyRead x f') under (subst (λ x. OnlyRead s.under x) under' h.drew.stands.read)

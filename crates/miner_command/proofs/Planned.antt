@@ -21,7 +21,7 @@ use Rattle.tape_sources.specs.FileTapes.{file_in, words_in}
 use Rattle.miner_command.specs.Files.{Given, given_at}
 use Rattle.miner_command.specs.Miner.{miner_of, node_answer, own_of, sent_of, sent_with}
 use Rattle.miner_command.specs.declared.files.MinerFiles.{MinerFiles}
-use Rattle.miner_command.specs.Playing.{LeavesLinks, Plays, PlaysOn, SendsSo}
+use Rattle.miner_command.specs.Playing.{LeavesLinks, MovesBy, MovesSo, Plays, PlaysOn, SendsSo}
 use Rattle.miner_command.specs.Views.{given_seen, given_with}
 
 -- what is told, whatever is decided
@@ -96,6 +96,11 @@ sends_on : (ask : MinerAsk) (files : Contents) (coming : ℕ → List ℕ) (give
 unfolding sent_of
 sends_on ask files coming given is = ap (λ (g : Result Given Cause). sent_with ask g coming) is
 
+-- links that are as they were
+pub moves_none : (ask : MinerAsk) (read : Result Given Cause) (l : LinksState) → MovesBy ask read l l
+moves_none ask (Ok given) l = λ told. inl (record { told = refl; moves = refl; sent = refl; coming = refl })
+moves_none ask (Err cause) l = record { told = refl; moves = refl; sent = refl; coming = refl }
+
 -- the files are read in one state of the store, and the tape is drawn in later ones
 module _ (ask : MinerAsk) (f b f' : FilesState) (l l' : LinksState) (read : MinerFiles) (only : OnlyRead f b) where
   abbrev Decided : List ℕ → Type 0
@@ -146,6 +151,9 @@ module _ (ask : MinerAsk) (f b f' : FilesState) (l l' : LinksState) (read : Mine
     pub played_sends : (result : Result Plan Stop) → PlaysOn ask read b f' l l' result → BothTold f l
         → SendsSo ask.me l l' ask.tape (sent_of ask f.contents l.coming) result
     played_sends result h both = sends_so h.tape h.there result h.plays both
+
+    pub played_moves : (result : Result Plan Stop) → PlaysOn ask read b f' l l' result → BothTold f l → MovesSo ask f.contents l l'
+    played_moves result h both = subst (λ (g : Result Given Cause). MovesBy ask g l l') (sym (tape_is both.0 h.tape h.there)) h.plays.joins
 
   anyhow_so : (given : Given) (stop : Stop) → Plays ask given b f' l l' (Err stop) → StopsAnyhow f f' l l' stop
   anyhow_so had stops.Memory h = tt

@@ -23,7 +23,7 @@ use Rattle.miner_node.specs.Serving.{Outcome, Mismatch, NoFrame, Refused, Servin
 use Rattle.command_frame.specs.declared.fault.NodeFault.{NodeFault}
 use Rattle.command_frame.specs.declared.fault.NodeFault.TheVariants as faults
 use Rattle.node_run.specs.declared.running.NodeText.{NodeText}
-use Rattle.node_run.specs.Nodes.{Outgoing, Own, own_bytes, own_serving, Runs}
+use Rattle.node_run.specs.Nodes.{Outgoing, Own, own_bytes, own_serving, JoinsInOrder, Runs}
 use Rattle.node_run.proofs.Joins.{all_sent}
 use Rattle.miner_command.specs.declared.files.MinerFiles.{MinerFiles}
 use Rattle.miner_command.specs.Files.{Given, miner_paths}
@@ -36,7 +36,7 @@ of_a_peer : (fault : NodeFault) (b : Breach) → breach_of b ≡ bad_peer fault 
 unfolding bad_peer
 of_a_peer fault b is = ap (λ (c : Cause). of_peers c.status) is
 
-module _ (ask : MinerAsk) (given : Given) (f f' : FilesState) (a c : LinksState) where
+module _ (ask : MinerAsk) (given : Given) (f f' : FilesState) (a c : LinksState) (joins : JoinsInOrder ask.me (own_of ask given) ask.port a c) where
   abbrev served : Serving
   served = own_serving ask.me (own_of ask given) a.coming
 
@@ -54,18 +54,19 @@ module _ (ask : MinerAsk) (given : Given) (f f' : FilesState) (a c : LinksState)
             ∙ ap (λ (text : List ℕ). Ok (text_effect ask.out text told.end)) (sym (h.ok t).text)
             ∙ ap (λ (e : Effect). Ok e) (sym is);
         sends = λ t. (h.ok t).sent;
+        joins = joins;
       }
 
   -- memory ran out for what is to be written
   pub plays_unplanned : (told : NodeText) → Runs ask.me (own_of ask given) a c (Ok told) → Plays ask given f f' a c (Err stops.Memory)
-  plays_unplanned told h = record { answers = tt; sends = λ t. all_sent ask.me a.sent c.sent out.to_next out.to_previous (h.ok t).sent }
+  plays_unplanned told h = record { answers = tt; sends = λ t. all_sent ask.me a.sent c.sent out.to_next out.to_previous (h.ok t).sent; joins = joins }
 
   -- a peer sent what it must not send
   breached_so : (fault : NodeFault) (o : Outcome) → answer_at ask served.acts o ≡ Err (bad_peer fault)
       → (a.told ≡ true → (served.outcome ≡ o) × SentAll ask.me a c out) → (stop : Stop) → IsBreachFor (bad_peer fault) stop
       → Plays ask given f f' a c (Err stop)
   breached_so fault o comes h stops.Memory for =
-      record { answers = tt; sends = λ t. all_sent ask.me a.sent c.sent out.to_next out.to_previous (h t).1 }
+      record { answers = tt; sends = λ t. all_sent ask.me a.sent c.sent out.to_next out.to_previous (h t).1; joins = joins }
   breached_so fault o comes h stops.Usage for = absurd for
   breached_so fault o comes h (stops.Refused r) for = absurd for
   breached_so fault o comes h (stops.Breached b) for =
@@ -75,6 +76,7 @@ module _ (ask : MinerAsk) (given : Given) (f f' : FilesState) (a c : LinksState)
           λ t. ap (λ (v : Outcome). answer_at ask served.acts v) (h t).0 ∙ comes ∙ ap (λ (e : Cause). Err e) (sym for),
         );
         sends = λ t. (h t).1;
+        joins = joins;
       }
   breached_so fault o comes h (stops.Failed object) for = absurd for
 
@@ -87,22 +89,23 @@ module _ (ask : MinerAsk) (given : Given) (f f' : FilesState) (a c : LinksState)
           dry = λ st t. ap (λ (v : Outcome). answer_at ask served.acts v) (h.err.0.steady st t);
         };
         sends = h.err.1;
+        joins = joins;
       })
   stops_so (PeerMismatch field mine theirs) stop h for =
       breached_so (faults.OtherHello (hello_field field)) (Mismatch field mine theirs) refl h.err stop for
   stops_so (BadFrame place) stop h for = breached_so (faults.BadFrame place) (NoFrame place) refl h.err stop for
   stops_so (BadMessage link cause) stop h for = breached_so (message_fault link cause) (Refused link cause) refl h.err stop for
   stops_so Memory stop h for =
-      subst (λ (s : Stop). Plays ask given f f' a c (Err s)) (sym for) (record { answers = tt; sends = h.err })
+      subst (λ (s : Stop). Plays ask given f f' a c (Err s)) (sym for) (record { answers = tt; sends = h.err; joins = joins })
 
   -- words of its tape could not be read
   pub tape_stops_so : (stop : Stop) → Runs ask.me (own_of ask given) a c (Err Memory) → TapeFaulted f f' → IsFileStop ask.tape stop
       → Plays ask given f f' a c (Err stop)
-  tape_stops_so stops.Memory h fault for = record { answers = tt; sends = h.err }
+  tape_stops_so stops.Memory h fault for = record { answers = tt; sends = h.err; joins = joins }
   tape_stops_so stops.Usage h fault for = absurd for
   tape_stops_so (stops.Refused r) h fault for = absurd for
   tape_stops_so (stops.Breached b) h fault for = absurd for
-  tape_stops_so (stops.Failed (objects.File line)) h fault for = record { answers = (for, fault); sends = λ t. inr (for, h.err t) }
+  tape_stops_so (stops.Failed (objects.File line)) h fault for = record { answers = (for, fault); sends = λ t. inr (for, h.err t); joins = joins }
   tape_stops_so (stops.Failed objects.Output) h fault for = absurd for
   tape_stops_so (stops.Failed objects.Links) h fault for = absurd for
   tape_stops_so (stops.Failed objects.Children) h fault for = absurd for
@@ -116,8 +119,12 @@ module _ (ask : MinerAsk) (read : MinerFiles) (f f' : FilesState) (a c : LinksSt
   here tape result h =
       subst (λ (v : Own). Runs ask.me v a c result) (same tape) (subst (λ (i : Number). Runs i (own tape) a c result) is h)
 
+  joins_here : (tape : List ℕ) → JoinsInOrder me (own tape) ask.port a c → JoinsInOrder ask.me (own_of ask (given_with read tape)) ask.port a c
+  joins_here tape h =
+      subst (λ (v : Own). JoinsInOrder ask.me v ask.port a c) (same tape) (subst (λ (i : Number). JoinsInOrder i (own tape) ask.port a c) is h)
+
   abbrev Ran : Result NodeText ServeErr → Type 0
-  Ran result = RunsOn me own read.tape ask.tape f f' a c result
+  Ran result = RunsOn me own read.tape ask.tape f f' a c ask.port result
 
   pub plays_with : (told : NodeText) (plan : Plan) → Ran (Ok told) → effect_of plan ≡ text_effect ask.out told.text.items told.end
       → PlaysOn ask read f f' a c (Ok plan)
@@ -125,7 +132,7 @@ module _ (ask : MinerAsk) (read : MinerFiles) (f f' : FilesState) (a c : LinksSt
       record {
         tape = h.tape;
         there = h.there;
-        plays = plays_so ask (given_with read h.tape) f f' a c told plan (here h.tape (Ok told) h.runs) effect;
+        plays = plays_so ask (given_with read h.tape) f f' a c (joins_here h.tape h.joins) told plan (here h.tape (Ok told) h.runs) effect;
       }
 
   pub unplanned_with : (told : NodeText) → Ran (Ok told) → PlaysOn ask read f f' a c (Err stops.Memory)
@@ -133,7 +140,7 @@ module _ (ask : MinerAsk) (read : MinerFiles) (f f' : FilesState) (a c : LinksSt
       record {
         tape = h.tape;
         there = h.there;
-        plays = plays_unplanned ask (given_with read h.tape) f f' a c told (here h.tape (Ok told) h.runs);
+        plays = plays_unplanned ask (given_with read h.tape) f f' a c (joins_here h.tape h.joins) told (here h.tape (Ok told) h.runs);
       }
 
   pub stops_with : (e : ServeErr) (stop : Stop) → Ran (Err e) → IsServeStop ask.tape e stop → PlaysOn ask read f f' a c (Err stop)
@@ -141,13 +148,13 @@ module _ (ask : MinerAsk) (read : MinerFiles) (f f' : FilesState) (a c : LinksSt
       record {
         tape = h.tape;
         there = h.there;
-        plays = stops_so ask (given_with read h.tape) f f' a c e stop (here h.tape (Err e) h.runs) for;
+        plays = stops_so ask (given_with read h.tape) f f' a c (joins_here h.tape h.joins) e stop (here h.tape (Err e) h.runs) for;
       }
   stops_with TapeFault stop h for =
       record {
         tape = h.tape;
         there = h.there;
-        plays = tape_stops_so ask (given_with read h.tape) f f' a c stop (here h.tape (Err Memory) h.runs) (h.fault refl) for;
+        plays = tape_stops_so ask (given_with read h.tape) f f' a c (joins_here h.tape h.joins) stop (here h.tape (Err Memory) h.runs) (h.fault refl) for;
       }
 
 -- ---- WHICH FILE STOPS IT

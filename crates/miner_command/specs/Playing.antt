@@ -1,13 +1,13 @@
 -- What a miner sent, and what it answered, by what it had read.
 use Rattle.std.specs.Prelude.{◌≡◌, ◌⊎◌, ℕ, List, true, Result, Ok, Err, IsErrOf}
-use Rattle.outside.specs.Files.{FilesState}
-use Rattle.outside.specs.Links.{LinksState}
+use Rattle.outside.specs.Files.{Contents, FilesState}
+use Rattle.outside.specs.Links.{LinksState, SameLinks}
 use Rattle.sc_text.specs.Fault.{file_line}
 use Rattle.proto_core.specs.declared.party.Number.{Number}
 use Rattle.command_frame.specs.declared.plan.Plan.{Plan}
 use Rattle.command_frame.specs.declared.stop.Stop.{Stop}
 use Rattle.command_frame.specs.declared.stop.Stop.TheVariants as stops
-use Rattle.command_frame.specs.Answer.{Answer, breach_of, effect_of}
+use Rattle.command_frame.specs.Answer.{Answer, Cause, breach_of, effect_of}
 use Rattle.command_frame.specs.Objects.{OfObject}
 use Rattle.command_frame.specs.Reads.{LinksFaulted}
 use Rattle.command_frame.specs.Status.{of_peers}
@@ -20,7 +20,7 @@ use Rattle.miner_node.specs.declared.node_err.ServeErr.TheVariants.{Node, TapeFa
 use Rattle.miner_node.specs.Peers.{Sends, SendsFronts}
 use Rattle.command_frame.specs.declared.fault.NodeFault.TheVariants as faults
 use Rattle.node_run.specs.declared.running.NodeText.{NodeText}
-use Rattle.node_run.specs.Nodes.{Outgoing, Own, own_bytes, own_serving, with_memory, Runs}
+use Rattle.node_run.specs.Nodes.{Outgoing, Own, own_bytes, own_serving, with_memory, JoinsInOrder, Runs}
 use Rattle.tape_sources.specs.FileTapes.{file_in, words_in, TapeFaulted}
 use Rattle.command_frame.specs.declared.object.Object.TheVariants as objects
 use Rattle.miner_command.specs.declared.files.MinerFiles.{MinerFiles}
@@ -64,6 +64,17 @@ module _ (tape : List ℕ) (old new : LinksState) where
   LeavesLinks (Err (stops.Breached b)) = Unit {0}
   LeavesLinks (Err (stops.Failed object)) = OfObject (λ line. (new ≡ old) ⊎ (line ≡ file_line tape)) ⊥ (Unit {0}) ⊥ object
 
+-- ---- its calls of the links
+
+-- by what is read of the files: the miner joins its peers at its port and uses the links in order, or moves nothing; where nothing is read of them it
+-- moves nothing
+abbrev pub MovesBy : MinerAsk → Result Given Cause → (old new : LinksState) → Type 0
+MovesBy ask (Ok given) old new = JoinsInOrder ask.me (own_of ask given) ask.port old new
+MovesBy ask (Err cause) old new = SameLinks old new
+
+abbrev pub MovesSo : MinerAsk → Contents → (old new : LinksState) → Type 0
+MovesSo ask files old new = MovesBy ask (given_at ask files) old new
+
 -- ---- what was answered
 
 -- the stop of a node that has no text
@@ -94,6 +105,7 @@ module _ (tape : List ℕ) (files files' : FilesState) (old new : LinksState) wh
 pub record Plays (ask : MinerAsk) (given : Given) (files files' : FilesState) (old new : LinksState) (result : Result Plan Stop) : Type 0 where
   pub answers : AnswersSo ask.tape files files' old new result (node_answer ask (own_serving ask.me (own_of ask given) old.coming))
   pub sends : old.told ≡ true → SendsSo ask.me old new ask.tape (own_bytes ask.me (own_of ask given) old.coming) result
+  pub joins : JoinsInOrder ask.me (own_of ask given) ask.port old new
 
 -- the same with the tape in the file, where the store tells it, and else with one that begins with the words that were drawn
 pub record PlaysOn (ask : MinerAsk) (read : MinerFiles) (files files' : FilesState) (old new : LinksState) (result : Result Plan Stop) : Type 0 where
@@ -103,8 +115,9 @@ pub record PlaysOn (ask : MinerAsk) (read : MinerFiles) (files files' : FilesSta
 
 -- a node ran so, with such a tape
 pub record RunsOn (me : Number) (own : (tape : List ℕ) → Own) (file : TapeFile) (path : List ℕ) (files files' : FilesState) (old new : LinksState)
-    (result : Result NodeText ServeErr) : Type 0 where
+    (port : ℕ) (result : Result NodeText ServeErr) : Type 0 where
   pub tape : List ℕ
   pub there : files.told ≡ true → tape ≡ words_in (file_in files path) 8 file.words
   pub runs : Runs me (own tape) old new (with_memory result)
+  pub joins : JoinsInOrder me (own tape) port old new
   pub fault : IsErrOf result TapeFault → TapeFaulted files files'

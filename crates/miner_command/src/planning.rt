@@ -8,7 +8,7 @@ ghost use Rattle.command_words.specs.Views.{miner_ask};
 ghost use Rattle.miner_node.specs.Faults.{IsLater};
 ghost use Rattle.miner_command.specs.Files.{miner_paths, text_paths};
 ghost use Rattle.miner_command.specs.Miner.{miner_of, sent_of};
-ghost use Rattle.miner_command.specs.Playing.{LeavesLinks, SendsSo};
+ghost use Rattle.miner_command.specs.Playing.{LeavesLinks, MovesSo, SendsSo};
 
 use crate::files::read_files;
 use crate::playing::play;
@@ -23,7 +23,8 @@ use std::alloc::Global;
 ///
 /// Before the files are read and checked so the links are left as they are. After that, where the run has ended or a peer sent what it must not send,
 /// exactly the bytes were sent that what came leads to, a hello first; where the links failed, words of the tape couldn't be read, or memory ran out,
-/// a front of these for each peer.
+/// a front of these for each peer. The peers are joined first, as this miner at the port of the words, and each byte is taken when it is awaited and all
+/// was given that those before it lead to.
 pub fn plan_miner<F: Files, L: Links>(
     alloc: Global,
     files: &mut F,
@@ -37,6 +38,8 @@ pub fn plan_miner<F: Files, L: Links>(
     ensures sent { BothTold (F.state files.old) (L.state links.old) →
         SendsSo (miner_ask words.now).me (L.state links.old) (L.state links.new) (miner_ask words.now).tape
         (sent_of (miner_ask words.now) (F.state files.old).contents (L.state links.old).coming) result }
+    ensures moves { BothTold (F.state files.old) (L.state links.old) →
+        MovesSo (miner_ask words.now) (F.state files.old).contents (L.state links.old) (L.state links.new) }
     ensures unjoined { LeavesLinks (miner_ask words.now).tape (L.state links.old) (L.state links.new) result }
     ensures anyhow { IfErr result
         (StopsReadingAmong (Rose (L.state links.old).faults (L.state links.new).faults) of_peers (F.state files.old) (F.state files.new)) }

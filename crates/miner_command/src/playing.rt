@@ -60,7 +60,8 @@ fn run_on<P: Party, F: Files, L: Links>(
     requires port_to { port ≤ 65533 }
     requires open { IsOpen (F.state files.old) path.now file }
     ensures files { OnlyRead (F.state files.old) (F.state files.new) }
-    ensures runs { RunsOn P.me (own_seen own) file path.now (F.state files.old) (F.state files.new) (L.state links.old) (L.state links.new) result }
+    ensures runs { RunsOn P.me (own_seen own) file path.now (F.state files.old) (F.state files.new) (L.state links.old) (L.state links.new)
+        port result }
     ensures later { IsLater (L.state links.old) (L.state links.new) }
 {
     let mut tape = OwnTape::new(files, path, P::number().as_u8(), file.words, file.size);

@@ -27,6 +27,8 @@ use Rattle.miner_node.specs.declared.node_err.NodeErr.{NodeErr}
 use Rattle.miner_node.specs.declared.node_err.NodeErr.TheVariants as stop
 use Rattle.miner_node.specs.declared.node_err.ServeErr.{ServeErr}
 use Rattle.miner_node.specs.declared.node_err.ServeErr.TheVariants.{Node, TapeFault}
+use Rattle.miner_core.specs.Story.{strand_in}
+use Rattle.miner_node.specs.Order.{InOrder}
 use Rattle.miner_node.specs.Serves.{IsFresh, DeliversOne, HasServed, HasStopped}
 use Rattle.miner_node.specs.Tapes.{IsReady, HasGone, Along, node_answer, StoppedBy, StopsFor, StopsSo, EndsSo}
 use Rattle.miner_node.proofs.Rounds.{at_ease_after}
@@ -231,6 +233,11 @@ module _ (i : Number) (hello : Hello) (a b : LinksState) (m : StreamState) (take
 
   pub whole_stops : (e : NodeErr) → StopsFor i hello a b no_words no_words m taken e → HasStopped i hello a b (story_so_far m) e
   whole_stops e h = subst (λ w. HasStopped i hello a b (with_tape m w) e) same_tape (h (m.story.tape ++ taken) of_itself)
+
+  pub whole_order :
+      ((tape : List ℕ) → IsTapeOf (m.story.tape ++ taken) (left_for i no_words) tape → InOrder i hello (strand_in i (with_tape m tape)) a b) →
+      InOrder i hello (strand_in i (story_so_far m)) a b
+  whole_order h = subst (λ w. InOrder i hello (strand_in i (with_tape m w)) a b) same_tape (h (m.story.tape ++ taken) of_itself)
 
   pub whole_serves :
       (last : StreamState) (ending : Ending) → EndsSo i hello a b no_words no_words m taken last ending →

@@ -4,6 +4,7 @@ pub mod FrameReading
 pub mod Greetings
 pub mod SentFrames
 pub mod Turning
+pub mod Ordering
 pub mod Rounds
 pub mod Along
 pub mod Honest

@@ -1,7 +1,7 @@
 -- What a turn answers, and turns one after another.
-use Rattle.std.proofs.Common.{◌≡◌, ℕ, List, ◌++◌, Option, Some, None, Result, Ok, Err, refl, sym, ap, ◌∙◌, subst, true}
+use Rattle.std.proofs.Common.{◌≡◌, ℕ, List, ◌++◌, Option, Some, None, Result, Ok, Err, refl, sym, ap, ◌∙◌, subst, true, ◌⊎◌, inl, inr}
 use Rattle.std.proofs.lemmas.List.{append_assoc}
-use Rattle.outside.specs.Links.{LinksState}
+use Rattle.outside.specs.Links.{LinksState, Ordered}
 use Rattle.proto_core.specs.declared.party.Number.{Number}
 use Rattle.proto_core.specs.declared.link.Link.{Link}
 use Rattle.proto_core.specs.declared.refused.BadMessage as refusal
@@ -26,11 +26,13 @@ use Rattle.miner_node.specs.Peers.{Sends, SendsFronts}
 use Rattle.miner_node.specs.Serving.{Serving, hello_to, after_greeting, serving, serving_messages, frames, frames_to_next, frames_to_previous}
 use Rattle.miner_node.specs.Serving.{bytes_to_next, bytes_to_previous}
 use Rattle.miner_node.specs.Answers.{HasGreeted, Greets, IsUnread, ReadsMessage}
-use Rattle.miner_node.specs.Turns.{SendsNew, IsAtEase, Delivers, IsUndelivered, TakesMessage, IsServing, HasFinished, Finishes, StopsServing, TurnGoes}
+use Rattle.miner_node.specs.Order.{IsMessageDue}
+use Rattle.miner_node.specs.Turns.{SameTask, InOrderSoFar, TakesOfFrame, SendsNew, IsAtEase, Delivers, IsUndelivered, TakesMessage, IsServing, HasFinished, Finishes, StopsServing, TurnGoes}
 use Rattle.miner_node.specs.Turns.{TurnAnswers, EndsTurns}
 use Rattle.miner_node.specs.Serves.{IsRefusedSo, DeliversOne, HasServed, HasStopped, Exchanges}
 use Rattle.miner_node.proofs.Faulting.{later_self, later_on, fault_on}
-use Rattle.miner_node.proofs.Turning.{fronts_before, unsent_turn, sent_now, read_now, later_now, fronts_now, finishes, serves_on, undelivered}
+use Rattle.miner_node.proofs.Ordering.{order_known, order_sent, order_taken, order_read, order_greeting, order_all}
+use Rattle.miner_node.proofs.Turning.{mail_more, task_received, task_on, fronts_before, unsent_turn, sent_now, read_now, later_now, fronts_now, finishes, serves_on, undelivered}
 
 -- ---- A DELIVERY
 
@@ -51,7 +53,7 @@ at_ease_after i s (step.Ended x) h =
     λ k cause e. end_refuses k cause (sym (end_stands (node i s).left (node i s).unread x h) ∙ e)
 
 pub not_own : (i : Number) (link : Link) (s : Story) (a : LinksState) {T : Type 0} → TakesMessage i link s s a a {T = T} (Err stop.Memory)
-not_own i link s a = record { ok = tt; err = tt; sent = refl; later = later_self a }
+not_own i link s a = record { ok = tt; did = inl refl; err = tt; sent = refl; later = later_self a }
 
 module _ (i : Number) (link : Link) (own : receiver_of link ≡ i) (s : Story) (c d : LinksState) where
   -- no message was read
@@ -60,10 +62,10 @@ module _ (i : Number) (link : Link) (own : receiver_of link ≡ i) (s : Story) (
   unread_is (stop.PeerMismatch field mine theirs) h = absurd h
   unread_is (stop.BadFrame place) h = record { own = own; malformed = h }
   unread_is (stop.BadMessage at cause) h = absurd h
-  unread_is stop.Memory h = absurd h
+  unread_is stop.Memory h = tt
 
   pub untaken : {T : Type 0} (e : NodeErr) → ReadsMessage c d (count_of (sender_of link)) (Err e) → TakesMessage i link s s c d {T = T} (Err e)
-  untaken e h = record { ok = tt; err = unread_is e h.err; sent = h.sent; later = h.later }
+  untaken e h = record { ok = tt; did = inr (record { own = own; did = h.did }); err = unread_is e h.err; sent = h.sent; later = h.later }
 
   module _ (m : List ℕ) (h : ReadsMessage c d (count_of (sender_of link)) (Ok m)) (s2 : Story) where
     delivers : s2 ≡ received i s link m → Delivers i link s s2 c d
@@ -77,14 +79,20 @@ module _ (i : Number) (link : Link) (own : receiver_of link ≡ i) (s : Story) (
     refused_so stop.Memory g = tt
 
     pub takes : {T : Type 0} (result : Result T NodeErr) → DeliversOne i s s2 link m result → TakesMessage i link s s2 c d result
-    takes (Ok x) g = record { ok = (delivers g.ok.0, g.ok.1); err = tt; sent = h.sent; later = h.later }
-    takes (Err e) g = record { ok = tt; err = refused_so e g.err; sent = h.sent; later = h.later }
+    takes (Ok x) g = record { ok = (delivers g.ok.0, g.ok.1); did = inr (record { own = own; did = h.did }); err = tt; sent = h.sent; later = h.later }
+    takes (Err e) g = record { ok = tt; did = inr (record { own = own; did = h.did }); err = refused_so e g.err; sent = h.sent; later = h.later }
 
 -- ---- A TURN
 
 module _ (i : Number) (a : LinksState) (first : Story) (b c : LinksState) (s : Story) (counts after : SentCounts) (at : IsServing i a b first s counts) where
   pub turn_unsent : {T : Type 0} (e : NodeErr) → SendsNew {T = T} i s counts after b c (Err e) → TurnAnswers i a c first s after (Err e)
-  turn_unsent e h = record { ok = tt; err = unsent_turn i a first b c s counts after at e h; later = later_on at.later h.later }
+  turn_unsent e h =
+      record {
+        ok = tt;
+        err = unsent_turn i a first b c s counts after at e h;
+        did = order_known i a first c s (order_sent i a first b c s at.later.told at.order h.did);
+        later = later_on at.later h.later;
+      }
 
   module _ {T : Type 0} (x : T) (h : SendsNew {T = T} i s counts after b c (Ok x)) where
     abbrev sent : a.told ≡ true → Sends i a.sent c.sent (frames (sent_to_next i s)) (frames (sent_to_previous i s))
@@ -93,11 +101,15 @@ module _ (i : Number) (a : LinksState) (first : Story) (b c : LinksState) (s : S
     abbrev later : IsLater a c
     later = later_now i a first b c s counts after at x h
 
+    abbrev order : a.told ≡ true → InOrderSoFar i a c first s
+    order = order_sent i a first b c s at.later.told at.order h.did
+
     pub turn_ended : (ending : Ending) → HasEnded (node i s).left (end.Over ending) → TurnAnswers i a c first s after (Ok (Some ending))
     turn_ended ending is =
         record {
           ok = finishes i a first c c s at.going at.task later (later_self c) (read_now i a first b c s counts after at x h) sent refl ending is;
           err = tt;
+          did = order_known i a first c s order;
           later = later;
         }
 
@@ -106,24 +118,36 @@ module _ (i : Number) (a : LinksState) (first : Story) (b c : LinksState) (s : S
         record {
           ok = tt;
           err = fronts_now i a first c c s at.going at.task later (later_self c) (read_now i a first b c s counts after at x h) sent refl;
+          did = order_known i a first c s order;
           later = later;
         }
 
     module _ (link : Link) (awaits : stands_at i s ≡ Awaits link) (s2 : Story) (d : LinksState) where
+      -- what was taken; of a link that doesn't end here that is nothing
+      took_part : (d ≡ c) ⊎ TakesOfFrame i link s s2 c d → Ordered (IsMessageDue i (strand_in i first)) a d
+      took_part (inl same) = subst (λ v. Ordered (IsMessageDue i (strand_in i first)) a v) (sym same) (order_known i a first c s order)
+      took_part (inr took) = order_taken i a first c s at.task order sent link took.own awaits d (λ t. took.did (later.told ∙ t))
+
       pub turn_untaken : {U : Type 0} (e : NodeErr) → TakesMessage i link s s2 c d {T = U} (Err e) → TurnAnswers i a d first s2 after (Err e)
       turn_untaken e g =
           record {
             ok = tt;
             err = undelivered i a first c d s at.going at.task later g.later (read_now i a first b c s counts after at x h) sent g.sent link awaits s2 e g.err;
+            did = took_part g.did;
             later = later_on later g.later;
           }
 
       pub turn_taken : {U : Type 0} (y : U) → TakesMessage i link s s2 c d {T = U} (Ok y) → TurnAnswers i a d first s2 after (Ok None)
       turn_taken y g =
+          let came = g.ok.0 in
+          let mail = ap (mail_in i) came.story ∙ mail_more i s link came.message came.own in
+          let task = task_on first s s2 at.task (subst (λ v. SameTask s v) (sym came.story) (task_received i s link came.message)) in
+          let read = order_read i a first c s at.task order sent link came.own awaits d s2 came.message mail task g.ok.1 (λ t. came.frame (later.told ∙ t)) in
           record {
             ok = serves_on i a first c d s at.going at.task later g.later (read_now i a first b c s counts after at x h) sent g.sent link awaits s2
-                g.ok.0 g.ok.1 after h.next h.previous;
+                g.ok.0 g.ok.1 read after h.next h.previous;
             err = tt;
+            did = order_known i a first d s2 read;
             later = later_on later g.later;
           }
 
@@ -132,16 +156,17 @@ module _ (i : Number) (a : LinksState) (first : Story) (b c : LinksState) (s : S
 module _ (i : Number) (a b : LinksState) (first s : Story) (counts : SentCounts) where
   pub turns_end : (o : Option Ending) (ending : Ending) → o ≡ Some ending → TurnAnswers i a b first s counts (Ok o) → EndsTurns i a b first s (Ok ending)
   turns_end o ending is h =
-      record { ok = subst (λ (v : Option Ending). TurnGoes i a b first s counts v) is h.ok; err = tt; later = h.later }
+      record { ok = subst (λ (v : Option Ending). TurnGoes i a b first s counts v) is h.ok; err = tt; did = h.did; later = h.later }
 
   pub turns_stop : (e : NodeErr) → TurnAnswers i a b first s counts (Err e) → EndsTurns i a b first s (Err e)
-  turns_stop e h = record { ok = tt; err = h.err; later = h.later }
+  turns_stop e h = record { ok = tt; err = h.err; did = h.did; later = h.later }
 
   pub turns_go : (o : Option Ending) → o ≡ None → TurnAnswers i a b first s counts (Ok o) → IsServing i a b first s counts
   turns_go o is h = subst (λ (v : Option Ending). TurnGoes i a b first s counts v) is h.ok
 
   pub turns_unended : IsServing i a b first s counts → EndsTurns i a b first s (Err stop.Memory)
-  turns_unended h = record { ok = tt; err = fronts_before i a first b s counts h; later = h.later }
+  turns_unended h =
+      record { ok = tt; err = fronts_before i a first b s counts h; did = order_known i a first b s h.order; later = h.later }
 
 -- ---- HELLOS AND TURNS
 
@@ -219,14 +244,27 @@ module _ (i : Number) (hello : Hello) (a b c : LinksState) (first s : Story) (gr
       }
 
   pub exchanges : (result : Result Ending NodeErr) → EndsTurns i b c first s result → Exchanges i hello a c first s result
-  exchanges (Ok ending) h = record { ok = finished_behind ending h.ok; err = tt; later = later_on later h.later }
-  exchanges (Err e) h = record { ok = tt; err = stops_behind e h.err; later = later_on later h.later }
+  exchanges (Ok ending) h =
+      record {
+        ok = finished_behind ending h.ok;
+        err = tt;
+        order = order_all i hello (strand_in i first) a b c later.told greets h.did;
+        later = later_on later h.later;
+      }
+  exchanges (Err e) h =
+      record {
+        ok = tt;
+        err = stops_behind e h.err;
+        order = order_all i hello (strand_in i first) a b c later.told greets h.did;
+        later = later_on later h.later;
+      }
 
 -- ---- BOTH
 
 module _ (i : Number) (hello : Hello) (a b : LinksState) (first s : Story) where
   pub ungreeted : {T : Type 0} (e : NodeErr) → Greets i hello a b {T = T} (Err e) → Exchanges i hello a b first s (Err e)
-  ungreeted e h = record { ok = tt; err = h.err (strand_in i first); later = h.later }
+  ungreeted e h =
+      record { ok = tt; err = h.err (strand_in i first); order = order_greeting i hello (strand_in i first) a b h.did; later = h.later }
 
   pub exchanged : {T : Type 0} (u : T) → Greets i hello a b {T = T} (Ok u) → (c : LinksState) (result : Result Ending NodeErr)
       → EndsTurns i b c first s result → Exchanges i hello a c first s result

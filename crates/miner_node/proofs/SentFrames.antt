@@ -4,7 +4,8 @@ use Rattle.std.proofs.Common.{take_all}
 use Rattle.std.proofs.Math.Seq.{take-suc}
 use Rattle.std.proofs.lemmas.Grind.{flat_map-append}
 use Rattle.std.proofs.lemmas.List.{append-nil, append_assoc, take-append-drop}
-use Rattle.outside.specs.Links.{LinksState, Sent}
+use Rattle.outside.specs.Links.{LinksState, no_bytes, and_then, Sent, Did}
+use Rattle.outside.proofs.Moves.{did_none, did_then_give}
 use Rattle.proto_core.specs.declared.party.Number.{Number}
 use Rattle.proto_core.specs.Parties.{count_of, next_of, previous_of}
 use Rattle.proto_core.specs.Strand.{Begins}
@@ -15,6 +16,7 @@ use Rattle.miner_node.specs.declared.node_err.NodeErr.{NodeErr}
 use Rattle.miner_node.specs.declared.node_err.NodeErr.TheVariants as stop
 use Rattle.miner_node.specs.declared.sending.SentCounts.{SentCounts}
 use Rattle.miner_node.specs.Faults.{IsLater, WasNotSent}
+use Rattle.miner_node.specs.Order.{NeverDue, GivesOnly}
 use Rattle.miner_node.specs.Peers.{Sends}
 use Rattle.miner_node.specs.Serving.{frames}
 use Rattle.miner_node.specs.Turns.{SendsFrom, HasSentSome, SendsNew}
@@ -57,29 +59,39 @@ unsent_on a b c p stop.Memory h = tt
 pub record SendsUpTo (a b : LinksState) (peer : ℕ) (m : List (List ℕ)) (sent now : ℕ) : Type 0 where
   pub all : a.told ≡ true → (base : List ℕ) → a.sent peer ≡ base ++ frames (take sent m) → b.sent peer ≡ base ++ frames (take now m)
   pub others : a.told ≡ true → (p : ℕ) → p ≢ peer → b.sent p ≡ a.sent p
+  pub did : GivesOnly a b
   pub coming : b.coming ≡ a.coming
   pub later : IsLater a b
 
+-- bytes are given, and then more
+pub gives_on : (a b c : LinksState) → b.told ≡ a.told → GivesOnly a b → GivesOnly b c → GivesOnly a c
+gives_on a b c told one two t =
+    let x = one t in
+    let y = two (told ∙ t) in
+    (and_then x.0 y.0, did_then_give NeverDue NeverDue a b c x.0 y.0 no_bytes x.1 y.1 (λ g' c' p h. absurd h))
+
 pub up_to_itself : (a : LinksState) (peer : ℕ) (m : List (List ℕ)) (sent : ℕ) → SendsUpTo a a peer m sent sent
 up_to_itself a peer m sent =
-    record { all = λ t base e. e; others = λ t p apart. refl; coming = refl; later = later_self a }
+    record { all = λ t base e. e; others = λ t p apart. refl; did = λ t. (no_bytes, did_none NeverDue a); coming = refl; later = later_self a }
 
 module _ (a b : LinksState) (peer : ℕ) (m : List (List ℕ)) (sent now : ℕ) (h : SendsUpTo a b peer m sent now) where
-  pub up_to_next : (c : LinksState) → now < length m → Sent b c peer (frame_bytes (get_or m now [])) → IsLater b c → SendsUpTo a c peer m sent (now + 1)
-  up_to_next c within q later =
+  pub up_to_next : (c : LinksState) → now < length m → Sent b c peer (frame_bytes (get_or m now [])) → GivesOnly b c → IsLater b c
+      → SendsUpTo a c peer m sent (now + 1)
+  up_to_next c within q gives later =
       record {
         all = λ t base e.
             q.sent (h.later.told ∙ t) ∙ ap (λ (w : List ℕ). w ++ frame_bytes (get_or m now [])) (h.all t base e)
             ∙ append_assoc base (frames (take now m)) (frame_bytes (get_or m now []))
             ∙ ap (λ (w : List ℕ). base ++ w) (sym (frames_more m now within));
         others = λ t p apart. q.others (h.later.told ∙ t) p apart ∙ h.others t p apart;
+        did = gives_on a b c h.later.told h.did gives;
         coming = q.coming ∙ h.coming;
         later = later_on h.later later;
       }
 
   pub stops_within : (c : LinksState) → now < length m → (n : ℕ) → Sent b c peer (take n (frame_bytes (get_or m now []))) → (e : NodeErr)
-      → WasNotSent b c e → IsLater b c → SendsFrom a c peer m sent (Err e)
-  stops_within c within n q e unsent later =
+      → WasNotSent b c e → GivesOnly b c → IsLater b c → SendsFrom a c peer m sent (Err e)
+  stops_within c within n q e unsent gives later =
       record {
         count = tt;
         all = tt;
@@ -89,6 +101,7 @@ module _ (a b : LinksState) (peer : ℕ) (m : List (List ℕ)) (sent now : ℕ) 
           q.sent (h.later.told ∙ t) ∙ ap (λ (w : List ℕ). w ++ take n (frame_bytes (get_or m now []))) (h.all t base is)
               ∙ append_assoc base (frames (take now m)) (take n (frame_bytes (get_or m now []))),
         );
+        did = gives_on a b c h.later.told h.did gives;
         err = unsent_on a b c h.later e unsent;
         others = λ t p apart. q.others (h.later.told ∙ t) p apart ∙ h.others t p apart;
         coming = q.coming ∙ h.coming;
@@ -102,6 +115,7 @@ module _ (a b : LinksState) (peer : ℕ) (m : List (List ℕ)) (sent now : ℕ) 
         count = is;
         all = λ t base e. h.all t base e ∙ ap (λ (w : List ℕ). base ++ w) whole;
         front = λ t base e. (frames m, begins-self (frames m), h.all t base e ∙ ap (λ (w : List ℕ). base ++ w) whole);
+        did = h.did;
         err = tt;
         others = h.others;
         coming = h.coming;
@@ -128,6 +142,7 @@ module _ (i : Number) (s : Story) (counts : SentCounts) (a b : LinksState) where
               );
               others = λ r apart apart2. p.others t r apart ∙ is.others r apart apart2;
             };
+        did = p.did;
         err = p.err;
         coming = p.coming;
         later = p.later;
@@ -154,6 +169,7 @@ module _ (i : Number) (s : Story) (counts : SentCounts) (a b : LinksState) where
                     (p.others t (count_of (previous_of i)) (numbers_differ i) ∙ is.to_previous);
                 others = λ r apart apart2. q.others u r apart2 ∙ p.others t r apart ∙ is.others r apart apart2;
               };
+          did = gives_on a b c p.later.told p.did q.did;
           err = unsent_on a b c p.later e q.err;
           coming = q.coming ∙ p.coming;
           later = later_on p.later q.later;
@@ -182,6 +198,7 @@ module _ (i : Number) (s : Story) (counts : SentCounts) (a b : LinksState) where
                 to_previous = (frames (sent_to_previous i s), begins-self (frames (sent_to_previous i s)), all.to_previous);
                 others = all.others;
               };
+          did = gives_on a b c p.later.told p.did q.did;
           err = tt;
           coming = q.coming ∙ p.coming;
           later = later_on p.later q.later;

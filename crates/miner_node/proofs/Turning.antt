@@ -31,7 +31,7 @@ use Rattle.miner_node.specs.declared.sending.SentCounts.{SentCounts}
 use Rattle.miner_node.specs.Faults.{IsLater}
 use Rattle.miner_node.specs.Peers.{coming_to, Sends, SendsFronts}
 use Rattle.miner_node.specs.Serving.{Refused, Serving, outcome_at, serving_messages, frames, frames_to_next, frames_to_previous}
-use Rattle.miner_node.specs.Turns.{SendsNew, IsAtEase, Delivers, IsUndelivered, SameTask, IsServing, Finishes, StopsServing}
+use Rattle.miner_node.specs.Turns.{SendsNew, IsAtEase, Delivers, IsUndelivered, SameTask, InOrderSoFar, IsServing, Finishes, StopsServing}
 use Rattle.miner_node.proofs.Faulting.{later_on, fault_on}
 use Rattle.miner_node.proofs.Greetings.{unsent_stops}
 use Rattle.miner_node.proofs.SentFrames.{begins_frames, front_frames}
@@ -71,12 +71,12 @@ rest_at Link21 Link31 c d h = sym (h 3 (λ e. omega arith))
 rest_at Link31 Link21 c d h = sym (h 2 (λ e. omega arith))
 rest_at _ _ c d h = refl
 
-rest_is : (i : Number) (l : Link) (c d : ℕ → List ℕ) → receiver_of l ≡ i → ((p : ℕ) → p ≢ count_of (sender_of l) → d p ≡ c p)
+pub rest_is : (i : Number) (l : Link) (c d : ℕ → List ℕ) → receiver_of l ≡ i → ((p : ℕ) → p ≢ count_of (sender_of l) → d p ≡ c p)
     → with_rest l (d (count_of (sender_of l))) (coming_to i c) ≡ coming_to i d
 rest_is i l c d e h =
     subst (λ j. with_rest l (d (count_of (sender_of l))) (coming_to j c) ≡ coming_to j d) e (λ x. λ k. rest_at l k c d h x)
 
-coming_at : (i : Number) (l : Link) (c : ℕ → List ℕ) → receiver_of l ≡ i → coming_to i c l ≡ c (count_of (sender_of l))
+pub coming_at : (i : Number) (l : Link) (c : ℕ → List ℕ) → receiver_of l ≡ i → coming_to i c l ≡ c (count_of (sender_of l))
 coming_at i l c e =
     subst (λ j. coming_to j c l ≡ c (count_of (sender_of l))) e
     (ap (λ b. if b then c (count_of (sender_of l)) else []) (same_self (receiver_of l)))
@@ -93,16 +93,16 @@ mail_at s Link31 m Link31 = refl
 mail_at s Link32 m Link32 = refl
 mail_at s _ m _ = sym (append-none _)
 
-mail_more : (i : Number) (s : Story) (l : Link) (m : List ℕ) → receiver_of l ≡ i → mail_in i (received i s l m) ≡ added (mail_in i s) (only l m)
+pub mail_more : (i : Number) (s : Story) (l : Link) (m : List ℕ) → receiver_of l ≡ i → mail_in i (received i s l m) ≡ added (mail_in i s) (only l m)
 mail_more i s l m e = subst (λ j. mail_in j (received j s l m) ≡ added (mail_in j s) (only l m)) e (λ x. λ k. mail_at s l m k x)
 
-task_received : (i : Number) (s : Story) (l : Link) (m : List ℕ) → SameTask s (received i s l m)
+pub task_received : (i : Number) (s : Story) (l : Link) (m : List ℕ) → SameTask s (received i s l m)
 task_received i s l m =
     elim (same_link (from_previous i) l) as
     (λ b. SameTask s (if b then record s { from_previous = s.from_previous ++ m ∷ [] } else record s { from_next = s.from_next ++ m ∷ [] }))
     [ true ↦ refl | false ↦ refl ]
 
-task_on : (x y z : Story) → SameTask x y → SameTask y z → SameTask x z
+pub task_on : (x y z : Story) → SameTask x y → SameTask y z → SameTask x z
 task_on x y z p q = q ∙ ap (λ (v : Story). record v { from_previous = z.from_previous; from_next = z.from_next }) p
 
 -- ---- ENDS
@@ -144,7 +144,7 @@ module _ (i : Number) (a : LinksState) (first : Story) where
   abbrev r : Serving
   r = serving_messages i strand a.coming
 
-  node_is : (s : Story) → SameTask first s → node i s ≡ run strand (mail_in i s)
+  pub node_is : (s : Story) → SameTask first s → node i s ≡ run strand (mail_in i s)
   node_is s task = ap (λ (v : Story). run (strand_in i v) (mail_in i s)) task
 
   module _ (s : Story) (task : SameTask first s) (rest : Coming) (h : HasRead framed strand bytes (mail_in i s) rest) where
@@ -183,8 +183,9 @@ module _ (i : Number) (a : LinksState) (first : Story) where
   -- ---- AT FIRST
 
   pub serves_first : first.lost ≡ false → first.from_previous ≡ [] → first.from_next ≡ [] → (counts : SentCounts) → counts.to_next ≡ 0
-      → counts.to_previous ≡ 0 → (later : IsLater a a) → IsServing i a a first first counts
-  serves_first going previous next counts none none2 later =
+      → counts.to_previous ≡ 0 → (later : IsLater a a) → (mail_in i first ≡ nothing → InOrderSoFar i a a first first)
+      → IsServing i a a first first counts
+  serves_first going previous next counts none none2 later order =
       let mail : mail_in i first ≡ nothing =
       ap (λ (v : List (List ℕ)). mail_of i v first.from_next) previous ∙ ap (λ (v : List (List ℕ)). mail_of i [] v) next ∙ mail-none i in
       record {
@@ -199,6 +200,7 @@ module _ (i : Number) (a : LinksState) (first : Story) where
                   ∙ ap (λ (n : ℕ). a.sent (count_of (previous_of i)) ++ frames (take n (sent_to_previous i first))) (sym none2);
               others = λ p apart apart2. refl;
             };
+        order = λ t. order mail;
         later = later;
       }
 
@@ -319,9 +321,9 @@ module _ (i : Number) (a : LinksState) (first : Story) where
             (run-more strand (mail_in i s) (added (mail_in i s) (only link h.message)) (λ l. begins-append (mail_in i s l) (only link h.message l))))
 
         -- it is taken
-        pub serves_on : IsAtEase i s2 → (counts : SentCounts) → counts.to_next ≡ length (sent_to_next i s)
+        pub serves_on : IsAtEase i s2 → (a.told ≡ true → InOrderSoFar i a d first s2) → (counts : SentCounts) → counts.to_next ≡ length (sent_to_next i s)
             → counts.to_previous ≡ length (sent_to_previous i s) → IsServing i a d first s2 counts
-        serves_on ease counts one two =
+        serves_on ease order counts one two =
             let next : take counts.to_next (sent_to_next i s2) ≡ sent_to_next i s =
             ap (λ (n : ℕ). take n (sent_to_next i s2)) one ∙ begun _ _ (begins-on_link (to_next i) _ _ sends_more) in
             let previous : take counts.to_previous (sent_to_previous i s2) ≡ sent_to_previous i s =
@@ -338,6 +340,7 @@ module _ (i : Number) (a : LinksState) (first : Story) where
                     to_previous = all.to_previous ∙ ap (λ v. a.sent (count_of (previous_of i)) ++ frames v) (sym previous);
                     others = all.others;
                   };
+              order = order;
               later = later_on later later2;
             }
 

@@ -31,7 +31,7 @@ DidNotCome old new excuse LinkFault = IsFault old new excuse
 DidNotCome old new excuse (PeerMismatch field mine theirs) = ⊥
 DidNotCome old new excuse (BadFrame place) = ⊥
 DidNotCome old new excuse (BadMessage link cause) = ⊥
-DidNotCome old new excuse Memory = ⊥
+DidNotCome old new excuse Memory = Unit {0}
 
 -- the count of faults never falls, and steady links stay so
 pub record IsLater (old new : LinksState) : Type 0 where

@@ -1,4 +1,5 @@
 pub mod Faults
+pub mod Order
 pub mod Transfers
 pub mod Peers
 pub mod Serving

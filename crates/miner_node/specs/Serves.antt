@@ -11,6 +11,7 @@ use Rattle.wire.specs.declared.fields.Hello.{Hello}
 use Rattle.miner_node.specs.declared.node_err.NodeErr.{NodeErr}
 use Rattle.miner_node.specs.declared.node_err.NodeErr.TheVariants.{LinkFault, PeerMismatch, BadFrame, BadMessage, Memory}
 use Rattle.miner_node.specs.Faults.{IsLater}
+use Rattle.miner_node.specs.Order.{InOrder}
 use Rattle.miner_node.specs.Peers.{Sends}
 use Rattle.miner_node.specs.Serving.{Serving, serving, bytes_to_next, bytes_to_previous}
 use Rattle.miner_node.specs.Answers.{IsStop}
@@ -56,4 +57,5 @@ module _ (i : Number) (hello : Hello) (old new : LinksState) (first : Story) whe
   pub record Exchanges (s : Story) (result : Result Ending NodeErr) : Type 0 where
     pub ok : IfOk result (HasServed s)
     pub err : IfErr result HasStopped
+    pub order : InOrder i hello (strand_in i first) old new
     pub later : IsLater old new

@@ -18,6 +18,8 @@ use Rattle.miner_node.specs.declared.node_err.NodeErr.{NodeErr}
 use Rattle.miner_node.specs.declared.node_err.NodeErr.TheVariants.{BadMessage, Memory}
 use Rattle.miner_node.specs.declared.node_err.ServeErr.{ServeErr}
 use Rattle.miner_node.specs.declared.node_err.ServeErr.TheVariants.{Node, TapeFault}
+use Rattle.miner_core.specs.Story.{strand_in}
+use Rattle.miner_node.specs.Order.{InOrder}
 use Rattle.miner_node.specs.Serves.{HasServed, HasStopped}
 
 -- nothing was delivered to a miner that keeps all, it is of use, and the source has the words that it has not drawn
@@ -80,3 +82,10 @@ module _ (i : Number) (hello : Hello) (old new : LinksState) (before after : Tap
     pub ok : IfOk result (λ s. EndsSo taken (miner s) (ending s))
     pub err : IfErr result (StopsSo taken)
     pub still : before.steady ≡ true → after.steady ≡ true
+
+  -- and its calls of the links were in order
+  pub record ServesInOrder {A : Type 0} (result : Result A ServeErr) (miner : A → StreamState) (ending : A → Ending) : Type 0 where
+    pub serves : Serves result miner ending
+    pub order :
+        (tape : List ℕ) → IsTapeOf (m.story.tape ++ serves.taken) (left_for i after) tape
+        → InOrder i hello (strand_in i (with_tape m tape)) old new

@@ -1,11 +1,11 @@
 -- How far a node has come that reads frame by frame.
-use Rattle.std.specs.Prelude.{◌≡◌, ◌≢◌, ℕ, List, ◌++◌, length, take, false, true, Option, Some, None, Result, OnOk, IfOk, IfErr}
-use Rattle.outside.specs.Links.{LinksState}
+use Rattle.std.specs.Prelude.{◌≡◌, ◌≢◌, ◌⊎◌, ℕ, List, ◌++◌, length, take, false, true, Option, Some, None, Result, OnOk, IfOk, IfErr}
+use Rattle.outside.specs.Links.{LinksState, no_bytes, bytes_of, and_then, Did, Ordered}
 use Rattle.proto_core.specs.declared.party.Number.{Number}
 use Rattle.proto_core.specs.declared.link.Link.{Link}
 use Rattle.proto_core.specs.declared.refused.BadMessage as refusal
 use Rattle.proto_core.specs.Parties.{count_of, sender_of, receiver_of}
-use Rattle.proto_core.specs.Strand.{Ends, Begins}
+use Rattle.proto_core.specs.Strand.{Mail, Strand, Ends, Begins}
 use Rattle.proto_core.specs.Standing.{Refuses}
 use Rattle.served_bytes.specs.Front.{Malformed, Truncated}
 use Rattle.served_bytes.specs.Reading.{HasRead}
@@ -18,6 +18,7 @@ use Rattle.miner_node.specs.declared.node_err.NodeErr.{NodeErr}
 use Rattle.miner_node.specs.declared.node_err.NodeErr.TheVariants.{LinkFault, PeerMismatch, BadFrame, BadMessage, Memory}
 use Rattle.miner_node.specs.declared.sending.SentCounts.{SentCounts}
 use Rattle.miner_node.specs.Faults.{IsFault, IsLater, WasNotSent}
+use Rattle.miner_node.specs.Order.{GivesOnly, IsMessageDue, IsUnfinished}
 use Rattle.miner_node.specs.Peers.{coming_to, Sends, SendsFronts}
 use Rattle.miner_node.specs.Serving.{Serving, Finished, serving_messages, frames, frames_to_next, frames_to_previous}
 use Rattle.miner_node.specs.Answers.{IsStop, ReadsOne}
@@ -32,6 +33,7 @@ pub record SendsFrom (old new : LinksState) (peer : ℕ) (messages : List (List 
   pub front :
       old.told ≡ true → (base : List ℕ) → old.sent peer ≡ base ++ frames (take sent messages) →
       (front : List ℕ) × Begins front (frames messages) × (new.sent peer ≡ base ++ front)
+  pub did : GivesOnly old new
   pub err : IfErr result (WasNotSent old new)
   pub others : old.told ≡ true → (p : ℕ) → p ≢ peer → new.sent p ≡ old.sent p
   pub coming : new.coming ≡ old.coming
@@ -52,6 +54,7 @@ pub record SendsNew {T : Type 0} (i : Number) (s : Story) (before after : SentCo
   pub front :
       old.told ≡ true → (base : ℕ → List ℕ) → HasSentSome i base old.sent s before →
       SendsFronts i base new.sent (frames (sent_to_next i s)) (frames (sent_to_previous i s))
+  pub did : GivesOnly old new
   pub err : IfErr result (WasNotSent old new)
   pub coming : new.coming ≡ old.coming
   pub later : IsLater old new
@@ -89,8 +92,16 @@ module _ (i : Number) (link : Link) (before after : Story) (old new : LinksState
   IsUndelivered (BadMessage refused cause) = IsRefused refused cause
   IsUndelivered Memory = Unit {0}
 
+  -- bytes of the next frame were taken
+  pub record TakesOfFrame : Type 0 where
+    pub own : receiver_of link ≡ i
+    pub did :
+        old.told ≡ true → (taken : List ℕ)
+        × Did (IsUnfinished framed (count_of (sender_of link))) old new no_bytes (bytes_of (count_of (sender_of link)) taken)
+
   pub record TakesMessage {T : Type 0} (result : Result T NodeErr) : Type 0 where
     pub ok : OnOk result (Delivers × IsAtEase i after)
+    pub did : (new ≡ old) ⊎ TakesOfFrame
     pub err : IfErr result IsUndelivered
     pub sent : new.sent ≡ old.sent
     pub later : IsLater old new
@@ -101,12 +112,24 @@ module _ (i : Number) (link : Link) (before after : Story) (old new : LinksState
 abbrev pub SameTask : (before after : Story) → Type 0
 SameTask before after = after ≡ record before { from_previous = after.from_previous; from_next = after.from_next }
 
+-- with these bytes taken it has received these messages, and whatever comes after them leads on from there
+abbrev pub ReadsOn : Number → Strand Ended → (mail : Mail) → (taken : ℕ → List ℕ) → Type 0
+ReadsOn i s mail taken = (rest : ℕ → List ℕ) → HasRead framed s (coming_to i (and_then taken rest)) mail (coming_to i rest)
+
+-- its calls since the start were in order, and with the bytes taken it has received its messages
+pub record InOrderSoFar (i : Number) (start now : LinksState) (first s : Story) : Type 0 where
+  pub given : ℕ → List ℕ
+  pub taken : ℕ → List ℕ
+  pub did : Did (IsMessageDue i (strand_in i first)) start now given taken
+  pub reads : ReadsOn i (strand_in i first) (mail_in i s) taken
+
 -- from `start` on a node has come so far that began with this story: it has read what its miner received, and has sent so much of what it sends
 pub record IsServing (i : Number) (start now : LinksState) (first s : Story) (counts : SentCounts) : Type 0 where
   pub going : s.lost ≡ false
   pub task : SameTask first s
   pub read : start.told ≡ true → HasRead framed (strand_in i first) (coming_to i start.coming) (mail_in i s) (coming_to i now.coming)
   pub sent : start.told ≡ true → HasSentSome i start.sent now.sent s counts
+  pub order : start.told ≡ true → InOrderSoFar i start now first s
   pub later : IsLater start now
 
 -- the miner's run has ended so, and this is what the node comes to
@@ -139,10 +162,12 @@ module _ (i : Number) (start now : LinksState) (first : Story) where
   pub record TurnAnswers (s : Story) (counts : SentCounts) (result : Result (Option Ending) NodeErr) : Type 0 where
     pub ok : IfOk result (TurnGoes s counts)
     pub err : IfErr result StopsServing
+    pub did : Ordered (IsMessageDue i (strand_in i first)) start now
     pub later : IsLater start now
 
   -- turns until the run has ended
   pub record EndsTurns (s : Story) (result : Result Ending NodeErr) : Type 0 where
     pub ok : IfOk result (Finishes s)
     pub err : IfErr result StopsServing
+    pub did : Ordered (IsMessageDue i (strand_in i first)) start now
     pub later : IsLater start now

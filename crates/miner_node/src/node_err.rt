@@ -1,9 +1,9 @@
 // Why a node has no text.
 ghost use Rattle.std.specs.Prelude.{◌≡◌};
-ghost use Rattle.miner_node.specs.declared.node_err.NodeErr.TheVariants.{LinkFault, Memory, BadFrame as NoFrame};
+ghost use Rattle.miner_node.specs.declared.node_err.NodeErr.TheVariants.{Memory, BadFrame as NoFrame};
 ghost use Rattle.miner_node.specs.Faults.{unsent};
 
-use outside::{Failed, FileErr};
+use outside::FileErr;
 use proto_core::{BadMessage, Link};
 use std::alloc::AllocError;
 use wire::{BadFrame, Field, Hello};
@@ -59,14 +59,6 @@ impl From<FileErr> for NodeErr {
             FileErr::Failed => NodeErr::LinkFault,
             FileErr::Memory => NodeErr::Memory,
         }
-    }
-}
-
-impl From<Failed> for NodeErr {
-    ghost from_gives = { λ _ e. e ≡ LinkFault };
-
-    fn from(_: Failed) -> Self {
-        NodeErr::LinkFault
     }
 }
 

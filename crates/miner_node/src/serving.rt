@@ -7,12 +7,13 @@ ghost use Rattle.miner_core.specs.declared.answer.Lost.TheVariants as lost;
 ghost use Rattle.miner_core.specs.declared.kept.Kept.TheVariants as kept;
 ghost use Rattle.miner_core.specs.Drawing.{left_for};
 ghost use Rattle.miner_core.specs.Miners.{held};
-ghost use Rattle.miner_core.specs.Story.{Story, stands_at};
+ghost use Rattle.miner_core.specs.Story.{Story, stands_at, strand_in};
 ghost use Rattle.miner_core.specs.Streams.{ForEachTape, with_tape, story_so_far};
 ghost use Rattle.miner_node.specs.Answers.{ReadsMessage};
 ghost use Rattle.miner_node.specs.Serves.{IsFresh, DeliversOne, HasServed, HasStopped, Exchanges};
-ghost use Rattle.miner_node.specs.Tapes.{Along, IsReady, Serves, StoppedBy, node_answer};
+ghost use Rattle.miner_node.specs.Tapes.{Along, IsReady, ServesInOrder, StoppedBy, node_answer};
 ghost use Rattle.miner_node.specs.Faults.{IsLater};
+ghost use Rattle.miner_node.specs.Order.{InOrder};
 ghost use Rattle.miner_node.specs.Turns.{EndsTurns, IsServing, TakesMessage, TurnAnswers};
 
 use crate::greeting::greet;
@@ -203,7 +204,7 @@ pub fn serve_from<P: Party, L: Links, T: TapeSource>(
 ) -> Result<Served<P>, ServeErr>
     requires ready { IsReady P.me (held miner) (T.state tapes.old) }
     requires sender { hello.now.sender ≡ count_of P.me }
-    ensures serves { Serves P.me hello.now (L.state links.old) (L.state links.new) (T.state tapes.old) (T.state tapes.new) (held miner) result
+    ensures serves { ServesInOrder P.me hello.now (L.state links.old) (L.state links.new) (T.state tapes.old) (T.state tapes.new) (held miner) result
         (λ s. held s.miner) (λ s. s.ending) }
     ensures later { IsLater (L.state links.old) (L.state links.new) }
 {
@@ -234,6 +235,7 @@ pub fn serve<P: Party, L: Links>(
     ensures served { IfOk result (λ s. HasServed P.me hello.now (L.state links.old) (L.state links.new) (story_so_far (held miner))
         (story_so_far (held s.miner)) s.ending) }
     ensures stopped { IfErr result (HasStopped P.me hello.now (L.state links.old) (L.state links.new) (story_so_far (held miner))) }
+    ensures order { InOrder P.me hello.now (strand_in P.me (story_so_far (held miner))) (L.state links.old) (L.state links.new) }
     ensures later { IsLater (L.state links.old) (L.state links.new) }
 {
     match serve_from(alloc, miner, hello, links, &mut NoTapes) {

@@ -104,7 +104,7 @@ fn tell_answer(lines: &mut Lines, answer: &Result<Joined, TrioErr>) {
 
 fn tell_call(lines: &mut Lines, call: &SpawnCall) {
     match call {
-        SpawnCall::Started { words, child } => {
+        SpawnCall::Started { words, child, .. } => {
             write!(lines, "start {child}:");
             for word in words {
                 write!(lines, " {word}");

@@ -1,5 +1,5 @@
 -- A node whose miner has nothing to do, beside that of a run which has ended before it began.
-use Rattle.std.proofs.Common.{◌≡◌, ℕ, List, Option, Some, None, refl, sym, subst}
+use Rattle.std.proofs.Common.{◌≡◌, ℕ, List, Option, Some, None, refl, sym, ap, ◌∙◌, subst}
 use Rattle.sc_text.specs.declared.end.Ending.{Ending}
 use Rattle.proto_core.specs.declared.party.Number.{Number}
 use Rattle.proto_core.specs.Parties.{count_of}
@@ -16,6 +16,7 @@ use Rattle.wire.specs.declared.fields.Field.{Field}
 use Rattle.wire.specs.Hellos.{greeted, first_difference}
 use Rattle.miner_node.specs.declared.node_err.NodeErr.{NodeErr}
 use Rattle.miner_node.specs.declared.node_err.NodeErr.TheVariants as stop
+use Rattle.miner_node.specs.Order.{IsDue}
 use Rattle.miner_node.specs.Peers.{lower_peer, higher_peer, with_peer}
 use Rattle.miner_node.specs.Serving.{Outcome, Finished, Mismatch, NoFrame, Refused, CutOff, Greeting, Agreed, Stops, Serving}
 use Rattle.miner_node.specs.Serving.{hello_from, compared, at_hello, heard, then_hear, greeting, after_greeting, serving, bytes_to_next, bytes_to_previous}
@@ -98,6 +99,21 @@ module _ (i : Number) (own : Own) where
         let two = ended_first how (settled own.code) own.budget in
         subst (λ (s : Strand Ended). AreAlike (serving i (own_hello i own) s coming) (wanted_of (Some how)) (λ e. two)) (sym idle.1)
         (over_alike i (greeting i (own_hello i own) coming) idle.0 two (greeting_goes i (own_hello i own) coming))
+
+  -- a byte that is due of the one is due of the other
+  pub due_alike : (u : Option Ending) (given came : ℕ → List ℕ) (p : ℕ) → IsDue i (own_hello i own) (strand_in i (made u)) given came p
+      → IsDue i (own_hello i own) (told_of u) given came p
+  due_alike None given came p h = h
+  due_alike (Some how) given came p h =
+      let idle = idles_at_once (share_world own.share) i (private_shares own.share.entries) own.tape own.budget in
+      let two = ended_first how (settled own.code) own.budget in
+      let k = subst (λ (s : Strand Ended). IsDue i (own_hello i own) s given came p) idle.1 h in
+      let acts = (over_alike i (greeting i (own_hello i own) came) idle.0 two (greeting_goes i (own_hello i own) came)).acts in
+      record {
+        is_awaited = k.is_awaited;
+        to_next = k.to_next ∙ ap (bytes_to_next i (own_hello i own)) acts;
+        to_previous = k.to_previous ∙ ap (bytes_to_previous i (own_hello i own)) acts;
+      }
 
   -- why the made one stopped is why the other does
   module _ (a c : LinksState) where

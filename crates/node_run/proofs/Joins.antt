@@ -1,7 +1,8 @@
 -- A node that joins its peers before it serves its links.
-use Rattle.std.proofs.Common.{◌≡◌, ℕ, List, [], ◌++◌, true, Option, Some, None, Result, Ok, Err, IfOk, IfErr, IfNone, sym, ap, ◌∙◌, subst}
+use Rattle.std.proofs.Common.{◌≡◌, ℕ, List, [], ◌++◌, true, Option, Some, None, Result, Ok, Err, IfOk, IfErr, IfNone, sym, ap, ◌∙◌, subst, inl}
 use Rattle.outside.specs.Causes.{Rose}
-use Rattle.outside.specs.Links.{LinksState, SameLinks}
+use Rattle.outside.specs.Links.{LinksState, SameBytes, SameLinks, OneMore, joined}
+use Rattle.outside.proofs.Moves.{did_join}
 use Rattle.outside.specs.Tapes.{TapesState}
 use Rattle.proto_core.specs.declared.party.Number.{Number}
 use Rattle.proto_core.specs.Parties.{count_of, next_of, previous_of}
@@ -20,7 +21,8 @@ use Rattle.miner_node.specs.Peers.{Sends, SendsFronts}
 use Rattle.miner_node.specs.Serving.{Outcome, serving, bytes_to_next, bytes_to_previous}
 use Rattle.miner_node.specs.Answers.{IsStop}
 use Rattle.miner_node.specs.Serves.{HasServed, HasStopped}
-use Rattle.miner_node.specs.Tapes.{Serves, StopsSo}
+use Rattle.miner_node.specs.Tapes.{ServesInOrder, StopsSo}
+use Rattle.node_run.specs.Nodes.{JoinsAndServes}
 use Rattle.miner_node.specs.Turns.{HasFinished}
 use Rattle.miner_node.proofs.Faulting.{fault_on}
 
@@ -44,7 +46,7 @@ all_sent i before now next previous h =
 
 -- ---- JOINING
 
-module _ (i : Number) (a b : LinksState) (same : SameLinks a b) (later : IsLater a b) where
+module _ (i : Number) (a b : LinksState) (same : SameBytes a b) (later : IsLater a b) where
   module _ (hello : Hello) (first : Story) where
     -- the peers could not be joined
     pub unjoined : Rose a.faults b.faults → (a.steady ≡ true → ⊥) → HasStopped i hello a b first stop.LinkFault
@@ -114,18 +116,39 @@ if_none_so (Some x) P Q so h = tt
 
 -- ---- WITH A MINER THAT DRAWS
 
-module _ (i : Number) (a b : LinksState) (same : SameLinks a b) (later : IsLater a b) (hello : Hello) (m : StreamState) (t : TapesState) where
+module _ (i : Number) (port : ℕ) (a b : LinksState) (same : SameBytes a b) (later : IsLater a b) (hello : Hello) (m : StreamState) (t : TapesState) where
   -- the peers could not be joined
   pub unjoined_from :
       {A : Type 0} (miner : A → StreamState) (ending : A → Ending) → Rose a.faults b.faults → (a.steady ≡ true → ⊥)
-      → Serves i hello a b t t m {A = A} (Err (Node stop.LinkFault)) miner ending
-  unjoined_from miner ending rose unsteady =
+      → SameLinks a b → JoinsAndServes i port hello a b t t m {A = A} (Err (Node stop.LinkFault)) miner ending
+  unjoined_from miner ending rose unsteady none =
       record {
-        taken = [];
-        drew = drew_none t (count_of i);
-        ok = tt;
-        err = λ tape of. unjoined i a b same later hello (with_tape m tape) rose unsteady;
-        still = λ h. h;
+        serves =
+            record {
+              taken = [];
+              drew = drew_none t (count_of i);
+              ok = tt;
+              err = λ tape of. unjoined i a b same later hello (with_tape m tape) rose unsteady;
+              still = λ h. h;
+            };
+        joins = λ tape of told. inl none;
+      }
+
+  -- or there was no memory to join them
+  pub unjoined_without_memory :
+      {A : Type 0} (miner : A → StreamState) (ending : A → Ending) → SameLinks a b
+      → JoinsAndServes i port hello a b t t m {A = A} (Err (Node stop.Memory)) miner ending
+  unjoined_without_memory miner ending none =
+      record {
+        serves =
+            record {
+              taken = [];
+              drew = drew_none t (count_of i);
+              ok = tt;
+              err = λ tape of told. none_sent i a.sent b.sent _ _ same.sent;
+              still = λ h. h;
+            };
+        joins = λ tape of told. inl none;
       }
 
   module _ (c : LinksState) (u : TapesState) where
@@ -134,10 +157,12 @@ module _ (i : Number) (a b : LinksState) (same : SameLinks a b) (later : IsLater
     stops_on taken TapeFault h = (λ tape of. stopped_so i a b same later hello (with_tape m tape) c stop.Memory (h.0 tape of), h.1)
 
     pub joined_from :
-        {A : Type 0} (r : Result A ServeErr) (miner : A → StreamState) (ending : A → Ending) → Serves i hello b c t u m r miner ending
-        → Serves i hello a c t u m r miner ending
-    joined_from r miner ending h =
+        {A : Type 0} (r : Result A ServeErr) (miner : A → StreamState) (ending : A → Ending) → OneMore a b (joined (count_of i) port)
+        → ServesInOrder i hello b c t u m r miner ending → JoinsAndServes i port hello a c t u m r miner ending
+    joined_from r miner ending called both =
+        let h = both.serves in
         record {
+          serves = record {
           taken = h.taken;
           drew = h.drew;
           ok =
@@ -150,4 +175,6 @@ module _ (i : Number) (a b : LinksState) (same : SameLinks a b) (later : IsLater
               h.ok;
           err = if_err_so r _ _ (stops_on h.taken) h.err;
           still = h.still;
+          };
+          joins = λ tape of told. did_join _ (count_of i) port a b c told same (called) (both.order tape of);
         }

@@ -1,6 +1,6 @@
 -- One miner's part of a run, by what it has: what its node comes to, what it sends, and its text.
-use Rattle.std.specs.Prelude.{◌≡◌, ℕ, ◌-◌, List, Option, Some, None, Result, Ok, Err, true, IfOk, IfErr, IfSome, IfNone, IsErrOf}
-use Rattle.outside.specs.Links.{LinksState}
+use Rattle.std.specs.Prelude.{◌≡◌, ℕ, ◌-◌, List, ◌++◌, Option, Some, None, Result, Ok, Err, true, IfOk, IfErr, IfSome, IfNone, IsErrOf}
+use Rattle.outside.specs.Links.{LinksState, JoinedOrNot}
 use Rattle.outside.specs.Tapes.{TapesState, Drew}
 use Rattle.sc_text.specs.declared.end.End.{End}
 use Rattle.sc_text.specs.declared.end.Ending.{Ending}
@@ -18,12 +18,15 @@ use Rattle.wire.specs.declared.fields.Hello.{Hello}
 use Rattle.miner_core.specs.declared.answer.Lost.{Lost}
 use Rattle.miner_core.specs.declared.answer.Lost.TheVariants as lost
 use Rattle.miner_core.specs.Drawing.{left_for, IsTapeFault}
-use Rattle.miner_core.specs.Story.{Story, cost_in, node}
+use Rattle.miner_core.specs.Story.{Story, cost_in, node, strand_in}
+use Rattle.miner_core.specs.Streams.{StreamState, with_tape}
 use Rattle.miner_node.specs.declared.node_err.NodeErr.{NodeErr}
 use Rattle.miner_node.specs.declared.node_err.NodeErr.TheVariants.{Memory}
 use Rattle.miner_node.specs.declared.node_err.ServeErr.{ServeErr}
 use Rattle.miner_node.specs.declared.node_err.ServeErr.TheVariants.{Node, TapeFault}
+use Rattle.miner_node.specs.Order.{IsDue}
 use Rattle.miner_node.specs.Peers.{Sends}
+use Rattle.miner_node.specs.Tapes.{Serves}
 use Rattle.miner_node.specs.Serving.{Finished, Serving, bytes_on, serving}
 use Rattle.miner_node.specs.Answers.{IsStop}
 use Rattle.node_run.specs.Made.{hello_of, strand_of}
@@ -101,6 +104,20 @@ module _ (me : Number) (own : Own) (old new : LinksState) where
     pub ok : IfOk result (λ told. old.told ≡ true → HasTextOf me own old new (own_serving me own old.coming) told)
     pub err : IfErr result (HasStoppedOf me own old new (own_serving me own old.coming))
 
+-- ---- its calls of the links
+
+-- it joined its peers at this port, or moved nothing; and then a byte was taken only when it was due
+abbrev pub JoinsInOrder : Number → Own → (port : ℕ) → (old new : LinksState) → Type 0
+JoinsInOrder me own port old new = old.told ≡ true → JoinedOrNot (IsDue me (own_hello me own) (own_strand me own)) (count_of me) port old new
+
+-- the node of a miner that was made did so, and served its links
+module _ (me : Number) (port : ℕ) (hello : Hello) (old new : LinksState) (before after : TapesState) (m : StreamState) where
+  pub record JoinsAndServes {A : Type 0} (result : Result A ServeErr) (miner : A → StreamState) (ending : A → Ending) : Type 0 where
+    pub serves : Serves me hello old new before after m result miner ending
+    pub joins :
+        (tape : List ℕ) → IsTapeOf (m.story.tape ++ serves.taken) (left_for me after) tape → old.told ≡ true
+        → JoinedOrNot (IsDue me hello (strand_in me (with_tape m tape))) (count_of me) port old new
+
 -- ---- a run whose tape is drawn from a source
 
 -- why there is no text where the miner could not be made
@@ -117,10 +134,11 @@ with_memory (Err TapeFault) = Err Memory
 -- words were drawn, and it ran so with each tape that begins with them, and has as many after them as are left; where words couldn't be drawn,
 -- the source counted a fault, and was not steady
 module _ (me : Number) (own : (tape : List ℕ) → Own) (old new : LinksState) (before after : TapesState) where
-  pub record RunsFrom (result : Result NodeText ServeErr) : Type 0 where
+  pub record RunsFrom (port : ℕ) (result : Result NodeText ServeErr) : Type 0 where
     pub taken : List ℕ
     pub drew : Drew before after (count_of me) taken
     pub runs : (tape : List ℕ) → IsTapeOf taken (left_for me after) tape → Runs me (own tape) old new (with_memory result)
+    pub joins : (tape : List ℕ) → IsTapeOf taken (left_for me after) tape → JoinsInOrder me (own tape) port old new
     pub fault : IsErrOf result TapeFault → IsTapeFault before after
     pub still : before.steady ≡ true → after.steady ≡ true
 

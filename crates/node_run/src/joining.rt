@@ -3,11 +3,12 @@ ghost use Rattle.std.specs.Prelude.{◌≡◌, ◌≤◌};
 ghost use Rattle.proto_core.specs.Parties.{count_of};
 ghost use Rattle.miner_core.specs.Miners.{held};
 ghost use Rattle.miner_node.specs.Faults.{IsLater};
-ghost use Rattle.miner_node.specs.Tapes.{IsReady, Serves};
+ghost use Rattle.miner_node.specs.Tapes.{IsReady};
+ghost use Rattle.node_run.specs.Nodes.{JoinsAndServes};
 
 use miner_core::Miner;
 use miner_node::{NodeErr, ServeErr, Served, serve_from};
-use outside::{Links, TapeSource};
+use outside::{FileErr, Links, TapeSource};
 use proto_core::Party;
 use std::alloc::Global;
 use wire::Hello;
@@ -26,12 +27,13 @@ pub(crate) fn serve_joined<P: Party, L: Links, T: TapeSource>(
     requires sender { hello.now.sender ≡ count_of P.me }
     requires port_from { 1 ≤ port }
     requires port_to { port ≤ 65533 }
-    ensures serves { Serves P.me hello.now (L.state links.old) (L.state links.new) (T.state tapes.old) (T.state tapes.new) (held miner) result
+    ensures serves { JoinsAndServes P.me port hello.now (L.state links.old) (L.state links.new) (T.state tapes.old) (T.state tapes.new) (held miner) result
         (λ s. held s.miner) (λ s. s.ending) }
     ensures later { IsLater (L.state links.old) (L.state links.new) }
 {
     match links.connect(P::number().as_u8(), port) {
         Ok(()) => serve_from(alloc, miner, hello, links, tapes),
-        Err(_) => Err(ServeErr::Node(NodeErr::LinkFault)),
+        Err(FileErr::Failed) => Err(ServeErr::Node(NodeErr::LinkFault)),
+        Err(FileErr::Memory) => Err(ServeErr::Node(NodeErr::Memory)),
     }
 }

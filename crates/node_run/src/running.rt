@@ -116,7 +116,7 @@ pub fn run_node<P: Party, L: Links, T: TapeSource>(
     requires form { AreWritable own.share.entries }
     requires port_from { 1 ≤ port }
     requires port_to { port ≤ 65533 }
-    ensures runs { RunsFrom P.me (own_seen own) (L.state links.old) (L.state links.new) (T.state tapes.old) (T.state tapes.new) result }
+    ensures runs { RunsFrom P.me (own_seen own) (L.state links.old) (L.state links.new) (T.state tapes.old) (T.state tapes.new) port result }
     ensures later { IsLater (L.state links.old) (L.state links.new) }
 {
     let begun = match begin::<P, T>(alloc, own, tapes) {

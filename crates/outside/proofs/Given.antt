@@ -2,11 +2,13 @@
 use Rattle.std.proofs.Common.{◌≡◌, ◌<◌, ◌+◌, ◌-◌, ◌^◌, ◌==◌, ◌||◌, ℕ, min, List, [], ◌∷◌, ◌++◌, length, Bool}
 use Rattle.std.proofs.Common.{true, false, Contains, inl, inr, refl, sym, ap, subst, if◌then◌else◌, ◌∙◌, zero, suc, length-append, arith}
 use Rattle.std.specs.List.{list_any}
+use Rattle.std.proofs.lemmas.Grind.{flat_map-append}
 use Rattle.std.proofs.lemmas.List.{append-nil, map-append}
 use Rattle.std.proofs.lemmas.List.Elements.{Contains-append_right, Contains-push_cases}
 use Rattle.std.proofs.lemmas.Bool.Decides.{nat_tests}
 use Rattle.outside.specs.Spawner.{ChildCall, started, awaited, given_in}
-use Rattle.outside.specs.SpawnCall.{call_of, calls_of, starts_child}
+use Rattle.outside.specs.SpawnCall.{call_of, calls_of, held_by, held_of, starts_child}
+use Rattle.outside.specs.declared.held_files.HeldFiles.{HeldFiles}
 use Rattle.outside.specs.declared.spawn_call.SpawnCall.{SpawnCall}
 use Rattle.outside.specs.declared.spawn_call.SpawnCall.TheVariants.{Started, Awaited}
 
@@ -14,6 +16,10 @@ pub given_in-append : (xs ys : List ChildCall) → given_in (xs ++ ys) ≡ given
 given_in-append [] ys = refl
 given_in-append (started words child ∷ xs) ys = ap (λ (ns : List ℕ). child ∷ ns) (given_in-append xs ys)
 given_in-append (awaited child ∷ xs) ys = given_in-append xs ys
+
+-- what the store held as more children were started
+pub held_of_append : (xs ys : List SpawnCall) → held_of (xs ++ ys) ≡ held_of xs ++ held_of ys
+held_of_append xs ys = flat_map-append held_by xs ys
 
 -- one more call before the others
 known_more : (b : Bool) (number child : ℕ) (rest : Bool) (ns : List ℕ) → (number == child) ≡ b → (b || rest) ≡ true
@@ -30,21 +36,21 @@ unknown_more false number child rest ns is e later (suc k, lt, same) = later e (
 pub known_from_any : (calls : List SpawnCall) (child : ℕ) → list_any (λ call. starts_child (call_of call) child) calls ≡ true
     → Contains (given_in (calls_of calls)) child
 known_from_any [] child e = absurd (cc)
-known_from_any (Started words number ∷ calls) child e =
+known_from_any (Started words number held ∷ calls) child e =
     known_more (number == child) number child _ (given_in (calls_of calls)) refl e (known_from_any calls child)
 known_from_any (Awaited number ∷ calls) child e = known_from_any calls child e
 
 pub unknown_from_any : (calls : List SpawnCall) (child : ℕ) → list_any (λ call. starts_child (call_of call) child) calls ≡ false
     → ¬ Contains (given_in (calls_of calls)) child
 unknown_from_any [] child e (k, lt, same) = absurd (omega arith)
-unknown_from_any (Started words number ∷ calls) child e h =
+unknown_from_any (Started words number held ∷ calls) child e h =
     unknown_more (number == child) number child _ (given_in (calls_of calls)) refl e (unknown_from_any calls child) h
 unknown_from_any (Awaited number ∷ calls) child e h = unknown_from_any calls child e h
 
 -- after one more child was started
-pub given_more : (calls after : List SpawnCall) (words : _) (child : ℕ) → after ≡ calls ++ Started words child ∷ []
+pub given_more : (calls after : List SpawnCall) (words : _) (child : ℕ) (held : HeldFiles) → after ≡ calls ++ Started words child held ∷ []
     → given_in (calls_of after) ≡ given_in (calls_of calls) ++ child ∷ []
-given_more calls after words child e = rw (e, map-append) (given_in-append (calls_of calls) _)
+given_more calls after words child held e = rw (e, map-append) (given_in-append (calls_of calls) _)
 
 -- after one more child was waited for, or there was no memory for it
 pub given_kept : (b : Bool) (calls after : List SpawnCall) (child : ℕ) → after ≡ (if b then calls ++ Awaited child ∷ [] else calls)

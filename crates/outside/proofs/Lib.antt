@@ -3,3 +3,5 @@ pub mod Known
 pub mod MapFiles
 pub mod Peers
 pub mod Puts
+pub mod Moves
+pub mod Held

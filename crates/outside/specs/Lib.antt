@@ -1,7 +1,9 @@
 pub mod Causes
 pub mod FileCall
 pub mod Files
+pub mod HeldFiles
 pub mod Links
+pub mod LinkCall
 pub mod MemFile
 pub mod MemFiles
 pub mod MemLinks

@@ -1,7 +1,7 @@
 -- What a spawner in memory means.
 use Rattle.std.specs.Prelude.{ℕ, ℤ, List, true}
 use Rattle.outside.specs.Plan.{is_steady}
-use Rattle.outside.specs.SpawnCall.{calls_of, status_in}
+use Rattle.outside.specs.SpawnCall.{calls_of, held_of, status_in}
 use Rattle.outside.specs.Spawner.{SpawnerState, ChildCall}
 use Rattle.outside.specs.declared.fault_plan.FaultPlan.{FaultPlan}
 use Rattle.outside.specs.declared.mem_spawner.MemSpawner.{MemSpawner}
@@ -20,6 +20,7 @@ abbrev pub spawner_state : MemSpawner → SpawnerState
 spawner_state m = record {
   told = true;
   calls = calls_in m;
+  held = held_of m.calls.items;
   status = status_by_child m;
   faults = m.plan.faults;
   steady = is_steady m.plan;

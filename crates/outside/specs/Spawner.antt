@@ -1,5 +1,6 @@
 -- What is told of other programs: the calls that were made of them, and the statuses that they end with.
-use Rattle.std.specs.Prelude.{◌≡◌, ◌<◌, ◌^◌, ℕ, ℤ, List, [], ◌∷◌, ◌++◌, length, Bool, true, Contains}
+use Rattle.std.specs.Prelude.{◌≡◌, ◌<◌, ◌^◌, ℕ, ℤ, List, [], ◌∷◌, ◌++◌, length, Bool, true, Option, Contains}
+use Rattle.outside.specs.Files.{Contents, FilesState, told_contents}
 
 -- a call that was answered: the words of a child that was started and its number, or a child that was waited for
 pub data ChildCall : Type 0 where
@@ -18,10 +19,12 @@ words_in [] = []
 words_in (started words child ∷ calls) = words ∷ words_in calls
 words_in (awaited child ∷ calls) = words_in calls
 
--- the calls in order and each child's status, which say what they do where `told` is true, and nothing else
+-- the calls in order, what the store held as each child was started, where that is told, and each child's status, which say what they do where
+-- `told` is true, and nothing else
 pub record SpawnerState : Type 0 where
   pub told : Bool
   pub calls : List ChildCall
+  pub held : List (Option Contents)
   pub status : ℕ → ℤ
   pub faults : ℕ
   pub steady : Bool
@@ -31,6 +34,10 @@ pub record SameSpawner (old new : SpawnerState) : Type 0 where
   pub told : new.told ≡ old.told
   pub calls : new.calls ≡ old.calls
   pub status : new.status ≡ old.status
+
+-- one more child was started, when the store was as this says
+abbrev pub HeldThen : (old new : SpawnerState) → FilesState → Type 0
+HeldThen old new files = old.told ≡ true → new.held ≡ old.held ++ told_contents files ∷ []
 
 -- this one call was added, and all else is as it was
 pub record Called (old new : SpawnerState) (call : ChildCall) : Type 0 where

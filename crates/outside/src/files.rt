@@ -2,14 +2,19 @@
 ghost use Rattle.std.specs.Prelude.{◌≡◌, ◌<◌, ◌≤◌, true, Some, length, take, IfOk, OnOk, OnErr};
 ghost use Rattle.outside.specs.Causes.{HasCause, HasLinkCause, IsSteady, IsSteadyLink};
 ghost use Rattle.outside.specs.Files.{FilesState, SameFiles, SameSizes, Wrote, OnlyAt, IsMissing, file_at};
-ghost use Rattle.outside.specs.Files.{Sized, IsBelow, BytesFrom, EndsBefore, Appended};
+ghost use Rattle.outside.specs.Files.{Sized, IsBelow, BytesFrom, EndsBefore, Appended, told_contents};
+ghost use Rattle.outside.specs.HeldFiles.{held_in};
 
-use crate::{Failed, FileErr};
-use std::alloc::Global;
+use crate::{Failed, FileErr, HeldFiles};
+use std::alloc::{AllocError, Global};
 
 /// A store of files, by path.
 pub trait Files {
     ghost state: { Self → FilesState };
+
+    /// What the store holds, where it tells that: it is no call of the store.
+    fn held(&self, alloc: Global) -> Result<HeldFiles, AllocError>
+        ensures { IfOk result (λ held. held_in held ≡ told_contents (state self.now)) };
 
     /// The bytes of a file. A missing file is a fault.
     fn read(&mut self, alloc: Global, path: &str) -> Result<Vec<u8>, FileErr>

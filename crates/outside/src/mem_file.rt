@@ -1,9 +1,11 @@
 // Files in memory, by path.
-ghost use Rattle.std.specs.Prelude.{◌≡◌, ◌≢◌, ◌<◌, ◌≤◌, ◌++◌, ℕ, List, take, Some, None, length, true, false, IsSomeAnd, option_map, IfOk, OnOk, OnErr, IfSome};
+ghost use Rattle.std.specs.Prelude.{◌≡◌, ◌≢◌, ◌<◌, ◌≤◌, ◌++◌, ℕ, List, map, string_bytes, take, Some, None, length, true, false, IsSomeAnd, option_map, IfOk, OnOk, OnErr, IfSome};
 ghost use Rattle.std.specs.Prelude.{IfNone};
 ghost use Rattle.outside.specs.Files.{file_at, with_file, IsBelow, BytesFrom, EndsBefore};
-ghost use Rattle.outside.specs.MemFile.{contents_of, size_in};
+ghost use Rattle.outside.specs.HeldFiles.{pair_of};
+ghost use Rattle.outside.specs.MemFile.{contents_of, pairs_of, size_in};
 
+use crate::held_files::HeldFile;
 use std::alloc::{AllocError, Global};
 use std::collections::BTreeMap;
 
@@ -22,6 +24,31 @@ pub(crate) fn bytes_at<'a>(files: &'a BTreeMap<String, MemFile>, path: &str) -> 
         Some(file) => Some(file.bytes.as_slice()),
         None => None,
     }
+}
+
+// A copy of a file, with its path.
+fn copy_file(alloc: Global, path: &String, file: &MemFile) -> Result<HeldFile, AllocError>
+    ensures { IfOk result (λ held. pair_of held ≡ (string_bytes path.now, file.now.bytes.items)) }
+{
+    Ok(HeldFile {
+        path: String::from_str(alloc, path.as_str())?,
+        bytes: Vec::from_slice(alloc, &file.bytes)?,
+    })
+}
+
+/// Copies of all files, by their paths.
+pub(crate) fn copy_files(
+    alloc: Global,
+    files: &BTreeMap<String, MemFile>,
+) -> Result<Vec<HeldFile>, AllocError>
+    ensures { IfOk result (λ copies. map pair_of copies.items ≡ pairs_of files.now.entries) }
+{
+    let mut copies = Vec::new(alloc);
+    for (path, file) in files.iter() {
+        let held = copy_file(alloc, path, file)?;
+        copies.push(held)?;
+    }
+    Ok(copies)
 }
 
 /// The size that was last answered of the file at this path.

@@ -6,8 +6,8 @@ ghost use Rattle.outside.specs.Files.{file_at, with_file};
 
 use crate::fault_plan::FaultPlan;
 use crate::file_call::{FileAction, FileCall};
-use crate::mem_file::{MemFile, bytes_at, copy_from, extend_file, measure, put_file};
-use crate::{Failed, FileErr, Files};
+use crate::mem_file::{MemFile, bytes_at, copy_files, copy_from, extend_file, measure, put_file};
+use crate::{Failed, FileErr, Files, HeldFiles};
 use std::alloc::{AllocError, Global};
 use std::collections::BTreeMap;
 
@@ -85,6 +85,10 @@ impl Files for MemFiles {
     ghost use Rattle.outside.specs.MemFiles.{files_state};
 
     ghost state = { files_state };
+
+    fn held(&self, alloc: Global) -> Result<HeldFiles, AllocError> {
+        Ok(HeldFiles::told(copy_files(alloc, &self.files)?))
+    }
 
     fn read(&mut self, alloc: Global, path: &str) -> Result<Vec<u8>, FileErr> {
         if self.next_fails(FileAction::Read, path) {

@@ -1,14 +1,18 @@
 // Links in memory.
-ghost use Rattle.std.specs.Prelude.{◌≡◌, ◌≢◌, ◌<◌, ◌≤◌, ◌++◌, [], ℕ, length, take, IfOk, OnOk, OnErr, IfSome, IfNone};
+ghost use Rattle.std.specs.Prelude.{◌≡◌, ◌≢◌, ◌≤◌, ◌++◌, ◌∷◌, [], ℕ, length, take, drop, min, IfOk, OnOk, OnErr};
+ghost use Rattle.outside.specs.LinkCall.{moves_of};
+ghost use Rattle.outside.specs.Links.{gave, took};
 
 use crate::fault_plan::FaultPlan;
 use crate::mem_peer::MemPeer;
-use crate::{Failed, FileErr, Links};
+use crate::{FileErr, LinkCall, Links};
 use std::alloc::{AllocError, Global};
 
-/// Links in memory: what comes from each peer is set up before, and what it was sent is kept.
+/// Links in memory: what comes from each peer is set up before, and what it was sent is kept, as are the calls that moved bytes.
 #[derive(Drop)]
 pub struct MemLinks {
+    alloc: Global,
+    moves: Vec<LinkCall>,
     first: MemPeer,
     second: MemPeer,
     third: MemPeer,
@@ -16,17 +20,20 @@ pub struct MemLinks {
 }
 
 impl MemLinks {
-    ghost use Rattle.outside.specs.MemLinks.{links_sent, links_coming, plan_in};
+    ghost use Rattle.outside.specs.MemLinks.{links_moves, links_sent, links_coming, plan_in};
     ghost use Rattle.outside.specs.Plan.{fresh_plan};
 
     #[tactic(auto, using(crate::proofs::Peers::of_none))]
     /// Links from which no byte comes. The calls with these numbers fail, counted from 0.
     pub fn new(alloc: Global, fails: Vec<u64>) -> Self
+        ensures no_moves { links_moves result ≡ [] }
         ensures none_sent { (p : ℕ) → links_sent result p ≡ [] }
         ensures none_coming { (p : ℕ) → links_coming result p ≡ [] }
         ensures plan { plan_in result ≡ fresh_plan fails }
     {
         MemLinks {
+            alloc,
+            moves: Vec::new(alloc),
             first: MemPeer::new(alloc),
             second: MemPeer::new(alloc),
             third: MemPeer::new(alloc),
@@ -49,6 +56,7 @@ impl MemLinks {
         ensures ok { OnOk result (links_coming self.new peer ≡ links_coming self.old peer ++ bytes.now) }
         ensures others { (p : ℕ) → p ≢ peer → links_coming self.new p ≡ links_coming self.old p }
         ensures err { OnErr result (links_coming self.new ≡ links_coming self.old) }
+        ensures moves { links_moves self.new ≡ links_moves self.old }
         ensures sent { links_sent self.new ≡ links_sent self.old }
         ensures plan { plan_in self.new ≡ plan_in self.old }
     {
@@ -73,45 +81,108 @@ impl MemLinks {
         }
     }
 
-    // Sends some of the bytes to this peer, from the front.
+    /// The calls that moved bytes, in order: it is no call of the links.
+    pub fn moves(&self) -> &[LinkCall]
+        ensures { moves_of result.now ≡ links_moves self.now }
+    {
+        &self.moves
+    }
+
+    // Keeps these bytes after those that this peer was sent.
     #[tactic(auto, using(crate::proofs::Peers::peers))]
-    fn send_to(&mut self, peer: u8, piece: &[u8]) -> Result<usize, AllocError>
+    fn send_to(&mut self, peer: u8, bytes: &[u8]) -> Result<(), AllocError>
         requires peer_from { 1 ≤ peer }
         requires peer_to { peer ≤ 3 }
-        ensures most { IfOk result (λ k. k ≤ length piece.now) }
-        ensures some { IfOk result (λ k. 0 < length piece.now → 0 < k) }
-        ensures ok { IfOk result (λ k. links_sent self.new peer ≡ links_sent self.old peer ++ take k piece.now) }
+        ensures ok { OnOk result (links_sent self.new peer ≡ links_sent self.old peer ++ bytes.now) }
         ensures others { (p : ℕ) → p ≢ peer → links_sent self.new p ≡ links_sent self.old p }
         ensures err { OnErr result (links_sent self.new ≡ links_sent self.old) }
+        ensures moves { links_moves self.new ≡ links_moves self.old }
         ensures coming { links_coming self.new ≡ links_coming self.old }
         ensures plan { plan_in self.new ≡ plan_in self.old }
     {
         match peer {
-            1 => self.first.send(piece),
-            2 => self.second.send(piece),
-            _ => self.third.send(piece),
+            1 => self.first.send(bytes),
+            2 => self.second.send(bytes),
+            _ => self.third.send(bytes),
         }
     }
 
-    // Takes the next bytes from this peer, if any is left.
-    #[tactic(auto, using(crate::proofs::Peers::peers))]
-    fn take_from(&mut self, peer: u8, into: &mut [u8]) -> Option<usize>
+    // Sends this peer the bytes, and keeps the call.
+    fn give(&mut self, peer: u8, piece: &[u8]) -> Result<(), AllocError>
         requires peer_from { 1 ≤ peer }
         requires peer_to { peer ≤ 3 }
-        ensures most { IfSome result (λ k. k ≤ length into.old) }
-        ensures some { IfSome result (λ k. 0 < length into.old → 0 < k) }
-        ensures came { IfSome result (λ k. links_coming self.old peer ≡ take k into.new ++ links_coming self.new peer) }
+        ensures ok { OnOk result (links_sent self.new peer ≡ links_sent self.old peer ++ piece.now) }
+        ensures called { OnOk result (links_moves self.new ≡ links_moves self.old ++ gave peer piece.now ∷ []) }
+        ensures others { (p : ℕ) → p ≢ peer → links_sent self.new p ≡ links_sent self.old p }
+        ensures err { OnErr result (links_sent self.new ≡ links_sent self.old) }
+        ensures uncalled { OnErr result (links_moves self.new ≡ links_moves self.old) }
+        ensures coming { links_coming self.new ≡ links_coming self.old }
+        ensures plan { plan_in self.new ≡ plan_in self.old }
+    {
+        let bytes = Vec::from_slice(self.alloc, piece)?;
+        self.moves.push(LinkCall::Gave { peer, bytes })?;
+        match self.send_to(peer, piece) {
+            Ok(()) => Ok(()),
+            Err(e) => {
+                self.moves.pop();
+                Err(e)
+            }
+        }
+    }
+
+    // The next bytes from this peer, at most 7 at a time.
+    #[tactic(auto, using(crate::proofs::Peers::peers))]
+    fn next_of(&self, peer: u8, most: usize) -> &[u8]
+        requires peer_from { 1 ≤ peer }
+        requires peer_to { peer ≤ 3 }
+        ensures { result.now ≡ take (min most 7) (links_coming self.now peer) }
+    {
+        match peer {
+            1 => self.first.next(most),
+            2 => self.second.next(most),
+            _ => self.third.next(most),
+        }
+    }
+
+    // So many bytes of this peer were taken.
+    #[tactic(auto, using(crate::proofs::Peers::peers))]
+    fn pass(&mut self, peer: u8, count: usize)
+        requires peer_from { 1 ≤ peer }
+        requires peer_to { peer ≤ 3 }
+        requires there { count ≤ length (links_coming self.old peer) }
+        ensures came { links_coming self.new peer ≡ drop count (links_coming self.old peer) }
         ensures others { (p : ℕ) → p ≢ peer → links_coming self.new p ≡ links_coming self.old p }
-        ensures dry { IfNone result (links_coming self.old peer ≡ []) }
-        ensures same { IfNone result (links_coming self.new ≡ links_coming self.old) }
+        ensures moves { links_moves self.new ≡ links_moves self.old }
         ensures sent { links_sent self.new ≡ links_sent self.old }
         ensures plan { plan_in self.new ≡ plan_in self.old }
     {
         match peer {
-            1 => self.first.recv(into),
-            2 => self.second.recv(into),
-            _ => self.third.recv(into),
+            1 => self.first.pass(count),
+            2 => self.second.pass(count),
+            _ => self.third.pass(count),
         }
+    }
+
+    // Takes the next bytes from this peer, and keeps the call.
+    fn take_from(&mut self, peer: u8, into: &mut [u8]) -> Result<usize, AllocError>
+        requires peer_from { 1 ≤ peer }
+        requires peer_to { peer ≤ 3 }
+        ensures most { IfOk result (λ k. k ≤ length into.old) }
+        ensures count { IfOk result (λ k. k ≡ length (take (min (length into.old) 7) (links_coming self.old peer))) }
+        ensures came { IfOk result (λ k. links_coming self.old peer ≡ take k into.new ++ links_coming self.new peer) }
+        ensures called { IfOk result (λ k. links_moves self.new ≡ links_moves self.old ++ took peer (take k into.new) ∷ []) }
+        ensures others { (p : ℕ) → p ≢ peer → links_coming self.new p ≡ links_coming self.old p }
+        ensures err { OnErr result (links_coming self.new ≡ links_coming self.old) }
+        ensures uncalled { OnErr result (links_moves self.new ≡ links_moves self.old) }
+        ensures sent { links_sent self.new ≡ links_sent self.old }
+        ensures plan { plan_in self.new ≡ plan_in self.old }
+    {
+        let bytes = Vec::from_slice(self.alloc, self.next_of(peer, into.len()))?;
+        let count = bytes.len();
+        into[..count].copy_from_slice(&bytes);
+        self.moves.push(LinkCall::Took { peer, bytes })?;
+        self.pass(peer, count);
+        Ok(count)
     }
 }
 
@@ -120,30 +191,32 @@ impl Links for MemLinks {
 
     ghost state = { links_state };
 
-    fn connect(&mut self, _me: u8, _port: u16) -> Result<(), Failed> {
+    fn connect(&mut self, me: u8, port: u16) -> Result<(), FileErr> {
         if self.plan.next_fails() {
-            return Err(Failed);
+            return Err(FileErr::Failed);
         }
-        Ok(())
+        Ok(self.moves.push(LinkCall::Joined { me, port })?)
     }
 
+    // At most 7 bytes at a time, so that a caller has to go on.
     fn send(&mut self, peer: u8, piece: &[u8]) -> Result<usize, FileErr> {
         if self.plan.next_fails() {
             return Err(FileErr::Failed);
         }
-        Ok(self.send_to(peer, piece)?)
+        let count = piece.len().min(7);
+        self.give(peer, &piece[..count])?;
+        Ok(count)
     }
 
-    fn recv(&mut self, peer: u8, into: &mut [u8]) -> Result<usize, Failed> {
+    // At most 7 bytes at a time; a fault where none is left.
+    fn recv(&mut self, peer: u8, into: &mut [u8]) -> Result<usize, FileErr> {
         if self.plan.next_fails() {
-            return Err(Failed);
+            return Err(FileErr::Failed);
         }
-        match self.take_from(peer, into) {
-            Some(count) => Ok(count),
-            None => {
-                self.plan.raise();
-                Err(Failed)
-            }
+        if self.next_of(peer, 1).is_empty() {
+            self.plan.raise();
+            return Err(FileErr::Failed);
         }
+        Ok(self.take_from(peer, into)?)
     }
 }

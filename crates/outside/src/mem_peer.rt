@@ -1,5 +1,5 @@
 // One peer of the links in memory.
-ghost use Rattle.std.specs.Prelude.{◌≡◌, ◌<◌, ◌≤◌, [], ◌++◌, length, take, IfOk, OnOk, OnErr, IfSome, IfNone, vec_len};
+ghost use Rattle.std.specs.Prelude.{◌≡◌, ◌≤◌, [], ◌++◌, length, take, drop, min, OnOk, OnErr, vec_len};
 
 use std::alloc::{AllocError, Global};
 
@@ -41,35 +41,30 @@ impl MemPeer {
         self.coming.extend_from_slice(bytes)
     }
 
-    // At most 7 bytes at a time, so that a caller has to go on.
-    pub(crate) fn send(&mut self, piece: &[u8]) -> Result<usize, AllocError>
-        ensures most { IfOk result (λ k. k ≤ length piece.now) }
-        ensures some { IfOk result (λ k. 0 < length piece.now → 0 < k) }
-        ensures ok { IfOk result (λ k. sent_to self.new ≡ sent_to self.old ++ take k piece.now) }
+    // Keeps these bytes after those that it was sent.
+    pub(crate) fn send(&mut self, bytes: &[u8]) -> Result<(), AllocError>
+        ensures ok { OnOk result (sent_to self.new ≡ sent_to self.old ++ bytes.now) }
         ensures err { OnErr result (sent_to self.new ≡ sent_to self.old) }
         ensures coming { coming_from self.new ≡ coming_from self.old }
     {
-        let count = piece.len().min(7);
-        self.sent.extend_from_slice(&piece[..count])?;
-        Ok(count)
+        self.sent.extend_from_slice(bytes)
     }
 
-    // At most 7 bytes at a time; nothing where none is left.
-    pub(crate) fn recv(&mut self, into: &mut [u8]) -> Option<usize>
-        ensures most { IfSome result (λ k. k ≤ length into.old) }
-        ensures some { IfSome result (λ k. 0 < length into.old → 0 < k) }
-        ensures came { IfSome result (λ k. coming_from self.old ≡ take k into.new ++ coming_from self.new) }
-        ensures dry { IfNone result (coming_from self.old ≡ []) }
-        ensures same { IfNone result (coming_from self.new ≡ coming_from self.old) }
-        ensures sent { sent_to self.new ≡ sent_to self.old }
+    // The next bytes that come, at most 7 at a time.
+    pub(crate) fn next(&self, most: usize) -> &[u8]
+        ensures { result.now ≡ take (min most 7) (coming_from self.now) }
     {
         let rest = &self.coming[self.taken..];
-        if rest.is_empty() {
-            return None;
-        }
-        let count = rest.len().min(into.len()).min(7);
-        into[..count].copy_from_slice(&rest[..count]);
+        let count = most.min(7).min(rest.len());
+        &rest[..count]
+    }
+
+    // These bytes were taken.
+    pub(crate) fn pass(&mut self, count: usize)
+        requires { count ≤ length (coming_from self.old) }
+        ensures coming { coming_from self.new ≡ drop count (coming_from self.old) }
+        ensures sent { sent_to self.new ≡ sent_to self.old }
+    {
         self.taken += count;
-        Some(count)
     }
 }

@@ -5,7 +5,7 @@ ghost use Rattle.outside.specs.SpawnCall.{call_of, calls_of, starts_child, statu
 ghost use Rattle.outside.specs.Spawner.{given_in};
 
 use crate::fault_plan::FaultPlan;
-use crate::{SpawnCall, SpawnErr, Spawner};
+use crate::{Files, SpawnCall, SpawnErr, Spawner};
 use std::alloc::{AllocError, Global};
 
 /// A spawner in memory: the statuses that its children will have are set up before, and its calls are kept.
@@ -82,13 +82,20 @@ impl Spawner for MemSpawner {
 
     ghost state = { spawner_state };
 
-    fn start(&mut self, alloc: Global, words: &[String]) -> Result<u32, SpawnErr> {
+    #[tactic(auto, using(crate::proofs::Given::held_of_append))]
+    fn start<F: Files>(
+        &mut self,
+        alloc: Global,
+        files: &F,
+        words: &[String],
+    ) -> Result<u32, SpawnErr> {
         if self.plan.next_fails() {
             return Err(SpawnErr::Failed);
         }
         let child = self.next;
         let words = copy_words(alloc, words)?;
-        self.calls.push(SpawnCall::Started { words, child })?;
+        let held = files.held(alloc)?;
+        self.calls.push(SpawnCall::Started { words, child, held })?;
         self.next = child.saturating_add(1);
         Ok(child)
     }

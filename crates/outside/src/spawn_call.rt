@@ -1,11 +1,17 @@
 // The calls of a spawner.
 ghost use Rattle.std.specs.Prelude.{◌≡◌};
 
+use crate::HeldFiles;
+
 /// A call of a spawner that was answered.
 #[derive(Debug, Drop)]
 pub enum SpawnCall {
-    /// A child was started with these words, and got this number.
-    Started { words: Vec<String>, child: u32 },
+    /// A child was started with these words, and got this number; the store held this then.
+    Started {
+        words: Vec<String>,
+        child: u32,
+        held: HeldFiles,
+    },
     /// A child was waited for.
     Awaited(u32),
 }

@@ -14,7 +14,7 @@ abbrev pub untold_sink : ℕ → SinkState
 untold_sink faults = record { told = false; written = []; lost = []; faults = faults; shortages = 0; steady = false }
 
 abbrev pub untold_links : ℕ → LinksState
-untold_links faults = record { told = false; sent = λ _. []; coming = λ _. []; faults = faults; steady = false }
+untold_links faults = record { told = false; moves = []; sent = λ _. []; coming = λ _. []; faults = faults; steady = false }
 
 abbrev pub untold_spawner : ℕ → SpawnerState
-untold_spawner faults = record { told = false; calls = []; status = λ _. pos 0; faults = faults; steady = false }
+untold_spawner faults = record { told = false; calls = []; held = []; status = λ _. pos 0; faults = faults; steady = false }

@@ -3,7 +3,7 @@ ghost use Rattle.std.specs.Prelude.{◌≡◌};
 ghost use Rattle.real_objects.specs.Untold.{untold_spawner};
 
 use crate::vectors::push;
-use outside::{SpawnErr, Spawner};
+use outside::{Files, SpawnErr, Spawner};
 use std::alloc::Global;
 use std::io;
 use std::process::{Child, Command, OpenProcess, Processes};
@@ -70,7 +70,12 @@ impl<'a, R: Processes> RealSpawner<'a, R> {
 impl<'a, R: Processes> Spawner for RealSpawner<'a, R> {
     ghost state = { λ s. untold_spawner s.faults };
 
-    fn start(&mut self, alloc: Global, words: &[String]) -> Result<u32, SpawnErr> {
+    fn start<F: Files>(
+        &mut self,
+        alloc: Global,
+        _files: &F,
+        words: &[String],
+    ) -> Result<u32, SpawnErr> {
         match self.add(alloc, words) {
             Ok(number) => Ok(number),
             Err(error) => {

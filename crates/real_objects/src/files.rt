@@ -6,8 +6,8 @@ ghost use Rattle.real_objects.specs.Untold.{untold_files};
 
 use crate::attempts::read_some_at;
 use crate::bounded::read_within;
-use outside::{Failed, FileErr, Files};
-use std::alloc::Global;
+use outside::{Failed, FileErr, Files, HeldFiles};
+use std::alloc::{AllocError, Global};
 use std::collections::BTreeMap;
 use std::fs::{self, OpenFile, OpenOptions};
 use std::io::{self, Write};
@@ -182,6 +182,10 @@ where
     R::File: FileExt,
 {
     ghost state = { λ s. untold_files s.faults (get_by_text s.sizes) };
+
+    fn held(&self, _alloc: Global) -> Result<HeldFiles, AllocError> {
+        Ok(HeldFiles::untold())
+    }
 
     fn read(&mut self, alloc: Global, path: &str) -> Result<Vec<u8>, FileErr> {
         match read_file(self.rt, alloc, path) {

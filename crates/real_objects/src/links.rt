@@ -4,7 +4,7 @@ ghost use Rattle.real_objects.specs.Untold.{untold_links};
 
 use crate::attempts::{read_some, write_some};
 use crate::vectors::push;
-use outside::{Failed, FileErr, Links};
+use outside::{FileErr, Links};
 use std::alloc::Global;
 use std::net::{IpAddr, Ipv4Addr, Net, OpenListener, OpenStream, Shutdown, SocketAddr};
 use std::time::{Clock, Duration};
@@ -187,13 +187,13 @@ impl<'a, R: Net + Clock> RealLinks<'a, R> {
 impl<'a, R: Net + Clock> Links for RealLinks<'a, R> {
     ghost state = { λ s. untold_links s.faults };
 
-    fn connect(&mut self, me: u8, port: u16) -> Result<(), Failed> {
+    fn connect(&mut self, me: u8, port: u16) -> Result<(), FileErr> {
         if let Ok(streams) = join(self.rt, self.alloc, me, port) {
             self.streams = streams;
             return Ok(());
         }
         self.faults = self.faults.saturating_add(1);
-        Err(Failed)
+        Err(FileErr::Failed)
     }
 
     fn send(&mut self, peer: u8, piece: &[u8]) -> Result<usize, FileErr> {
@@ -206,13 +206,13 @@ impl<'a, R: Net + Clock> Links for RealLinks<'a, R> {
         Err(FileErr::Failed)
     }
 
-    fn recv(&mut self, peer: u8, into: &mut [u8]) -> Result<usize, Failed> {
+    fn recv(&mut self, peer: u8, into: &mut [u8]) -> Result<usize, FileErr> {
         if let Some(Some(stream)) = self.streams.get_mut(peer as usize - 1) {
             if let Some(count) = read_some(stream, into) {
                 return Ok(count);
             }
         }
         self.faults = self.faults.saturating_add(1);
-        Err(Failed)
+        Err(FileErr::Failed)
     }
 }

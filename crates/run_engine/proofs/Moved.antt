@@ -25,7 +25,10 @@ use Rattle.command_frame.proofs.Statuses.{never}
 use Rattle.command_words.specs.Ask.{Ask, MinerAsk, check, compile, deal, eval, gather, join, load, map_tape, miner, need, run, simulate, trio, twin, audit}
 use Rattle.command_words.specs.Ask.{client_map, client_simulate, client_twin}
 use Rattle.miner_command.specs.Miner.{miner_of, nothing_sent, sent_of}
-use Rattle.miner_command.specs.Playing.{SendsSo, SentAll, SentBefore, SentFronts}
+use Rattle.miner_command.specs.Playing.{MovesSo, SendsSo, SentAll, SentBefore, SentFronts}
+use Rattle.miner_command.specs.Files.{given_at}
+use Rattle.miner_command.proofs.Planned.{moves_none as unmoved}
+use Rattle.trio_command.proofs.Planned.{none_stored}
 use Rattle.honest_miners.specs.Nodes.{Outgoing}
 use Rattle.trio_command.specs.Launching.{AreRun, LaunchesBy, StartsBy}
 use Rattle.trio_command.specs.Trio.{Prepared, dealt, prepared_of, undealt, words_for}
@@ -166,9 +169,9 @@ moves_stop (load ask) s s' stop moves = tt
 moves_stop (gather ask) s s' stop moves = tt
 moves_stop (join ask) s s' stop moves = tt
 moves_stop (miner ask) s s' stop moves = λ told.
-    sent_stop ask.me s.links s'.links (sent_of ask s.files.contents s.links.coming) stop (moves told)
+    (sent_stop ask.me s.links s'.links (sent_of ask s.files.contents s.links.coming) stop (moves told).0, (moves told).1)
 moves_stop (trio ask) s s' stop moves =
-    (moves.0, λ found at t t'. launch_stop (words_for ask) s.children s'.children stop (prepared_of found ask s.files.contents) (moves.1 found at t t'))
+    (moves.0, λ found at t t'. launch_stop (words_for ask) s.children s'.children stop (prepared_of found ask s.files.contents) (moves.1 found at t t'), moves.2)
 moves_stop (audit ask) s s' stop moves = tt
 
 pub moves_end : (ask : Ask) (a b : Sources) (f : FilesState) (o o' : SinkState) (plan : Plan) (r : Result Status Stop)
@@ -188,13 +191,16 @@ moves_end (client_twin ask) a b f o o' plan r moves part = tt
 moves_end (load ask) a b f o o' plan r moves part = tt
 moves_end (gather ask) a b f o o' plan r moves part = tt
 moves_end (join ask) a b f o o' plan r moves part = tt
-moves_end (miner ask) a b f o o' plan r moves part = λ told.
-    sent_end ask.me a.links b.links (sent_of ask a.files.contents a.links.coming) plan b.files f o o' r (moves told) part
+moves_end (miner ask) a b f o o' plan r moves part = λ told. (
+  sent_end ask.me a.links b.links (sent_of ask a.files.contents a.links.coming) plan b.files f o o' r (moves told).0 part,
+  (moves told).1,
+)
 moves_end (trio ask) a b f o o' plan r moves part = (
   moves.0,
   λ found at t t'.
       launch_end (words_for ask) a.children b.children (effect_of plan) b.files f o o' plan r (prepared_of found ask a.files.contents)
       (moves.1 found at t t') part,
+  moves.2,
 )
 moves_end (audit ask) a b f o o' plan r moves part = tt
 
@@ -215,9 +221,15 @@ moves_none (client_twin ask) s = tt
 moves_none (load ask) s = tt
 moves_none (gather ask) s = tt
 moves_none (join ask) s = tt
-moves_none (miner ask) s = λ told.
-    none_fronts ask.me s.links s.links (sent_of ask s.files.contents s.links.coming) (same_sends_nothing ask.me s.links)
-moves_none (trio ask) s = (inl refl, λ found at t t'. launch_none (words_for ask) s.children (prepared_of found ask s.files.contents))
+moves_none (miner ask) s = λ told. (
+  none_fronts ask.me s.links s.links (sent_of ask s.files.contents s.links.coming) (same_sends_nothing ask.me s.links),
+  unmoved ask (given_at ask s.files.contents) s.links,
+)
+moves_none (trio ask) s = (
+  inl refl,
+  λ found at t t'. launch_none (words_for ask) s.children (prepared_of found ask s.files.contents),
+  λ found at t t'. none_stored s.files.contents s.children (prepared_of found ask s.files.contents),
+)
 moves_none (audit ask) s = tt
 
 -- ---- told by the status
@@ -251,8 +263,9 @@ module _ (ask : MinerAsk) (l l' : LinksState) (out : Outgoing) where
   sent_all (Err (stops.Failed objects.Children)) sent is = absurd sent
 
 pub miner_sends : (ask : MinerAsk) (files : Contents) (l l' : LinksState) (r : Result Status Stop)
-    → MinerSent ask.me l l' (sent_of ask files l.coming) r → MinerSends ask files l l' (status_in r)
-miner_sends ask files l l' r sent = record {
+    → MinerSent ask.me l l' (sent_of ask files l.coming) r → MovesSo ask files l l' → MinerSends ask files l l' (status_in r)
+miner_sends ask files l l' r sent moves = record {
+  moves = moves;
   front = sent_front ask l l' (sent_of ask files l.coming) r sent;
   all = sent_all ask l l' (sent_of ask files l.coming) r sent;
 }

@@ -109,7 +109,7 @@ module _ (ask : TrioAsk) (l : LinksState) (f f' : FilesState) (c c' : SpawnerSta
   }
 
   moves_so : (r : Result Plan Stop) → TrioPlanned ask f f' c c' r → Moves (trio ask) s s' r
-  moves_so r p = (p.children, λ found at t t'. p.launched found at t t')
+  moves_so r p = (p.children, (λ found at t t'. p.launched found at t t'), (λ found at t t'. p.stored found at t t'))
 
   pub trio_planned : (r : Result Plan Stop) → TrioPlanned ask f f' c c' r → Planned (trio ask) s s' r
   unfolding answer_to question_of writes_of

@@ -15,6 +15,7 @@ use Rattle.trio_command.specs.Trio.{words_for}
 use Rattle.run_engine.specs.Call.{OfEachAnswer}
 use Rattle.run_engine.specs.Loading.{Loaded}
 use Rattle.run_engine.specs.MinerPromises.{MinerSends}
+use Rattle.run_engine.specs.Moves.{HadFiles}
 use Rattle.run_engine.specs.Told.{contents_in}
 use Rattle.run_engine.specs.Words.{files_and_links}
 
@@ -37,7 +38,9 @@ pub record Deeds (words : List (List ℕ)) (before after : Moment) (given : Stat
   -- output failed, which a steady one doesn't, or memory ran out. It is never refused. It reads no file, so whether any tells or is steady is all one.
   pub loads : (number : ℕ) → words_of words ≡ Some (load number) → Loaded number before.out after.out given
   -- The bytes that `miner` sends are a hello to each peer and the frames of what its node sends on the messages that came: where its run has ended, or
-  -- it is refused, exactly these, else a front of them; and nothing to anybody else. Files and links tell.
+  -- it is refused, exactly these, else a front of them; and nothing to anybody else. It joins its peers before it moves a byte, as the miner and at the
+  -- port of its words; and it takes a byte only when it awaits one of this peer, and has given all that the bytes taken before lead to. Files and links
+  -- tell.
   pub miner_sends :
       (ask : MinerAsk) → words_of words ≡ Some (miner ask) → AreTold files_and_links before.sources
       → MinerSends ask (contents_in before) before.sources.links after.sources.links given
@@ -45,6 +48,8 @@ pub record Deeds (words : List (List ℕ)) (before after : Moment) (given : Stat
   -- start fails; where none fails it waits for each of them. It does nothing else with other programs.
   pub trio_starts_miners_only :
       (ask : TrioAsk) → words_of words ≡ Some (trio ask) → MayLaunch (words_for ask) before.sources.children after.sources.children
+  -- As it started each of them, the store held the files that it deals, beside those that were there before. Files and children tell.
+  pub trio_deals_first : (ask : TrioAsk) → words_of words ≡ Some (trio ask) → HadFiles ask before.sources after.sources
   -- Where its answer writes files first, these are what the three miners read, and it has started all three and waited for each, as its status tells;
   -- where not, it has started none: nothing can be dealt, or the program or a file is refused or missing. Files and children tell.
   pub trio_starts :

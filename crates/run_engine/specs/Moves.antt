@@ -9,10 +9,10 @@ use Rattle.command_frame.specs.Objects.{OfObject}
 use Rattle.command_frame.specs.Reads.{BothTold}
 use Rattle.command_words.specs.Ask.{Ask, TrioAsk, miner, trio}
 use Rattle.miner_command.specs.Miner.{sent_of}
-use Rattle.miner_command.specs.Playing.{SentAll, SentFronts}
+use Rattle.miner_command.specs.Playing.{MovesSo, SentAll, SentFronts}
 use Rattle.honest_miners.specs.Nodes.{Outgoing}
 use Rattle.program_commands.specs.Judging.{Finding, FoundAt, its_program}
-use Rattle.trio_command.specs.Launching.{LaunchesBy, MayLaunchBy}
+use Rattle.trio_command.specs.Launching.{LaunchesBy, MayLaunchBy, StoredBy}
 use Rattle.trio_command.specs.Trio.{prepared_of, words_for}
 
 -- where it goes on, and where files or a peer are refused, all of these bytes; else a front of them for each peer
@@ -31,9 +31,16 @@ RanThem ask s s' r =
     (found : Finding) → FoundAt (its_program ask.program) s.files.contents found → s.files.told ≡ true → s.children.told ≡ true
     → LaunchesBy (words_for ask) s.children s'.children r (prepared_of found ask s.files.contents)
 
+-- and as each was started, the store held what was dealt
+abbrev pub HadFiles : TrioAsk → (s s' : Sources) → Type 0
+HadFiles ask s s' =
+    (found : Finding) → FoundAt (its_program ask.program) s.files.contents found → s.files.told ≡ true → s.children.told ≡ true
+    → StoredBy s.files.contents s.children s'.children (prepared_of found ask s.files.contents)
+
 -- of a command that reaches no peers and no other programs nothing is said: these are as they were
 abbrev pub Moves : {X : Type 0} → Ask → (s s' : Sources) → Result X Stop → Type 0
 Moves (miner ask) s s' r =
     BothTold s.files s.links → MinerSent ask.me s.links s'.links (sent_of ask s.files.contents s.links.coming) r
-Moves (trio ask) s s' r = MayLaunchBy (words_for ask) s.children s'.children × RanThem ask s s' r
+    × MovesSo ask s.files.contents s.links s'.links
+Moves (trio ask) s s' r = MayLaunchBy (words_for ask) s.children s'.children × RanThem ask s s' r × HadFiles ask s s'
 Moves _ s s' r = Unit {0}

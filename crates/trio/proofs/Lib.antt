@@ -4,3 +4,4 @@ mod Judging
 mod Launched
 mod Places
 mod Passing
+mod Stores

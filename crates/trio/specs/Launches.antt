@@ -1,8 +1,9 @@
 -- Three children that are started, and then waited for.
-use Rattle.std.specs.Prelude.{◌≡◌, ◌≤◌, ◌<◌, ℕ, ℤ, List, [], ◌∷◌, ◌++◌, length, true, Result, Ok, Err, IfOk}
+use Rattle.std.specs.Prelude.{◌≡◌, ◌≤◌, ◌<◌, ℕ, ℤ, List, [], ◌∷◌, ◌++◌, length, true, Option, Result, Ok, Err, IfOk}
 use Rattle.outside.specs.declared.error.SpawnErr.{SpawnErr}
 use Rattle.outside.specs.declared.error.SpawnErr.TheVariants as spawn_err
 use Rattle.outside.specs.Causes.{Rose}
+use Rattle.outside.specs.Files.{Contents, FilesState, told_contents}
 use Rattle.outside.specs.Spawner.{SpawnerState, ChildCall, started, awaited}
 use Rattle.proto_core.specs.declared.party.Number.{Number}
 use Rattle.proto_core.specs.declared.party.Number.TheVariants.{One, Two, Three}
@@ -50,6 +51,19 @@ IsTold status (Awaited child answer) = (i : Number) → IfOk (answer i) (λ s. s
 abbrev pub HasFault : Launch → Type 0
 HasFault (Halted begun err) = err ≡ spawn_err.Failed
 HasFault (Awaited child answer) = (i : Number) × (answer i ≡ Err spawn_err.Failed)
+
+-- ---- what the store held
+
+abbrev pub AreAll : Option Contents → List (Option Contents) → Type 0
+AreAll store [] = Unit {0}
+AreAll store (held ∷ more) = (held ≡ store) × AreAll store more
+
+-- as children were started, the store was as this says each time
+pub record StartedWith (files : FilesState) (old new : SpawnerState) : Type 0 where
+  pub told : new.told ≡ old.told
+  pub held : old.told ≡ true → (added : List (Option Contents)) × (new.held ≡ old.held ++ added) × AreAll (told_contents files) added
+
+-- ---- all that came of it
 
 -- what came of a launch where the spawner tells
 pub record Told (old new : SpawnerState) (words : Number → List (List ℕ)) (result : Result (Unit {0}) ChildErr) : Type 0 where

@@ -2,14 +2,14 @@
 ghost use Rattle.std.specs.Prelude.{◌≡◌, Ok};
 ghost use Rattle.proto_core.specs.Parties.{of_three};
 ghost use Rattle.trio.specs.Children.{all_answers};
-ghost use Rattle.trio.specs.Launches.{Launched};
+ghost use Rattle.trio.specs.Launches.{Launched, StartedWith};
 ghost use Rattle.trio.specs.Words.{miner_words};
 ghost use Rattle.trio.specs.inner.Moves.{Tried, Begun, Waited};
 
 use crate::asking::{child_answer, lacked_memory};
 use crate::child_err::ChildErr;
 use crate::paths::miner_words;
-use outside::{SpawnErr, Spawner};
+use outside::{Files, SpawnErr, Spawner};
 use proto_core::Number;
 use std::alloc::Global;
 
@@ -38,30 +38,34 @@ struct Answers {
 }
 
 /// Starts a miner.
-fn start<C: Spawner>(
+fn start<F: Files, C: Spawner>(
     alloc: Global,
     job: &Job<'_>,
     miner: Number,
+    files: &F,
     children: &mut C,
 ) -> Result<u32, SpawnErr>
-    ensures { Tried (C.state children.old) (C.state children.new) (miner_words job.now.prefix.now job.now.port job.now.budget miner) result }
+    ensures held { StartedWith (F.state files.now) (C.state children.old) (C.state children.new) }
+    ensures tried { Tried (C.state children.old) (C.state children.new) (miner_words job.now.prefix.now job.now.port job.now.budget miner) result }
 {
     let words = miner_words(alloc, job.prefix, job.port, job.budget, miner)?;
-    children.start(alloc, &words)
+    children.start(alloc, files, &words)
 }
 
 /// Starts the three miners, one after another. None is started after one that could not be.
-fn start_all<C: Spawner>(
+fn start_all<F: Files, C: Spawner>(
     alloc: Global,
     job: &Job<'_>,
+    files: &F,
     children: &mut C,
 ) -> Result<Children, SpawnErr>
-    ensures { Begun (C.state children.old) (C.state children.new) (miner_words job.now.prefix.now job.now.port job.now.budget)
+    ensures held { StartedWith (F.state files.now) (C.state children.old) (C.state children.new) }
+    ensures begun { Begun (C.state children.old) (C.state children.new) (miner_words job.now.prefix.now job.now.port job.now.budget)
         (λ three. of_three three.first three.second three.third) result }
 {
-    let first = start(alloc, job, Number::One, children)?;
-    let second = start(alloc, job, Number::Two, children)?;
-    let third = start(alloc, job, Number::Three, children)?;
+    let first = start(alloc, job, Number::One, files, children)?;
+    let second = start(alloc, job, Number::Two, files, children)?;
+    let third = start(alloc, job, Number::Three, files, children)?;
     Ok(Children {
         first,
         second,
@@ -71,7 +75,8 @@ fn start_all<C: Spawner>(
 
 /// Waits for each of three children, whatever the others have answered.
 fn wait_all<C: Spawner>(three: Children, children: &mut C) -> Answers
-    ensures { Waited (C.state children.old) (C.state children.new) (of_three three.first three.second three.third)
+    ensures held { (C.state children.new).held ≡ (C.state children.old).held }
+    ensures waited { Waited (C.state children.old) (C.state children.new) (of_three three.first three.second three.third)
         (of_three result.first result.second result.third) }
 {
     let first = children.wait(three.first);
@@ -100,11 +105,17 @@ fn judged(answers: &Answers) -> Result<(), ChildErr>
 }
 
 /// Starts three miners, one after another, and then waits for each; where one can't be started, no more is started and none is
-/// waited for. Of the miners that did not end as a run does the first is told.
-pub fn launch<C: Spawner>(alloc: Global, job: &Job<'_>, children: &mut C) -> Result<(), ChildErr>
-    ensures { Launched (C.state children.old) (C.state children.new) (miner_words job.now.prefix.now job.now.port job.now.budget) result }
+/// waited for. The store is as this one is when they are started. Of the miners that did not end as a run does the first is told.
+pub fn launch<F: Files, C: Spawner>(
+    alloc: Global,
+    job: &Job<'_>,
+    files: &F,
+    children: &mut C,
+) -> Result<(), ChildErr>
+    ensures held { StartedWith (F.state files.now) (C.state children.old) (C.state children.new) }
+    ensures launched { Launched (C.state children.old) (C.state children.new) (miner_words job.now.prefix.now job.now.port job.now.budget) result }
 {
-    let three = start_all(alloc, job, children)?;
+    let three = start_all(alloc, job, files, children)?;
     let answers = wait_all(three, children);
     judged(&answers)
 }

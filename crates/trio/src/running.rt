@@ -1,5 +1,6 @@
 // The run of three miners as programs of their own.
 ghost use Rattle.trio.specs.Answers.{TextsRead};
+ghost use Rattle.trio.specs.Launches.{StartedWith};
 ghost use Rattle.trio.specs.Runs.{RanChildren, RanTexts};
 ghost use Rattle.trio.specs.Words.{miner_words, out_path};
 
@@ -37,6 +38,7 @@ pub fn run<F: Files, C: Spawner>(
     children: &mut C,
 ) -> Result<Joined, TrioErr>
     ensures children { RanChildren (C.state children.old) (C.state children.new) (miner_words prefix.now port budget) result }
+    ensures held { StartedWith (F.state files.old) (C.state children.old) (C.state children.new) }
     ensures texts { RanTexts (F.state files.old) (F.state files.new) (out_path prefix.now) result }
 {
     let job = Job {
@@ -44,7 +46,7 @@ pub fn run<F: Files, C: Spawner>(
         port,
         budget,
     };
-    launch(alloc, &job, children)?;
+    launch(alloc, &job, files, children)?;
     let joined = join_outputs(alloc, prefix, files)?;
     Ok(joined)
 }

@@ -4,9 +4,9 @@
 -- what there is when the miners have ended.
 use Rattle.std.proofs.Common.{◌≡◌, ◌++◌, ◌≤◌, ℕ, List, [], ◌∷◌, true, Result, Ok, Err, refl, ap, sym, ◌∙◌, subst, inl, inr, arith, Contains}
 use Rattle.std.proofs.Common.{string_bytes}
-use Rattle.std.specs.Prelude.{IfErr, IfOk}
-use Rattle.std.proofs.lemmas.List.{append_assoc}
-use Rattle.outside.specs.Files.{Contents, FilesState, OnlyRead, file_at}
+use Rattle.std.specs.Prelude.{IfErr, IfOk, Some, None, if◌then◌else◌}
+use Rattle.std.proofs.lemmas.List.{append-nil, append_assoc}
+use Rattle.outside.specs.Files.{Contents, FilesState, OnlyRead, file_at, told_contents}
 use Rattle.outside.specs.Links.{LinksState}
 use Rattle.outside.specs.Spawner.{SpawnerState}
 use Rattle.command_frame.specs.declared.object.Object.TheVariants as objects
@@ -26,15 +26,21 @@ use Rattle.command_words.specs.Ask.{TrioAsk}
 use Rattle.program_commands.specs.Judging.{Finding, FoundAt, HasFinding, StopTells, its_program}
 use Rattle.proto_core.specs.declared.party.Number.{Number}
 use Rattle.trio_command.specs.Deciding.{IsCourse, TrioPlanned, all_paths, sources_with, trio_reach}
-use Rattle.trio_command.specs.Launching.{AreRun, LaunchesBy, StartsBy}
+use Rattle.trio_command.specs.Launching.{AreRun, LaunchesBy, StartsBy, StoredBy}
 use Rattle.trio_command.specs.Trio.{Prepared, answer_of_miners, course_of, dealt, prepared_of, prepared_paths, text_paths, trio_of, trio_paths, undealt}
 use Rattle.trio_command.specs.Trio.{undealt_effect, words_for}
 use Rattle.trio_command.specs.inner.Runs.{MinersDecide, MinersRan, StopsMiners, WereLaunched}
-use Rattle.trio.specs.Launches.{Launched}
+use Rattle.trio.specs.Launches.{AreAll, Launched, StartedWith}
 use Rattle.trio_command.proofs.Ended.{Judged}
 use Rattle.trio_command.proofs.Launches.{all_run, all_started}
 
 -- ---- by what three miners came to
+
+-- no child was started
+pub none_stored : (files : Contents) (c : SpawnerState) (p : Result Prepared Cause) → StoredBy files c c p
+none_stored files c (Ok (dealt writes)) = ([], sym (append-nil c.held), tt)
+none_stored files c (Ok (undealt need have)) = tt
+none_stored files c (Err cause) = tt
 
 module _ (links : LinksState) (f h f' : FilesState) (c c' : SpawnerState) where
   abbrev before : Sources
@@ -199,6 +205,7 @@ module _ (ask : TrioAsk) (f : FilesState) (c : SpawnerState) where
       anyhow = λ links. reading_anyhow trio_reach (sources_with links f c) (sources_with links g c) stop anyhow;
       found = found;
       children = inl refl;
+      stored = λ found h t tc. none_stored f.contents c (prepared_of found ask f.contents);
       launched = λ found h t tc. none_started (words_for ask) c stop (reading_early f g stop anyhow) (prepared_of found ask f.contents);
       only = nothing_written (prepared_paths ask) f g read;
       written = tt;
@@ -225,6 +232,7 @@ module _ (ask : TrioAsk) (f : FilesState) (c : SpawnerState) where
       anyhow = λ links. tt;
       found = λ t tells. found t;
       children = inl refl;
+      stored = λ given h t tc. none_stored f.contents c (prepared_of given ask f.contents);
       launched = λ given h t tc. subst (λ (p : Result Prepared Cause). LaunchesBy (words_for ask) c c (Ok plan) p) (sym (prepared given h t)) refl;
       only = nothing_written (prepared_paths ask) f g read;
       written = undealt_names plan need have is;
@@ -333,6 +341,7 @@ module _ (ask : TrioAsk) (f : FilesState) (c : SpawnerState) where
       anyhow = λ links. writing_anyhow links stop s;
       found = λ t tells. found t;
       children = inl refl;
+      stored = λ given at t tc. none_stored f.contents c (prepared_of given ask f.contents);
       launched = λ given at t tc. none_started (words_for ask) c stop (writing_early ws g h stop s) (prepared_of given ask f.contents);
       only = only_prepared;
       written = tt;
@@ -341,7 +350,8 @@ module _ (ask : TrioAsk) (f : FilesState) (c : SpawnerState) where
 
     -- ---- all were written, and the miners were started
 
-    module _ (f' : FilesState) (c' : SpawnerState) (r : Result Plan Stop) (wrote : WroteAll ws g h) (ran : MinersRan ask h f' c c' r) where
+    module _ (f' : FilesState) (c' : SpawnerState) (r : Result Plan Stop) (wrote : WroteAll ws g h) (ran : MinersRan ask h f' c c' r)
+        (held : StartedWith h c c') where
       written_told : f.told ≡ true → h.told ≡ true
       written_told t = among.told ∙ read.same.told ∙ t
 
@@ -383,6 +393,13 @@ module _ (ask : TrioAsk) (f : FilesState) (c : SpawnerState) where
         named = λ line is. inr (inr (names.named line is, λ course at t. (follows course at t.files).after));
       }
 
+      stored_all : f.told ≡ true → c.told ≡ true → StoredBy f.contents c c' (Ok (dealt ws))
+      stored_all t tc =
+          let all = held.held tc in
+          let store : told_contents h ≡ Some (after_writes ws f.contents) =
+          ap (λ b. if b then Some h.contents else None) (written_told t) ∙ ap (λ (m : Contents). Some m) (contents_are t) in
+          (all.0, all.1, subst (λ s. AreAll s all.0) store all.2)
+
       pub miners_planned : TrioPlanned ask f f' c c' r
       miners_planned = record {
         decides = λ links course is.
@@ -391,6 +408,8 @@ module _ (ask : TrioAsk) (f : FilesState) (c : SpawnerState) where
         anyhow = λ links. err_anyhow links f h f' c c' only_prepared.later r ran.anyhow;
         found = λ t tells. found t;
         children = inr (ran.launch.part, ran.launch.launched);
+        stored = λ given at t tc.
+            subst (λ (p : Result Prepared Cause). StoredBy f.contents c c' p) (sym (prepared given at t)) (stored_all t tc);
         launched = λ given at t tc.
             all_launched ask c c' h f' r (prepared_of given ask f.contents) ws (prepared given at t) ran.launch tc ran.anyhow;
         only = only_at_last;

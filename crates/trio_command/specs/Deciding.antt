@@ -15,7 +15,7 @@ use Rattle.command_frame.specs.Whole.{Paths, StopsAtFile}
 use Rattle.command_words.specs.Ask.{TrioAsk}
 use Rattle.program_commands.specs.Judging.{Finding, FoundAt, HasFinding, Tells, its_program}
 use Rattle.proto_core.specs.declared.party.Number.{Number}
-use Rattle.trio_command.specs.Launching.{AreStatuses, LaunchesBy, MayLaunchBy}
+use Rattle.trio_command.specs.Launching.{AreStatuses, LaunchesBy, MayLaunchBy, StoredBy}
 use Rattle.trio_command.specs.Trio.{prepared_of, prepared_paths, text_paths, trio_of, trio_paths, words_for}
 
 -- it reaches files and other programs, and stops at what a child did or a miner's text says
@@ -51,6 +51,10 @@ pub record TrioPlanned (ask : TrioAsk) (f f' : FilesState) (c c' : SpawnerState)
   pub launched :
       (found : Finding) → FoundAt (its_program ask.program) f.contents found → f.told ≡ true → c.told ≡ true
       → LaunchesBy (words_for ask) c c' result (prepared_of found ask f.contents)
+  -- and what the store held then
+  pub stored :
+      (found : Finding) → FoundAt (its_program ask.program) f.contents found → f.told ≡ true → c.told ≡ true
+      → StoredBy f.contents c c' (prepared_of found ask f.contents)
   -- no path but these was written, and the plan writes none
   pub only : OnlyAmong (prepared_paths ask) f f'
   pub written : IfOk result (PlanNames [])

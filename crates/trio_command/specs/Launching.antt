@@ -1,12 +1,13 @@
 -- The children that `trio` starts.
-use Rattle.std.specs.Prelude.{◌≡◌, ◌≤◌, ◌⊎◌, ℕ, ℤ, List, ◌++◌, map, Bool, true, Result, Ok, Err}
+use Rattle.std.specs.Prelude.{◌≡◌, ◌≤◌, ◌⊎◌, ℕ, ℤ, List, ◌++◌, map, Bool, true, Option, Some, Result, Ok, Err}
 use Rattle.std.specs.List.{filter}
 use Rattle.outside.specs.Causes.{Rose}
+use Rattle.outside.specs.Files.{Contents}
 use Rattle.outside.specs.Spawner.{ChildCall, SpawnerState, awaited}
 use Rattle.proto_core.specs.declared.party.Number.{Number}
-use Rattle.trio.specs.Launches.{Launched, of_all, starts}
+use Rattle.trio.specs.Launches.{AreAll, Launched, of_all, starts}
 use Rattle.trio.specs.declared.child_err.ChildErr.{ChildErr}
-use Rattle.command_frame.specs.Answer.{Cause}
+use Rattle.command_frame.specs.Answer.{Cause, after_writes}
 use Rattle.command_frame.specs.Objects.{OfObject}
 use Rattle.command_frame.specs.declared.status.Status.TheVariants.{Disagree}
 use Rattle.command_frame.specs.declared.stop.Stop.{Stop}
@@ -47,6 +48,13 @@ abbrev pub LaunchesBy : {X : Type 0} → (words : Number → List (List ℕ)) �
 LaunchesBy words old new result (Ok (dealt writes)) = StartsBy words old new result
 LaunchesBy words old new result (Ok (undealt need have)) = new ≡ old
 LaunchesBy words old new result (Err cause) = new ≡ old
+
+-- as each child was started, the store held the files that were dealt, beside those that were there before
+abbrev pub StoredBy : Contents → (old new : SpawnerState) → Result Prepared Cause → Type 0
+StoredBy files old new (Ok (dealt writes)) =
+    (added : List (Option Contents)) × (new.held ≡ old.held ++ added) × AreAll (Some (after_writes writes files)) added
+StoredBy files old new (Ok (undealt need have)) = Unit {0}
+StoredBy files old new (Err cause) = Unit {0}
 
 -- the calls where miners are started with these words: a start for each of the first of them, and then no more; or all three, and a wait for each of
 -- those that were answered

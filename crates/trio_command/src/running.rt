@@ -3,6 +3,7 @@ ghost use Rattle.std.specs.Prelude.{◌≡◌, IfOk, string_bytes};
 ghost use Rattle.command_words.specs.Views.{trio_ask};
 ghost use Rattle.command_frame.specs.Faults.{node_fault_line};
 ghost use Rattle.command_frame.specs.declared.fault.NodeFault.TheVariants.{ChildStatus};
+ghost use Rattle.trio.specs.Launches.{StartedWith};
 ghost use Rattle.trio_command.specs.inner.Runs.{AreOutPaths, IsChildStop, IsRunStop, IsTextsStop, MinersRan};
 
 use crate::{TextPaths, join_stop, joined_plan};
@@ -87,7 +88,8 @@ pub(crate) fn run_miners<F: Files, C: Spawner>(
     children: &mut C,
     words: &TrioWords,
 ) -> Result<Plan, Stop>
-    ensures { MinersRan (trio_ask words.now) (F.state files.old) (F.state files.new) (C.state children.old) (C.state children.new) result }
+    ensures held { StartedWith (F.state files.old) (C.state children.old) (C.state children.new) }
+    ensures ran { MinersRan (trio_ask words.now) (F.state files.old) (F.state files.new) (C.state children.old) (C.state children.new) result }
 {
     match run(alloc, &words.to, words.port, words.budget, files, children) {
         Ok(joined) => Ok(joined_plan(alloc, joined)),

@@ -1,6 +1,6 @@
 use Rattle.std.proofs.lemmas.Result.{err_from_is_err_and}
 use Rattle.command_words.specs.Views.{miner_ask}
-use Rattle.miner_command.proofs.Planned.{file_leaves, file_stops, played_anyhow, played_gives, played_leaves, played_sends}
+use Rattle.miner_command.proofs.Planned.{file_leaves, file_stops, moves_none, played_anyhow, played_gives, played_leaves, played_moves, played_sends}
 use Rattle.miner_command.proofs.planning.plan_miner.Goals as goal
 
 pub returns-in_err-given-clause-answer : goal.returns-in_err-given-clause-answer
@@ -88,3 +88,24 @@ returns-in-Three-clause-unjoined g c =
     played_leaves (miner_ask c.args.words.now) (g.F.Files.state c.args.files.now) (g.F.Files.state c.read_files.new.files)
     (g.F.Files.state c.play-in-Three.new.files) (g.L.Links.state c.args.links.now) (g.L.Links.state c.play-in-Three.new.links) c.in_ok-given.given
     c.in_ok-given.ensures.files c.play-in-Three.result c.play-in-Three.ensures.plays
+
+pub returns-in-One-clause-moves : goal.returns-in-One-clause-moves
+returns-in-One-clause-moves g c =
+    played_moves (miner_ask c.args.words.now) (g.F.Files.state c.args.files.now) (g.F.Files.state c.read_files.new.files)
+    (g.F.Files.state c.play.new.files) (g.L.Links.state c.args.links.now) (g.L.Links.state c.play.new.links) c.in_ok-given.given
+    c.in_ok-given.ensures.files c.in_ok-given.ensures.answer c.play.result c.play.ensures.plays
+
+pub returns-in-Two-clause-moves : goal.returns-in-Two-clause-moves
+returns-in-Two-clause-moves g c =
+    played_moves (miner_ask c.args.words.now) (g.F.Files.state c.args.files.now) (g.F.Files.state c.read_files.new.files)
+    (g.F.Files.state c.play-in-Two.new.files) (g.L.Links.state c.args.links.now) (g.L.Links.state c.play-in-Two.new.links) c.in_ok-given.given
+    c.in_ok-given.ensures.files c.in_ok-given.ensures.answer c.play-in-Two.result c.play-in-Two.ensures.plays
+
+pub returns-in-Three-clause-moves : goal.returns-in-Three-clause-moves
+returns-in-Three-clause-moves g c =
+    played_moves (miner_ask c.args.words.now) (g.F.Files.state c.args.files.now) (g.F.Files.state c.read_files.new.files)
+    (g.F.Files.state c.play-in-Three.new.files) (g.L.Links.state c.args.links.now) (g.L.Links.state c.play-in-Three.new.links) c.in_ok-given.given
+    c.in_ok-given.ensures.files c.in_ok-given.ensures.answer c.play-in-Three.result c.play-in-Three.ensures.plays
+
+pub returns-in_err-given-clause-moves : goal.returns-in_err-given-clause-moves
+returns-in_err-given-clause-moves g c = λ both. moves_none (miner_ask c.args.words.now) _ (g.L.Links.state c.args.links.now)

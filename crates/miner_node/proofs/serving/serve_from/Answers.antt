@@ -8,17 +8,22 @@ pub returns-in-Ok-clause-serves : goal.returns-in-Ok-clause-serves
 returns-in-Ok-clause-serves g c =
     let h = c.in-Ok.ensures in
     record {
-      taken = h.taken;
-      drew = h.drew;
-      ok = record { gone = h.ok; served = λ tape of. (h.holds tape of).ok };
-      err = tt;
-      still = h.still;
+      serves =
+          record {
+            taken = h.taken;
+            drew = h.drew;
+            ok = record { gone = h.ok; served = λ tape of. (h.holds tape of).ok };
+            err = tt;
+            still = h.still;
+          };
+      order = λ tape of. (h.holds tape of).order;
     }
 
 pub returns-in-Err-clause-serves : goal.returns-in-Err-clause-serves
 returns-in-Err-clause-serves g c =
     let h = c.in-Err.ensures in
     record {
+      serves = record {
       taken = h.taken;
       drew = h.drew;
       ok = tt;
@@ -26,6 +31,8 @@ returns-in-Err-clause-serves g c =
           (g.T.TapeSource.state c.args.tapes.now) (g.T.TapeSource.state c.exchange.new.tapes) h.taken c.in-Err.e c.stopped.result c.stopped.ensures
           (λ tape of. (h.holds tape of).err) h.cause;
       still = h.still;
+      };
+      order = λ tape of. (h.holds tape of).order;
     }
 
 pub returns-in-Ok-clause-later : goal.returns-in-Ok-clause-later

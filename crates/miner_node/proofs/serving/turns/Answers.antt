@@ -5,6 +5,7 @@ use Rattle.miner_core.specs.Streams.{has_lost, with_tape}
 use Rattle.miner_node.specs.Turns.{IsServing, EndsTurns}
 use Rattle.miner_node.proofs.Along.{along_here, along_as, along_on, along_ok, along_err}
 use Rattle.miner_node.proofs.Faulting.{later_self}
+use Rattle.miner_node.proofs.Ordering.{order_first}
 use Rattle.miner_node.proofs.Turning.{serves_first}
 use Rattle.miner_node.proofs.Rounds.{turns_end, turns_stop, turns_go, turns_unended}
 use Rattle.miner_node.proofs.serving.turns.Goals as goal
@@ -15,7 +16,8 @@ loop-init g c =
     let m = held c.args.miner.now in
     along_here g.P.Party.me m (g.T.TapeSource.state c.args.tapes.now) _ _ c.requires.going c.requires.left
     (λ tape of. serves_first g.P.Party.me start (with_tape m tape) (ap has_lost c.requires.going) c.requires.previous c.requires.next
-    (record { to_next = 0; to_previous = 0 }) refl refl (later_self start))
+    (record { to_next = 0; to_previous = 0 }) refl refl (later_self start)
+    (order_first g.P.Party.me start (with_tape m tape)))
 
 pub turn-requires : goal.turn-requires
 turn-requires g c = record { kept = c.loop.invariant.ok.past ∙ c.requires.kept; going = c.loop.invariant.ok.going; left = c.loop.invariant.ok.left }

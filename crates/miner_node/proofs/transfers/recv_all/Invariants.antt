@@ -1,6 +1,7 @@
-use Rattle.std.proofs.Common.{length, ◌-◌, ◌≡◌, ◌≤◌, take}
-use Rattle.outside.specs.Links.{Came}
+use Rattle.std.proofs.Common.{length, ◌-◌, ◌≡◌, ◌≤◌, take, true}
+use Rattle.outside.specs.Links.{no_bytes, bytes_of, Came, Did}
 use Rattle.miner_node.specs.Faults.{IsLater}
+use Rattle.miner_node.specs.Order.{IsPart}
 use Rattle.miner_node.proofs.transfers.recv_all.Given as goal
 
 abbrev pub invariant-loop-done : goal.invariant-loop-done
@@ -10,6 +11,8 @@ invariant-loop-done g l =
       within : l.done ≤ length l.into;
       same_length : length l.into ≡ length l.fn.into;
       came : Came (state l.fn.links) (state l.links) l.peer (take l.done l.into);
+      did : (state l.fn.links).told ≡ true
+          → Did (IsPart l.peer (length l.fn.into)) (state l.fn.links) (state l.links) no_bytes (bytes_of l.peer (take l.done l.into));
       later : IsLater (state l.fn.links) (state l.links);
     }
 

@@ -115,7 +115,7 @@ returns-in-Miner-clause-planned g c =
     rw c.in-Miner.is
     (planned_peers _ _ _ _ (λ told. refl) c.plan_miner.ensures.files (λ t tells. found_nothing (g.F.Files.state c.args.files.now).contents)
     c.plan_miner.ensures.names
-    (λ told. miner_sent _ _ _ _ _ told _ (c.plan_miner.ensures.sent told) c.plan_miner.ensures.answer)
+    (λ told. (miner_sent _ _ _ _ _ told _ (c.plan_miner.ensures.sent told) c.plan_miner.ensures.answer, c.plan_miner.ensures.moves told))
     (ended_anyhow _) tt refl c.plan_miner.ensures.anyhow (λ found at. c.plan_miner.ensures.answer))
 
 pub returns-in-Trio-clause-planned : goal.returns-in-Trio-clause-planned

@@ -18,7 +18,8 @@ returns-clause-deeds g c =
     rw c.ended_status.ensures
     (record {
       loads = did.loads;
-      miner_sends = λ ask asks told. miner_sends ask _ _ _ c.act-ended.result (did.moves (miner ask) asks (told.files, told.links refl));
+      miner_sends = λ ask asks told. let moved = did.moves (miner ask) asks (told.files, told.links refl) in miner_sends ask _ _ _ c.act-ended.result moved.0 moved.1;
+      trio_deals_first = λ ask asks. (did.moves (trio ask) asks).2;
       trio_starts_miners_only = λ ask asks. may_launch (did.moves (trio ask) asks).0;
       trio_starts = λ ask asks told. trio_started (texts c.args.words.now) _ _ c.act-ended.result did ask asks told;
     })

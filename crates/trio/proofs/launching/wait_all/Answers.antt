@@ -1,9 +1,10 @@
+use Rattle.std.proofs.Common.{◌∙◌}
 use Rattle.proto_core.specs.Parties.{of_three}
 use Rattle.trio.proofs.Waits.{waited, all_waited}
 use Rattle.trio.proofs.launching.wait_all.Goals as goal
 
-pub returns : goal.returns
-returns g c =
+pub returns-clause-waited : goal.returns-clause-waited
+returns-clause-waited g c =
     let state = g.C.Spawner.state in
     let one = c.wait-first in
     let two = c.wait-second in
@@ -15,3 +16,6 @@ returns g c =
     two.ensures.cause two.ensures.steady two.ensures.still)
     (waited (state two.new.self) (state three.new.self) c.args.three.third three.result three.ensures.ok three.ensures.status three.ensures.err
     three.ensures.cause three.ensures.steady three.ensures.still)
+
+pub returns-clause-held : goal.returns-clause-held
+returns-clause-held g c = c.wait-third.ensures.held ∙ c.wait-second.ensures.held ∙ c.wait-first.ensures.held

@@ -63,4 +63,4 @@ returns g c =
     (λ found h t. c.in_ok-prepared.ensures.answer found h t ∙ ap (λ (p : Prepared). Ok p) seen) (λ t. c.in_ok-prepared.ensures.found t tt)
     (dealt_among (prepared_paths ask) c.in_ok-prepared.prepared ws seen c.in_ok-prepared.ensures.paths) c.in_ok-write_files-in-Dealt.ensures.only
     (g.F.Files.state c.run_miners.new.files) (g.C.Spawner.state c.run_miners.new.children) c.run_miners.result c.in_ok-write_files-in-Dealt.ensures.ok
-    c.run_miners.ensures
+    c.run_miners.ensures.ran c.run_miners.ensures.held
