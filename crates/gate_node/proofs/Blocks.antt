@@ -27,7 +27,7 @@ use Rattle.gate_exchanges.specs.Exchanges.{protocol_of}
 use Rattle.gate_exchanges.specs.Exchanged.{IsExchanged, second_value}
 use Rattle.gate_exchanges.proofs.Blockables.{blockable-of, first-block, joined-assoc}
 use Rattle.gate_exchanges.proofs.OneGate.{local-gate, exchanged-gate, local-draws}
-use Rattle.gate_node.specs.OwnGates.{Halted, Stuck, own_gate, own_draws, can_run, own_gates}
+use Rattle.gate_node.specs.OwnGates.{GatesEnd, Stuck, own_gate, own_draws, can_run, own_gates}
 use Rattle.gate_node.specs.Nodes.{blocks_then}
 use Rattle.gate_node.proofs.Suiting.{test-is}
 use Rattle.gate_node.proofs.Always.{HaveSizes, then-same, then-all, then-assoc, gate-sized}
@@ -37,7 +37,7 @@ use Rattle.gate_node.proofs.Always.{HaveSizes, then-same, then-all, then-assoc, 
 module _ (p : Protocol) (blockable : Blockable p) (i : Number) where
   -- after the last
   pub blocks-end :
-      (from : ℕ) (u v tape : List ℕ) (made : List (List ℕ)) (go : List (List ℕ) → List ℕ → Strand Halted) → length u ≤ from →
+      (from : ℕ) (u v tape : List ℕ) (made : List (List ℕ)) (go : List (List ℕ) → List ℕ → Strand GatesEnd) → length u ≤ from →
       blocks_then p i from u v tape made go ≡ go (joined made (no_elements p)) tape
   blocks-end from u v tape made go h =
       let none : length u - from ≡ 0 = omega (arith, h) in
@@ -50,7 +50,7 @@ module _ (p : Protocol) (blockable : Blockable p) (i : Number) where
   take-of-more a b xs h = ap (take a) (take-add a b xs) ∙ take-front a (take a xs) (take b (drop a xs)) (length-take-le a xs h)
 
   -- the next, and those after it
-  module _ (from size : ℕ) (u v tape : List ℕ) (made : List (List ℕ)) (go : List (List ℕ) → List ℕ → Strand Halted) where
+  module _ (from size : ℕ) (u v tape : List ℕ) (made : List (List ℕ)) (go : List (List ℕ) → List ℕ → Strand GatesEnd) where
     abbrev k : ℕ
     k = length u - from
 
@@ -63,11 +63,11 @@ module _ (p : Protocol) (blockable : Blockable p) (i : Number) where
     abbrev rest : ℕ → (u2 v2 w2 : List ℕ) → Strand (List (List ℕ))
     rest n u2 v2 w2 = blocks_strand p (block_sizes n) i u2 v2 w2
 
-    abbrev whole : (w1 w2 u2 v2 t : List ℕ) → Strand Halted
+    abbrev whole : (w1 w2 u2 v2 t : List ℕ) → Strand GatesEnd
     whole w1 w2 u2 v2 t =
         then_do (then_do (one w1) (λ here. then_do (rest (k - size) u2 v2 w2) (λ later. Ends (joined here later)))) (λ later. go (joined made later) t)
 
-    abbrev in_order : ℕ → (w1 w2 u2 v2 t : List ℕ) → Strand Halted
+    abbrev in_order : ℕ → (w1 w2 u2 v2 t : List ℕ) → Strand GatesEnd
     in_order n w1 w2 u2 v2 t = then_do (one w1) (λ here. then_do (rest n u2 v2 w2) (λ later. go (joined (joined made here) later) t))
 
     whole-in_order : (w1 w2 u2 v2 t : List ℕ) → whole w1 w2 u2 v2 t ≡ in_order (k - size) w1 w2 u2 v2 t
@@ -147,14 +147,14 @@ operand-is values None = refl
 operand-is values (Some v) = nth_value-value values v
 
 module _ (i : Number) (dealt values : Values) (tape : List ℕ) (gate : Gate) (gates : List Gate) where
-  abbrev goes : Bool → Strand Halted
+  abbrev goes : Bool → Strand GatesEnd
   goes b =
       if b
       then then_do (gates_strand i (own_gate i dealt values gate ∷ []) values tape)
       (λ all. own_gates i dealt gates all (drop (own_draws i dealt values gate) tape))
       else Ends Stuck
 
-  abbrev by_gate : model.Gate → Strand Halted
+  abbrev by_gate : model.Gate → Strand GatesEnd
   by_gate g = then_do (gates_strand i (g ∷ []) values tape) (λ all. own_gates i dealt gates all (drop (needed (g ∷ []) i) tape))
 
   pub gate-stuck : can_run i dealt values tape gate ≡ false → own_gates i dealt (gate ∷ gates) values tape ≡ Ends Stuck
@@ -175,7 +175,7 @@ module _ (i : Number) (dealt values : Values) (tape : List ℕ) (gate : Gate) (g
     abbrev v : List ℕ
     v = second_value values x.v
 
-    abbrev blocks : ℕ → (u v : List ℕ) → ℕ → Strand Halted
+    abbrev blocks : ℕ → (u v : List ℕ) → ℕ → Strand GatesEnd
     blocks n u v drawn =
         then_do (blocks_strand p (block_sizes n) i u v (take (p.draws n i) tape)) (λ made. own_gates i dealt gates (values ++ made) (drop drawn tape))
 

@@ -23,7 +23,7 @@ use Rattle.gates.specs.Counts.{size_of}
 use Rattle.gates.specs.Taken.{Numbers, Takes, HaveSame}
 use Rattle.gate_exchanges.specs.LocalGates.{local_share}
 use Rattle.gate_node.specs.Suiting.{is_there, are_pair, suits}
-use Rattle.gate_node.specs.OwnGates.{Halted, Stuck, own_gate, own_draws, can_run, own_gates}
+use Rattle.gate_node.specs.OwnGates.{GatesEnd, Stuck, own_gate, own_draws, can_run, own_gates}
 use Rattle.gate_node.proofs.Always.{then-assoc}
 use Rattle.gate_node.proofs.Holding.{same_size, same_words, as_many_sizes}
 
@@ -162,7 +162,7 @@ module _ (i : Number) (dealt values held : Values) (as_many : length held ≡ le
     same_made (Result ring u) h = joined (reshare_protocol (ring_of ring)) u None h.0 refl
 
 -- a gate, if it can be run, and then others with what it makes
-abbrev pub first_then : (b : Bool) → (first : Strand Values) → (Values → Strand Halted) → Strand Halted
+abbrev pub first_then : (b : Bool) → (first : Strand Values) → (Values → Strand GatesEnd) → Strand GatesEnd
 first_then b first behind = if b then then_do first behind else Ends Stuck
 
 module _ (i : Number) (dealt : Values) where
@@ -179,5 +179,5 @@ module _ (i : Number) (dealt : Values) where
       (ap (λ s. then_do s on) (made_behind i (own_gate i dealt values gate) values tape)
       ∙ then-assoc (made_by_gate gate values tape) (λ made. Ends (values ++ made)) on)
     where
-      on : Values → Strand Halted
+      on : Values → Strand GatesEnd
       on all = own_gates i dealt gates all (drop (own_draws i dealt values gate) tape)

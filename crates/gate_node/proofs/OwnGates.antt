@@ -22,7 +22,7 @@ use Rattle.gate_exchanges.proofs.Models.{local-size}
 use Rattle.gate_exchanges.specs.declared.exchange.Exchange.{Exchange}
 use Rattle.gate_exchanges.specs.declared.exchange.Exchange.TheVariants.{Product, Splitting, Conversion, Opening, Resharing}
 use Rattle.gate_exchanges.specs.Exchanges.{protocol_of}
-use Rattle.gate_node.specs.OwnGates.{Halted, Whole, Stuck, own_gate, own_draws, can_run, own_gates, then_gates}
+use Rattle.gate_node.specs.OwnGates.{GatesEnd, Whole, Stuck, own_gate, own_draws, can_run, own_gates, then_gates}
 use Rattle.gate_node.proofs.Always.{EndsAlways, HaveSizes, always-then, then-same, then-all, then-assoc, gate-sized}
 use Rattle.gate_node.proofs.Suiting.{test-is}
 
@@ -103,7 +103,7 @@ module _ (i : Number) (dealt : Values) (all_dealt : Number → Values) (own : al
   abbrev run : List ℕ → List Gate → List model.Gate
   run sizes gates = run_gates all_dealt ds sizes gates
 
-  abbrev ends_whole : List model.Gate → List ℕ → Values → Strand Halted
+  abbrev ends_whole : List model.Gate → List ℕ → Values → Strand GatesEnd
   ends_whole gates tape all = Ends (Whole all (drop (needed gates i) tape))
 
   abbrev ItsPart : List Gate → (values : Values) → (tape : List ℕ) → (sizes : List ℕ) → Type 0

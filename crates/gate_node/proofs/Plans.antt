@@ -17,11 +17,11 @@ use Rattle.gates.specs.Held.{if_kept, kept_from, kept_only}
 use Rattle.gates.specs.Taken.{operands, is_among, Numbers, or_from, AreAmong, HaveSame, AllOf, Takes, AllTake}
 use Rattle.block_steps.specs.declared.links.Links.{Links}
 use Rattle.block_steps.specs.Outcomes.{outcome_of, StandsAt, AwaitsOn}
-use Rattle.gate_node.specs.declared.engine.Work.TheVariants as work
+use Rattle.gate_node.specs.declared.engine.AtWork.TheVariants as work
 use Rattle.gate_node.specs.declared.engine.Engine.{Engine}
 use Rattle.gate_node.specs.declared.wanted.Wanted.{Wanted}
 use Rattle.gate_node.specs.declared.wanted.Wanted.TheVariants as wanted
-use Rattle.gate_node.specs.OwnGates.{Halted, Whole, Stuck, own_draws, can_run, own_gates, then_gates}
+use Rattle.gate_node.specs.OwnGates.{GatesEnd, Whole, Stuck, own_draws, can_run, own_gates, then_gates}
 use Rattle.gate_node.specs.Plans.{with_these, then_wanted, is_unwanted, any_takes, last_operands, is_large, without}
 use Rattle.gate_node.specs.Nodes.{gates_left, work_left, left_at, engine_left, filled, CanPlan, IsPlanOf, is_spent, without_spent}
 use Rattle.gate_node.proofs.Always.{then-all, then-assoc}
@@ -49,12 +49,12 @@ kept_emptied numbers n (w ∷ ws) made (suc k) none =
 -- ---- GATES ON TWO LISTS OF VALUES
 
 -- where both have the same of all that gates take, and of all that is wanted, the gates come to the same
-module _ (i : Number) (dealt : Values) (numbers : BTreeSet ℕ) (go : Halted → Strand Halted) (values held : Values)
+module _ (i : Number) (dealt : Values) (numbers : BTreeSet ℕ) (go : GatesEnd → Strand GatesEnd) (values held : Values)
     (as_many : length held ≡ length values) (same : (made : Values) → kept_only numbers (values ++ made) ≡ kept_only numbers (held ++ made)) where
   abbrev Same : Numbers
   Same = or_from (HaveSame values held) (length values)
 
-  abbrev behind : Halted → Strand Halted
+  abbrev behind : GatesEnd → Strand GatesEnd
   behind h = go (with_these numbers h)
 
   abbrev Alike : List Gate → Type 0
@@ -124,27 +124,27 @@ module _ (i : Number) (dealt : Values) where
   wanted-stuck (wanted.These numbers later) = refl
 
   pub outcome-wanted :
-      (w : Wanted) (a b : Links) (s t : Strand Halted) → outcome_of i a s ≡ outcome_of i b t →
+      (w : Wanted) (a b : Links) (s t : Strand GatesEnd) → outcome_of i a s ≡ outcome_of i b t →
       outcome_of i a (then_wanted i dealt w s) ≡ outcome_of i b (then_wanted i dealt w t)
   outcome-wanted wanted.All a b s t h = h
   outcome-wanted (wanted.These numbers later) a b s t h = outcome-behind i (λ end. then_gates i dealt later.items (with_these numbers end)) a b s t h
 
   pub stands-wanted :
-      (w : Wanted) (l : Links) (cause : Option BadMessage) (s : Strand Halted) → StandsAt i l cause s → StandsAt i l cause (then_wanted i dealt w s)
+      (w : Wanted) (l : Links) (cause : Option BadMessage) (s : Strand GatesEnd) → StandsAt i l cause s → StandsAt i l cause (then_wanted i dealt w s)
   stands-wanted wanted.All l cause s h = h
   stands-wanted (wanted.These numbers later) l cause s h = stands-behind i l cause s (λ end. then_gates i dealt later.items (with_these numbers end)) h
 
-  pub awaits-wanted : (w : Wanted) (l : _) (s : Strand Halted) → AwaitsOn l s → AwaitsOn l (then_wanted i dealt w s)
+  pub awaits-wanted : (w : Wanted) (l : _) (s : Strand GatesEnd) → AwaitsOn l s → AwaitsOn l (then_wanted i dealt w s)
   awaits-wanted wanted.All l s h = h
   awaits-wanted (wanted.These numbers later) l s h = awaits-behind l s (λ end. then_gates i dealt later.items (with_these numbers end)) h
 
   -- further gates after those that come after a plan
-  further : (gates more : List Gate) (h : Halted) → then_gates i dealt (gates ++ more) h ≡ then_do (then_gates i dealt gates h) (then_gates i dealt more)
+  further : (gates more : List Gate) (h : GatesEnd) → then_gates i dealt (gates ++ more) h ≡ then_do (then_gates i dealt gates h) (then_gates i dealt more)
   further gates more (Whole values tape) = run-behind i dealt more gates values tape
   further gates more Stuck = refl
 
   pub further-wanted :
-      (numbers : BTreeSet ℕ) (gates more : List Gate) (s : Strand Halted) →
+      (numbers : BTreeSet ℕ) (gates more : List Gate) (s : Strand GatesEnd) →
       then_do s (λ h. then_gates i dealt (gates ++ more) (with_these numbers h))
       ≡ then_do (then_do s (λ h. then_gates i dealt gates (with_these numbers h))) (then_gates i dealt more)
   further-wanted numbers gates more s =
@@ -154,11 +154,11 @@ module _ (i : Number) (dealt : Values) where
 
   -- no gate after it
   pub nothing-behind :
-      (numbers : BTreeSet ℕ) (s : Strand Halted) →
+      (numbers : BTreeSet ℕ) (s : Strand GatesEnd) →
       then_do s (λ h. then_gates i dealt [] (with_these numbers h)) ≡ then_do s (λ h. Ends (with_these numbers h))
   nothing-behind numbers s = then-all s (λ h. then_gates i dealt [] (with_these numbers h)) (λ h. Ends (with_these numbers h)) by
     where
-      by : (h : Halted) → then_gates i dealt [] (with_these numbers h) ≡ Ends (with_these numbers h)
+      by : (h : GatesEnd) → then_gates i dealt [] (with_these numbers h) ≡ Ends (with_these numbers h)
       by (Whole values tape) = refl
       by Stuck = refl
 
@@ -167,7 +167,7 @@ module _ {P : Type 0} (i : Number) (e : Engine P) (numbers : BTreeSet ℕ) (late
   abbrev behind_more : Engine P
   behind_more = record e { wanted = wanted.These numbers after }
 
-  abbrev behind_plan : (words : List ℕ) → List Gate → Strand Halted
+  abbrev behind_plan : (words : List ℕ) → List Gate → Strand GatesEnd
   behind_plan words gates = then_do (work_left i (filled e words) e.work) (λ h. then_gates i e.dealt gates (with_these numbers h))
 
   plan-is : (words : List ℕ) → engine_left i (filled e words) ≡ behind_plan words later.items
@@ -326,7 +326,7 @@ too-many count there gates rest values is left none small =
 module _ {P : Type 0} (i : Number) (e : Engine P) (numbers : BTreeSet ℕ) (count : ℕ) (later : Vec Gate Global) (idle : e.work ≡ work.Idle)
     (all : e.wanted ≡ wanted.All) (none : later.items ≡ [])
     (counted : length e.values + made_by_all (gates_left i e) ≡ count) where
-  abbrev gates_of : (words : List ℕ) → Strand Halted
+  abbrev gates_of : (words : List ℕ) → Strand GatesEnd
   gates_of words = work_left i (filled e words) e.work
 
   pub becomes-plan : IsPlanOf i numbers count e (record e { wanted = wanted.These numbers later })

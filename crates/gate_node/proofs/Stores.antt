@@ -1,5 +1,6 @@
 -- Which gates can be run alone, down to a store.
 use Rattle.std.proofs.Common.{◌≡◌, ◌≢◌, ℕ, ◌+◌, ◌-◌, ◌<◌, ◌≤◌, Bool, true, false, ◌&&◌, nat_le, IsTrue, ◌↔◌, List, [], ◌∷◌, ◌++◌, length, drop, get_or}
+use Rattle.std.specs.Prelude.{Some, Ok, Err}
 use Rattle.std.proofs.Common.{refl, sym, ◌∙◌, ap, subst, arith, length-drop}
 use Rattle.std.proofs.lemmas.Bool.{false≢true, both_ways, and_parts, lt-leb}
 use Rattle.std.proofs.lemmas.List.{drop-drop, drop_all}
@@ -12,9 +13,9 @@ use Rattle.gate_exchanges.specs.LocalGates.{IsLocal}
 use Rattle.gate_exchanges.specs.Model.{SizesSuit}
 use Rattle.gate_exchanges.specs.declared.exchanged.Exchanged.{Exchanged}
 use Rattle.gate_exchanges.specs.Exchanged.{IsExchanged}
-use Rattle.gate_node.specs.declared.beginning.Beginning.{Beginning}
-use Rattle.gate_node.specs.declared.beginning.Beginning.TheVariants as beginning
-use Rattle.gate_node.specs.declared.engine.Work.TheVariants as work
+use Rattle.gate_node.specs.declared.standing.Standing.{Standing}
+use Rattle.gate_node.specs.declared.standing.Standing.TheVariants as stand
+use Rattle.gate_node.specs.declared.engine.AtWork.TheVariants as work
 use Rattle.gate_node.specs.declared.wanted.Wanted.TheVariants as wanted
 use Rattle.gate_node.specs.declared.engine.Engine.{Engine}
 use Rattle.gate_node.specs.OwnGates.{own_draws, can_run}
@@ -41,11 +42,14 @@ module _ (i : Number) (dealt values : Values) (tape : List ℕ) (gate : Gate) wh
       alone-can i dealt values (tape ++ more) gate (suits (sizes_of dealt) (sizes_of values) gate) (test-is (sizes_of dealt) (sizes_of values) gate)
       alone.1 alone.0
 
-  pub alone-not : (b : Beginning) → BeginsAs i dealt values tape gate b → b ≢ beginning.Alone → RunsAlone dealt values gate → ⊥
-  alone-not beginning.Unfit begins other alone = both_ways _ (begins []) (alone-runs [] alone)
-  alone-not beginning.Alone begins other alone = other refl
-  alone-not (beginning.Together x) begins other alone = local-not gate x begins.1 alone.0
-  alone-not (beginning.Wants count) begins other alone = both_ways _ (begins.1 [] ∙ lt-leb count 0 begins.0) (alone-runs [] alone)
+  pub stands-not : (at : Standing) → BeginsAs i dealt values tape gate (Err at) → RunsAlone dealt values gate → ⊥
+  stands-not stand.Unfit begins alone = both_ways _ (begins []) (alone-runs [] alone)
+  stands-not (stand.Wants count) begins alone = both_ways _ (begins.1 [] ∙ lt-leb count 0 begins.0) (alone-runs [] alone)
+  stands-not stand.Through begins alone = absurd begins
+  stands-not (stand.Waits link cause) begins alone = absurd begins
+
+  pub exchanged-not : (x : Exchanged) → BeginsAs i dealt values tape gate (Ok (Some x)) → RunsAlone dealt values gate → ⊥
+  exchanged-not x begins alone = local-not gate x begins.1 alone.0
 
   pub alone-is : can_run i dealt values tape gate ≡ true → IsLocal gate → RunsAlone dealt values gate
   alone-is can local = (local, (and_parts (suits (sizes_of dealt) (sizes_of values) gate) (nat_le (own_draws i dealt values gate) (length tape)) can).0)

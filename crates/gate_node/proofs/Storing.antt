@@ -11,7 +11,7 @@ use Rattle.gates.specs.declared.gate.Gate.TheVariants.{Put}
 use Rattle.gates.specs.Clear.{Values, value, first_word}
 use Rattle.gate_exchanges.specs.Model.{SizesSuit}
 use Rattle.gate_exchanges.proofs.Models.{size-value}
-use Rattle.gate_node.specs.declared.engine.Work.TheVariants as work
+use Rattle.gate_node.specs.declared.engine.AtWork.TheVariants as work
 use Rattle.gate_node.specs.declared.wanted.Wanted.TheVariants as wanted
 use Rattle.gate_node.specs.declared.engine.Engine.{Engine}
 use Rattle.gate_node.specs.OwnGates.{Whole, own_gates}

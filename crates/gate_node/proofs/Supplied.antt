@@ -1,21 +1,25 @@
 -- Words that are supplied little by little, and where none come any more.
-use Rattle.std.proofs.Common.{◌≡◌, List, [], ◌++◌, ℕ, ◌+◌, ◌<◌, ◌∷◌, false, drop, length, length-append}
+use Rattle.std.proofs.Common.{◌≡◌, List, [], ◌++◌, ℕ, ◌+◌, ◌<◌, ◌∷◌, false, drop, length, length-append, get_or}
 use Rattle.std.proofs.Common.{append_assoc, sym, ◌∙◌, ap, subst, arith}
+use Rattle.std.specs.Prelude.{Err}
 use Rattle.std.proofs.lemmas.Bool.{lt-leb}
 use Rattle.std.proofs.Math.Seq.{drop-append_seam}
+use Rattle.outside.specs.Tapes.{TapesState}
 use Rattle.proto_core.specs.declared.party.Number.{Number}
 use Rattle.proto_core.specs.Strand.{Ends}
 use Rattle.proto_core.proofs.Beginnings.{append-none}
 use Rattle.gates.specs.declared.gate.Gate.{Gate}
 use Rattle.gates.specs.Clear.{Values}
 use Rattle.gate_node.specs.declared.engine.Engine.{Engine}
-use Rattle.gate_node.specs.declared.stand.Stand.{Stand}
-use Rattle.gate_node.specs.declared.stand.Stand.TheVariants as stand
+use Rattle.gate_node.specs.declared.engine.AtWork.TheVariants as work
+use Rattle.gate_node.specs.declared.standing.Standing.{Standing}
+use Rattle.gate_node.specs.declared.standing.Standing.TheVariants as stand
 use Rattle.gate_node.specs.OwnGates.{Whole, Stuck, own_gates}
 use Rattle.gate_node.specs.Nodes.{engine_left, engine_outcome, EngineStands, StandsWith, StandsAlways, settled, gates_left, left_at, first_can_run}
-use Rattle.gate_node.specs.Nodes.{ComesTo, DoesTheSame, filled, IsTapeOf}
+use Rattle.gate_node.specs.Nodes.{BeginsAs, ComesTo, DoesTheSame, filled, IsTapeOf}
 use Rattle.gate_node.specs.Plans.{then_wanted}
-use Rattle.gate_node.proofs.Blocks.{gate-stuck}
+use Rattle.gate_node.specs.Supplies.{SuppliesFrom, SuppliesTape}
+use Rattle.gate_node.proofs.Blocks.{drop-front, gate-stuck}
 use Rattle.gate_node.proofs.Plans.{wanted-stuck}
 
 module _ {P : Type 0} (e : Engine P) where
@@ -42,11 +46,30 @@ module _ {P : Type 0} (e : Engine P) where
         ∙ ap (then_wanted i e.dealt e.wanted) (own-stuck (e.tape.1 ++ more) (gates_left i e) (h.exactly ∙ lt-leb _ _ fewer))
         ∙ wanted-stuck i e.dealt e.wanted
 
-    pub stands-here : (at : Stand) → StandsAlways i at e → EngineStands i (settled at) e
+    -- where the next gate can't begin, it stands
+    pub cannot-begin :
+        (gate : Gate) → e.work ≡ work.Idle → e.begun < length e.gates.items → get_or e.gates.items e.begun gate ≡ gate → (at : Standing) →
+        BeginsAs i e.dealt e.values e.tape.1 gate (Err at) → StandsAlways i at e
+    cannot-begin gate idle some is stand.Unfit never more =
+        ap (left_at i (filled e more)) idle
+        ∙ ap (then_wanted i e.dealt e.wanted)
+        (own-stuck (e.tape.1 ++ more) (gates_left i e)
+        (ap (first_can_run i e.dealt e.values (e.tape.1 ++ more)) (drop-front e.begun e.gates.items gate some is) ∙ never more))
+        ∙ wanted-stuck i e.dealt e.wanted
+    cannot-begin gate idle some is (stand.Wants count) wants more =
+        record {
+          some = wants.0;
+          idle = idle;
+          exactly = ap (first_can_run i e.dealt e.values (e.tape.1 ++ more)) (drop-front e.begun e.gates.items gate some is) ∙ wants.1 more;
+        }
+    cannot-begin gate idle some is stand.Through never more = absurd never
+    cannot-begin gate idle some is (stand.Waits link cause) never more = absurd never
+
+    pub stands-here : (at : Standing) → StandsAlways i at e → EngineStands i (settled at) e
     stands-here stand.Through h = subst (EngineStands i stand.Through) filled-none (h [])
     stands-here (stand.Waits link cause) h = subst (EngineStands i (stand.Waits link cause)) filled-none (h [])
-    stands-here stand.Stuck h = subst (EngineStands i stand.Stuck) filled-none (h [])
-    stands-here (stand.Wants count) h = subst (EngineStands i stand.Stuck) filled-none (wants-fewer count [] (h []) (h []).some)
+    stands-here stand.Unfit h = subst (EngineStands i stand.Unfit) filled-none (h [])
+    stands-here (stand.Wants count) h = subst (EngineStands i stand.Unfit) filled-none (wants-fewer count [] (h []) (h []).some)
 
 -- what is the same whatever words come is the same where none come
 module _ {P : Type 0} (i : Number) (before after : Engine P) where
@@ -70,3 +93,13 @@ module _ (supplied words tape : List ℕ) where
       let counted = of.counted in
       let l : length (supplied ++ words) ≡ length supplied + length words = length-append supplied words in
       record { begins = all-is of.begins ∙ ap (λ r. supplied ++ r) (sym (behind-is of.begins)); counted = omega (arith, counted, l, moved) }
+
+-- words that were drawn to the tape's end were supplied
+pub supplies_from : {P : Type 0} (party count : ℕ) (before : Engine P) (tape : List ℕ × List ℕ) (old new : TapesState)
+    → SuppliesTape party count before.tape tape old new → SuppliesFrom party count before (record before { tape = tape }) old new
+supplies_from party count before tape old new s = record {
+  words = s.all.words;
+  counted = s.all.counted;
+  drew = s.all.drew;
+  supplied = ap (λ l. record before { tape = (l, tape.1) }) s.all.added ∙ ap (λ l. record before { tape = (before.tape.0 ++ s.all.words, l) }) s.left;
+}

@@ -1,6 +1,8 @@
 -- Words that were drawn, and those that are left.
-use Rattle.std.proofs.Common.{◌≡◌, ℕ, ◌+◌, ◌≤◌, List, ◌++◌, take, drop, length, length-drop, sym, arith}
+use Rattle.std.proofs.Common.{◌≡◌, ℕ, ◌+◌, ◌≤◌, List, ◌++◌, take, drop, length, length-drop, sym, ap, ◌∙◌, arith}
 use Rattle.std.proofs.lemmas.List.{drop-drop, drop-append-le, drop_all, take-append-le, length-append}
+use Rattle.outside.specs.Tapes.{TapesState}
+use Rattle.gate_node.specs.Supplies.{DrawsTo, SuppliesTape}
 use Rattle.block_steps.proofs.Inboxes.{lets_go, lets_none_go}
 
 pub drop-more : (n drawn : ℕ) (xs : List ℕ) → drop (drawn + n) xs ≡ drop n (drop drawn xs)
@@ -16,3 +18,9 @@ further n xs more h = let l : length (xs ++ more) ≡ length xs + length more = 
 pub ruleset tape_steps = (drop-more, length-drop, drop-append-le)
 
 pub ruleset letting_go = (lets_go, lets_none_go, drop_all)
+
+-- words that were drawn behind those that are there are left, too
+pub supplies_tape : (party count drawn : ℕ) (before after : List ℕ) (old new : TapesState) → drawn ≤ length before → DrawsTo party count before after old new
+    → SuppliesTape party count (before, drop drawn before) (after, drop drawn after) old new
+supplies_tape party count drawn before after old new within d =
+    record { all = d; left = ap (drop drawn) d.added ∙ drop-append-le drawn before d.words within }

@@ -21,10 +21,10 @@ use Rattle.block_steps.specs.Outcomes.{outcome_of, mail_left, StandsAt, AwaitsOn
 use Rattle.block_steps.specs.Pendings.{pending_left, progress_left}
 use Rattle.block_steps.proofs.Behind.{outcome-then}
 use Rattle.gate_node.specs.declared.running.Running.{Running}
-use Rattle.gate_node.specs.declared.engine.Work.{Work}
-use Rattle.gate_node.specs.declared.engine.Work.TheVariants as work
+use Rattle.gate_node.specs.declared.engine.AtWork.{AtWork}
+use Rattle.gate_node.specs.declared.engine.AtWork.TheVariants as work
 use Rattle.gate_node.specs.declared.engine.Engine.{Engine}
-use Rattle.gate_node.specs.OwnGates.{Halted, can_run, own_gates, then_gates}
+use Rattle.gate_node.specs.OwnGates.{GatesEnd, can_run, own_gates, then_gates}
 use Rattle.gate_node.specs.Shares.{shares_of}
 use Rattle.gate_node.specs.Nodes.{blocks_then, protocol_at, size_at, gates_left, running_left, work_left, left_at, engine_left, engine_outcome, filled}
 use Rattle.gate_node.specs.Plans.{then_wanted}
@@ -55,7 +55,7 @@ awaits-behind l (Waits link shape k) f h = h
 
 -- ---- a block that begins
 
-module _ (i : Number) (x : Exchange) (from size : ℕ) (u v tape : List ℕ) (made : List (List ℕ)) (go : List (List ℕ) → List ℕ → Strand Halted) where
+module _ (i : Number) (x : Exchange) (from size : ℕ) (u v tape : List ℕ) (made : List (List ℕ)) (go : List (List ℕ) → List ℕ → Strand GatesEnd) where
   pub begin-turn :
       (a b : Links) (s : Strand (List (List ℕ))) (bu bv bw : List ℕ) →
       from < length u → size ≡ min (length u - from) 512 → (protocol_of x).draws (length u - from) i ≤ length tape →
@@ -66,7 +66,7 @@ module _ (i : Number) (x : Exchange) (from size : ℕ) (u v tape : List ℕ) (ma
       ≡ outcome_of i a (blocks_then (protocol_of x) i from u v tape made go)
   begin-turn a b s bu bv bw some is reach hu hv hw len same =
       let p = protocol_of x in
-      let behind : List (List ℕ) → Strand Halted = λ here. blocks_then p i (from + size) u v (drop (p.draws size i) tape) (joined made here) go in
+      let behind : List (List ℕ) → Strand GatesEnd = λ here. blocks_then p i (from + size) u v (drop (p.draws size i) tape) (joined made here) go in
       outcome-behind i behind b a s (p.strand (length bu) i bu bv bw) same
       ∙ ap (λ n. outcome_of i a (then_do (p.strand n i bu bv bw) behind)) len
       ∙ ap (λ w. outcome_of i a (then_do (p.strand size i w bv bw) behind)) hu
@@ -75,7 +75,7 @@ module _ (i : Number) (x : Exchange) (from size : ℕ) (u v tape : List ℕ) (ma
       ∙ ap (outcome_of i a) (sym (blocks-begin p (blockable-of x) i from size u v tape made go some is reach))
 
 -- the same, as the code reads its operands, and its words from the front of the tape
-module _ (i : Number) (x : Exchange) (from size : ℕ) (u v tape : List ℕ) (made : List (List ℕ)) (go : List (List ℕ) → List ℕ → Strand Halted) where
+module _ (i : Number) (x : Exchange) (from size : ℕ) (u v tape : List ℕ) (made : List (List ℕ)) (go : List (List ℕ) → List ℕ → Strand GatesEnd) where
   pub next-turn :
       (a b : Links) (s : Strand (List (List ℕ))) (tape2 w w2 t : List ℕ) (f n count : ℕ) →
       w ≡ u → w2 ≡ v → take count t ≡ take count tape → f ≡ (protocol_of x).second from → n ≡ (protocol_of x).second size →
@@ -129,7 +129,7 @@ begun-left left to state (inr is) = ap (progress_left left) is
 
 -- ---- what is put to work
 
-module _ {P : Type 0} (i : Number) (e : Engine P) (w : Work P) (is : e.work ≡ w) where
+module _ {P : Type 0} (i : Number) (e : Engine P) (w : AtWork P) (is : e.work ≡ w) where
   pub put-to-work : engine_outcome i e ≡ outcome_of i e.links (left_at i e w)
   put-to-work = ap (λ v. outcome_of i e.links (left_at i e v)) is
 
@@ -158,7 +158,7 @@ module _ {P : Type 0} (i : Number) (more : List Gate) (e f : Engine P) (has : f.
   dropped : drop e.begun f.gates.items ≡ drop e.begun e.gates.items ++ more
   dropped = ap (drop e.begun) has ∙ drop-append-le e.begun e.gates.items more within
 
-  abbrev behind : Halted → Strand Halted
+  abbrev behind : GatesEnd → Strand GatesEnd
   behind = then_gates i e.dealt more
 
   gates-more : (values : Values) (tape : List ℕ)
@@ -175,17 +175,16 @@ module _ {P : Type 0} (i : Number) (more : List Gate) (e f : Engine P) (has : f.
       then-all blocks _ _ (λ later. gates-more (e.values ++ joined made later) (drop (p.draws k i) tape))
       ∙ sym (then-assoc blocks (λ later. own_gates i e.dealt (gates_left i e) (e.values ++ joined made later) (drop (p.draws k i) tape)) behind)
 
-  pub work-more : (w : Work P) → work_left i (record e { gates = f.gates }) w ≡ then_do (work_left i e w) behind
+  pub work-more : (w : AtWork P) → work_left i (record e { gates = f.gates }) w ≡ then_do (work_left i e w) behind
   work-more work.Idle = gates-more e.values e.tape.1
   work-more (work.Between r) = running-more r r.made
   work-more (work.Within r block) =
       then-all (pending_left i block) _ _ (λ here. running-more r (joined r.made here))
       ∙ sym (then-assoc (pending_left i block) (λ here. running_left i e r (joined r.made here)) behind)
-  work-more work.Halt = refl
 
 -- no gate is added
 module _ {P : Type 0} (i : Number) (e f : Engine P) (same : f.gates.items ≡ e.gates.items) where
-  pub work-same : (w : Work P) → work_left i (record e { gates = f.gates }) w ≡ work_left i e w
+  pub work-same : (w : AtWork P) → work_left i (record e { gates = f.gates }) w ≡ work_left i e w
   work-same work.Idle = ap (λ l. own_gates i e.dealt (drop e.begun l) e.values e.tape.1) same
   work-same (work.Between r) =
       ap (λ l.
@@ -197,12 +196,11 @@ module _ {P : Type 0} (i : Number) (e f : Engine P) (same : f.gates.items ≡ e.
       (λ here.
       blocks_then (protocol_at r) i r.begun (value e.values r.gate.u) (second_value e.values r.gate.v) e.tape.1 (joined r.made here)
       (λ all tape. own_gates i e.dealt (drop e.begun l) (e.values ++ all) tape))) same
-  work-same work.Halt = refl
 
 -- gates that have begun are let go
 module _ {P : Type 0} (i : Number) (e : Engine P) (f : Engine P) (same : drop f.begun f.gates.items ≡ drop e.begun e.gates.items) where
   work-kept :
-      (t : List ℕ × List ℕ) (w : Work P) →
+      (t : List ℕ × List ℕ) (w : AtWork P) →
       work_left i (record e { gates = f.gates; begun = f.begun; tape = t }) w ≡ work_left i (record e { tape = t }) w
   work-kept t work.Idle = ap (λ l. own_gates i e.dealt l e.values t.1) same
   work-kept t (work.Between r) =
@@ -215,7 +213,6 @@ module _ {P : Type 0} (i : Number) (e : Engine P) (f : Engine P) (same : drop f.
       (λ here.
       blocks_then (protocol_at r) i r.begun (value e.values r.gate.u) (second_value e.values r.gate.v) t.1 (joined r.made here)
       (λ all tape. own_gates i e.dealt l (e.values ++ all) tape))) same
-  work-kept t work.Halt = refl
 
   pub engine-kept : f ≡ record e { gates = f.gates; begun = f.begun } → (more : List ℕ) → engine_left i (filled f more) ≡ engine_left i (filled e more)
   engine-kept is more =

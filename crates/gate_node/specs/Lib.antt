@@ -1,4 +1,5 @@
 pub mod Suiting
+pub mod Supplies
 pub mod OwnGates
 pub mod Laws
 pub mod Shares

@@ -3,6 +3,7 @@
 -- Of its tape it has the words that were supplied. What it does is the same whatever words come after them, so all that is said of what it does
 -- is said with any further words.
 use Rattle.std.specs.Prelude.{◌≡◌, ℕ, ◌+◌, ◌-◌, ◌*◌, ◌<◌, ◌≤◌, Bool, true, false, not, ◌&&◌, nat_le, List, [], ◌∷◌, ◌++◌, length, take, drop, set}
+use Rattle.std.specs.Prelude.{Option, Some, None, Result, Ok, Err}
 use Rattle.std.specs.BTreeSet.{BTreeSet}
 use Rattle.std.specs.List.{filter}
 use Rattle.proto_core.specs.declared.party.Number.{Number}
@@ -15,31 +16,33 @@ use Rattle.gates.specs.Counts.{made_by_all}
 use Rattle.blocked_protocol.specs.Blocked.{joined, blocks_strand}
 use Rattle.gate_exchanges.specs.LocalGates.{IsLocal}
 use Rattle.gate_exchanges.specs.Exchanges.{protocol_of}
+use Rattle.gate_exchanges.specs.declared.exchanged.Exchanged.{Exchanged}
 use Rattle.gate_exchanges.specs.Exchanged.{IsExchanged, second_value}
 use Rattle.block_steps.specs.Outcomes.{Outcome, outcome_of, waiting, Holds, StandsAt, AwaitsOn}
 use Rattle.block_steps.specs.Pendings.{pending_left}
 use Rattle.block_steps.specs.declared.links.Links.{Links}
-use Rattle.gate_node.specs.declared.beginning.Beginning.{Beginning}
-use Rattle.gate_node.specs.declared.beginning.Beginning.TheVariants as beginning
 use Rattle.gate_node.specs.declared.running.Running.{Running}
-use Rattle.gate_node.specs.declared.engine.Work.{Work}
-use Rattle.gate_node.specs.declared.engine.Work.TheVariants as work
+use Rattle.gate_node.specs.declared.engine.AtWork.{AtWork}
+use Rattle.gate_node.specs.declared.engine.AtWork.TheVariants as work
 use Rattle.gate_node.specs.declared.engine.Engine.{Engine}
 use Rattle.gate_node.specs.declared.wanted.Wanted.TheVariants as wanted
-use Rattle.gate_node.specs.declared.stand.Stand.{Stand}
-use Rattle.gate_node.specs.declared.stand.Stand.TheVariants as stand
-use Rattle.gate_node.specs.OwnGates.{Halted, Whole, Stuck, can_run, own_gates}
+use Rattle.gate_node.specs.declared.standing.Standing.{Standing}
+use Rattle.gate_node.specs.declared.standing.Standing.TheVariants as stand
+use Rattle.gate_node.specs.OwnGates.{GatesEnd, Whole, Stuck, can_run, own_gates}
 use Rattle.gate_node.specs.Stores.{IsStore, with_first, EndInStore}
 use Rattle.gate_node.specs.Plans.{with_these, then_wanted, later_count, is_unwanted, any_takes, last_operands, is_large, without}
 
 -- ---- how a gate begins
 
-abbrev pub BeginsAs : Number → (dealt values : Values) → (tape : List ℕ) → Gate → Beginning → Type 0
-BeginsAs i dealt values tape gate beginning.Unfit = (more : List ℕ) → can_run i dealt values (tape ++ more) gate ≡ false
-BeginsAs i dealt values tape gate beginning.Alone = (can_run i dealt values tape gate ≡ true) × IsLocal gate
-BeginsAs i dealt values tape gate (beginning.Together x) = (can_run i dealt values tape gate ≡ true) × IsExchanged gate x
-BeginsAs i dealt values tape gate (beginning.Wants count) =
+-- with the messages of an exchange, or by its own shares alone; or not at all, and so it stands
+abbrev pub BeginsAs : Number → (dealt values : Values) → (tape : List ℕ) → Gate → Result (Option Exchanged) Standing → Type 0
+BeginsAs i dealt values tape gate (Ok None) = (can_run i dealt values tape gate ≡ true) × IsLocal gate
+BeginsAs i dealt values tape gate (Ok (Some x)) = (can_run i dealt values tape gate ≡ true) × IsExchanged gate x
+BeginsAs i dealt values tape gate (Err stand.Unfit) = (more : List ℕ) → can_run i dealt values (tape ++ more) gate ≡ false
+BeginsAs i dealt values tape gate (Err (stand.Wants count)) =
     (0 < count) × ((more : List ℕ) → can_run i dealt values (tape ++ more) gate ≡ nat_le count (length more))
+BeginsAs i dealt values tape gate (Err stand.Through) = ⊥
+BeginsAs i dealt values tape gate (Err (stand.Waits link cause)) = ⊥
 
 -- whether the first of these gates can run, if there is one
 abbrev pub first_can_run : Number → (dealt values : Values) → (tape : List ℕ) → List Gate → Bool
@@ -50,7 +53,7 @@ first_can_run i dealt values tape (gate ∷ gates) = can_run i dealt values tape
 
 -- from an element on: the blocks that have not begun, and then what is done with all shares and with the tape that is left
 abbrev pub blocks_then :
-    Protocol → Number → (from : ℕ) → (u v tape : List ℕ) → (made : List (List ℕ)) → (List (List ℕ) → List ℕ → Strand Halted) → Strand Halted
+    Protocol → Number → (from : ℕ) → (u v tape : List ℕ) → (made : List (List ℕ)) → (List (List ℕ) → List ℕ → Strand GatesEnd) → Strand GatesEnd
 blocks_then p i from u v tape made go =
     then_do (blocks_strand p (block_sizes (length u - from)) i (drop from u) (drop (p.second from) v) (take (p.draws (length u - from) i) tape))
     (λ later. go (joined made later) (drop (p.draws (length u - from) i) tape))
@@ -62,15 +65,15 @@ abbrev pub size_at : Values → Running → ℕ
 size_at values r = length (value values r.gate.u)
 
 -- where a miner stands with these links and values, this tape left and this left to do; with a whole tape it wants no words
-abbrev pub StandsAs : Number → Stand → Links → Values → (tape : List ℕ) → (left : Strand Halted) → Type 0
+abbrev pub StandsAs : Number → Standing → Links → Values → (tape : List ℕ) → (left : Strand GatesEnd) → Type 0
 StandsAs i stand.Through links values tape left = left ≡ Ends (Whole values tape)
 StandsAs i (stand.Waits link cause) links values tape left = StandsAt i links cause left × AwaitsOn link left
-StandsAs i stand.Stuck links values tape left = left ≡ Ends Stuck
+StandsAs i stand.Unfit links values tape left = left ≡ Ends Stuck
 StandsAs i (stand.Wants count) links values tape left = ⊥
 
 -- the same where no further words come
-abbrev pub settled : Stand → Stand
-settled (stand.Wants count) = stand.Stuck
+abbrev pub settled : Standing → Standing
+settled (stand.Wants count) = stand.Unfit
 settled s = s
 
 -- with further words after those that were supplied
@@ -84,24 +87,23 @@ module _ {P : Type 0} (i : Number) where
   gates_left e = drop e.begun e.gates.items
 
   -- the gates that have not begun, where the one at work has made these shares
-  abbrev pub gates_then : Engine P → (made : List (List ℕ)) → (tape : List ℕ) → Strand Halted
+  abbrev pub gates_then : Engine P → (made : List (List ℕ)) → (tape : List ℕ) → Strand GatesEnd
   gates_then e made tape = own_gates i e.dealt (gates_left e) (e.values ++ made) tape
 
-  abbrev pub running_left : Engine P → Running → (made : List (List ℕ)) → Strand Halted
+  abbrev pub running_left : Engine P → Running → (made : List (List ℕ)) → Strand GatesEnd
   running_left e r made =
       blocks_then (protocol_at r) i r.begun (value e.values r.gate.u) (second_value e.values r.gate.v) e.tape.1 made (gates_then e)
 
-  abbrev pub work_left : Engine P → Work P → Strand Halted
+  abbrev pub work_left : Engine P → AtWork P → Strand GatesEnd
   work_left e work.Idle = own_gates i e.dealt (gates_left e) e.values e.tape.1
   work_left e (work.Between r) = running_left e r r.made
   work_left e (work.Within r block) = then_do (pending_left i block) (λ here. running_left e r (joined r.made here))
-  work_left e work.Halt = Ends Stuck
 
   -- and after the gates, where they are at this
-  abbrev pub left_at : Engine P → Work P → Strand Halted
+  abbrev pub left_at : Engine P → AtWork P → Strand GatesEnd
   left_at e w = then_wanted i e.dealt e.wanted (work_left e w)
 
-  abbrev pub engine_left : Engine P → Strand Halted
+  abbrev pub engine_left : Engine P → Strand GatesEnd
   engine_left e = left_at e e.work
 
   -- how many gates have not begun, also of those after a plan, and the plan's end
@@ -109,7 +111,7 @@ module _ {P : Type 0} (i : Number) where
   to_come e = length (gates_left e) + later_count e.wanted
 
   -- what it has done, and what it does with the messages that it has
-  abbrev pub engine_outcome : Engine P → Outcome Halted
+  abbrev pub engine_outcome : Engine P → Outcome GatesEnd
   engine_outcome e = outcome_of i e.links (engine_left e)
 
   -- whatever words come later
@@ -178,17 +180,16 @@ module _ {P : Type 0} (i : Number) where
     pub second : length (second_value e.values r.gate.v) ≡ (protocol_at r).second (size_at e.values r)
     pub reach : (protocol_at r).draws (size_at e.values r - r.begun) i ≤ length e.tape.1
 
-  abbrev pub IsSoundWork : Engine P → Work P → Type 0
+  abbrev pub IsSoundWork : Engine P → AtWork P → Type 0
   IsSoundWork e work.Idle = Unit {0}
   IsSoundWork e (work.Between r) = IsSoundRun e r
   IsSoundWork e (work.Within r block) = IsSoundRun e r
-  IsSoundWork e work.Halt = Unit {0}
 
   pub record IsSound (e : Engine P) : Type 0 where
     pub gates : e.begun ≤ length e.gates.items
     pub work : IsSoundWork e e.work
 
-  abbrev pub EngineStands : Stand → Engine P → Type 0
+  abbrev pub EngineStands : Standing → Engine P → Type 0
   EngineStands s e = StandsAs i s e.links e.values e.tape.1 (engine_left e)
 
   -- no gate is at work, and with these words more the next can run exactly where they are so many
@@ -198,17 +199,12 @@ module _ {P : Type 0} (i : Number) where
     pub exactly : first_can_run i e.dealt e.values (e.tape.1 ++ more) (gates_left e) ≡ nat_le count (length more)
 
   -- where it stands with these words more
-  abbrev pub StandsWith : Stand → Engine P → (more : List ℕ) → Type 0
+  abbrev pub StandsWith : Standing → Engine P → (more : List ℕ) → Type 0
   StandsWith (stand.Wants count) e more = Wants count e more
   StandsWith s e more = EngineStands s (filled e more)
 
-  abbrev pub StandsAlways : Stand → Engine P → Type 0
+  abbrev pub StandsAlways : Standing → Engine P → Type 0
   StandsAlways s e = (more : List ℕ) → StandsWith s e more
-
-  -- where the gate at work is through, no gate is at work
-  abbrev pub RunStands : Stand → Engine P → Type 0
-  RunStands stand.Through e = e.work ≡ work.Idle
-  RunStands s e = StandsAlways s e
 
 -- no gate is at work, none is left, and all values are wanted
 pub record IsDone {P : Type 0} (e : Engine P) : Type 0 where
@@ -288,8 +284,7 @@ with_links e links = record e { links = links }
 abbrev pub run_measure : {P : Type 0} → Engine P → Running → ℕ
 run_measure e r = 2 * (size_at e.values r - r.begun) + 2 * waiting e.links
 
-abbrev pub measure : {P : Type 0} → Engine P → Work P → ℕ
+abbrev pub measure : {P : Type 0} → Engine P → AtWork P → ℕ
 measure e work.Idle = 0
 measure e (work.Between r) = run_measure e r + 1
 measure e (work.Within r block) = run_measure e r
-measure e work.Halt = 0

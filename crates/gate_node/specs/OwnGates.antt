@@ -10,9 +10,9 @@ use Rattle.gate_exchanges.specs.Model.{run_gate}
 use Rattle.gate_node.specs.Suiting.{suits}
 
 -- all gates are through, with these values and this tape left; or a gate doesn't suit, or the tape is too short for it
-pub data Halted : Type 0 where
-  Whole : (values : List (List ℕ)) (tape : List ℕ) → Halted
-  Stuck : Halted
+pub data GatesEnd : Type 0 where
+  Whole : (values : List (List ℕ)) (tape : List ℕ) → GatesEnd
+  Stuck : GatesEnd
 
 module _ (i : Number) (dealt : Values) where
   -- a gate as the miner runs it where it has these values, and how many words it draws for it
@@ -25,7 +25,7 @@ module _ (i : Number) (dealt : Values) where
   abbrev pub can_run : Values → (tape : List ℕ) → Gate → Bool
   can_run values tape gate = suits (sizes_of dealt) (sizes_of values) gate && nat_le (own_draws values gate) (length tape)
 
-  abbrev pub own_gates : List Gate → Values → (tape : List ℕ) → Strand Halted
+  abbrev pub own_gates : List Gate → Values → (tape : List ℕ) → Strand GatesEnd
   own_gates [] values tape = Ends (Whole values tape)
   own_gates (gate ∷ gates) values tape =
       if can_run values tape gate
@@ -33,6 +33,6 @@ module _ (i : Number) (dealt : Values) where
       else Ends Stuck
 
   -- further gates, after those that came to this end
-  abbrev pub then_gates : List Gate → Halted → Strand Halted
+  abbrev pub then_gates : List Gate → GatesEnd → Strand GatesEnd
   then_gates gates (Whole values tape) = own_gates gates values tape
   then_gates gates Stuck = Ends Stuck

@@ -10,17 +10,17 @@ use Rattle.gates.specs.Held.{kept_only}
 use Rattle.gates.specs.Taken.{operands, is_among, first_size}
 use Rattle.gate_node.specs.declared.wanted.Wanted.{Wanted}
 use Rattle.gate_node.specs.declared.wanted.Wanted.TheVariants as wanted
-use Rattle.gate_node.specs.OwnGates.{Halted, Whole, Stuck, then_gates}
+use Rattle.gate_node.specs.OwnGates.{GatesEnd, Whole, Stuck, then_gates}
 
 -- ---- what is wanted
 
 -- an end with the values of these numbers alone
-abbrev pub with_these : BTreeSet ℕ → Halted → Halted
+abbrev pub with_these : BTreeSet ℕ → GatesEnd → GatesEnd
 with_these numbers (Whole values tape) = Whole (kept_only numbers values) tape
 with_these numbers Stuck = Stuck
 
 -- where this is left of the gates, all that is left: after a plan the values that are wanted, and then the later gates
-abbrev pub then_wanted : Number → (dealt : Values) → Wanted → Strand Halted → Strand Halted
+abbrev pub then_wanted : Number → (dealt : Values) → Wanted → Strand GatesEnd → Strand GatesEnd
 then_wanted i dealt wanted.All left = left
 then_wanted i dealt (wanted.These numbers later) left = then_do left (λ h. then_gates i dealt later.items (with_these numbers h))
 

@@ -5,35 +5,33 @@ ghost use Rattle.gates.specs.Held.{kept_only};
 ghost use Rattle.block_steps.specs.Outcomes.{outcome_of};
 ghost use Rattle.gate_node.specs.OwnGates.{then_gates};
 ghost use Rattle.gate_node.specs.Nodes.{gates_left, left_at, to_come, engine_left, engine_outcome};
-ghost use Rattle.gate_node.specs.Nodes.{IsSoundRun, IsSound, StandsAlways, RunStands, Keeps, KeepsGates, measure};
+ghost use Rattle.gate_node.specs.Nodes.{IsSoundRun, IsSound, StandsAlways, Keeps, KeepsGates, measure};
 ghost use Rattle.gate_node.specs.Nodes.{StoresLast, HasStored, LeavesStore, CanStore, after_first, IsAhead, IsDone, HasTheSameLeft, DoesTheSame, filled};
 ghost use Rattle.gate_node.specs.Stores.{FirstRunsAlone};
 
-use crate::beginning::{Beginning, begins};
+use crate::beginning::begins;
 use crate::made::Made;
 use crate::running::Running;
-use crate::stand::Stand;
+use crate::standing::Standing;
 use crate::tape::Tape;
 use crate::wanted::Wanted;
 use block_steps::{Links, Pending, Progress, begin};
 use gate_exchanges::{local_share, second_value, suits};
 use gates::{BLOCK_LEN, Gate, Values};
-use proto_core::{BadMessage, Link, Party};
+use proto_core::Party;
 use std::alloc::{AllocError, Global};
 use std::collections::BTreeSet;
 use std::mem;
 
-/// What a miner is at.
+/// The gate that a miner is at, if it is at one.
 #[derive(Drop)]
-pub(crate) enum Work<P: Party> {
+pub(crate) enum AtWork<P: Party> {
     /// No gate is at work.
     Idle,
     /// No block of the gate is at work.
     Between(Running),
     /// A block of the gate is at work.
     Within(Running, Pending<P>),
-    /// A gate couldn't begin.
-    Halt,
 }
 
 /// A word that is stored into an array at an index.
@@ -52,7 +50,7 @@ pub(crate) struct Engine<P: Party> {
     pub tape: Tape,
     pub gates: Vec<Gate>,
     pub begun: usize,
-    pub work: Work<P>,
+    pub work: AtWork<P>,
     pub wanted: Wanted,
     pub links: Links,
 }
@@ -137,10 +135,10 @@ impl<P: Party> Engine<P> {
 
     /// The oldest gate that hasn't begun is run, where it sends nothing and suits; else all is as before.
     fn run_alone(&mut self) -> Result<bool, AllocError>
-        requires idle { self.old.work ≡ Work.Idle }
+        requires idle { self.old.work ≡ AtWork.Idle }
         requires more { self.old.begun < length self.old.gates.items }
         ensures ahead { OnOk result (IsAhead P.me self.old self.new) }
-        ensures idle { self.new.work ≡ Work.Idle }
+        ensures idle { self.new.work ≡ AtWork.Idle }
         ensures gates { self.new.gates ≡ self.old.gates }
         ensures within { self.new.begun ≤ length self.new.gates.items }
         ensures falls { IfOk result (λ done. done ≡ true → self.new.begun ≡ self.old.begun + 1) }
@@ -156,13 +154,22 @@ impl<P: Party> Engine<P> {
             self.tape.left(),
             gate,
         ) {
-            Beginning::Alone => {
-                let share = local_share(self.alloc, P::number(), &self.dealt, &self.values, gate)?;
-                self.values.push(share)?;
-                self.begun += 1;
-                Ok(true)
-            }
-            Beginning::Unfit | Beginning::Together(_) | Beginning::Wants(_) => Ok(false),
+            Err(_) => Ok(false),
+            Ok(exchanged) => match exchanged {
+                Some(_) => Ok(false),
+                None => {
+                    let share = local_share(
+                        self.alloc,
+                        P::number(),
+                        &self.dealt,
+                        &self.values,
+                        gate,
+                    )?;
+                    self.values.push(share)?;
+                    self.begun += 1;
+                    Ok(true)
+                }
+            },
         }
     }
 
@@ -206,25 +213,25 @@ impl<P: Party> Engine<P> {
         self.store_last(array, count)
     }
 
-    /// Whether no gate is at work. It is looked at first, since what a gate has at work is moved as often as it is gone on with.
+    /// Whether no gate is at work. Asked first because moving the gate at work is the expensive part.
     pub fn is_idle(&self) -> bool
-        ensures idle { result ≡ true → self.now.work ≡ Work.Idle }
-        ensures at_work { result ≡ false → self.now.work ≢ Work.Idle }
+        ensures idle { result ≡ true → self.now.work ≡ AtWork.Idle }
+        ensures at_work { result ≡ false → self.now.work ≢ AtWork.Idle }
     {
         match &self.work {
-            Work::Idle => true,
-            Work::Between(_) | Work::Within(..) | Work::Halt => false,
+            AtWork::Idle => true,
+            AtWork::Between(_) | AtWork::Within(..) => false,
         }
     }
 
     /// The next block of the gate at work begins; after the last, the gate's shares become values.
     fn next_block(&mut self, running: Running) -> Result<(), AllocError>
-        requires idle { self.old.work ≡ Work.Idle }
+        requires idle { self.old.work ≡ AtWork.Idle }
         requires gates { self.old.begun ≤ length self.old.gates.items }
         requires sound { IsSoundRun P.me self.old running }
         ensures same { OnOk result ((more : List ℕ) → engine_outcome P.me (filled self.new more)
-            ≡ outcome_of P.me self.old.links (left_at P.me (filled self.old more) (Work.Between running))) }
-        ensures falls { OnOk result (measure self.new self.new.work < measure self.old (Work.Between running)) }
+            ≡ outcome_of P.me self.old.links (left_at P.me (filled self.old more) (AtWork.Between running))) }
+        ensures falls { OnOk result (measure self.new self.new.work < measure self.old (AtWork.Between running)) }
         ensures sound { IsSound P.me self.new }
         ensures kept { OnOk result (KeepsGates self.old self.new) }
     {
@@ -246,93 +253,85 @@ impl<P: Party> Engine<P> {
         let running = Running { gate, begun, made };
         match progress {
             Progress::Stands(block, _) | Progress::Goes(block) => {
-                put(&mut self.work, Work::Within(running, block));
+                put(&mut self.work, AtWork::Within(running, block));
                 Ok(())
             }
             Progress::Made { first, second } => {
                 put(
                     &mut self.work,
-                    Work::Between(running.through(&first, &second)?),
+                    AtWork::Between(running.through(&first, &second)?),
                 );
                 Ok(())
             }
         }
     }
 
-    /// The block at work, as far as the oldest message leads; where none is there that fits, the link on which it waits, and why a message
-    /// that is there is refused.
-    fn go_on(
-        &mut self,
-        running: Running,
-        block: Pending<P>,
-    ) -> Result<Option<(Link, Option<BadMessage>)>, AllocError>
-        requires idle { self.old.work ≡ Work.Idle }
+    /// The block at work, as far as the oldest message leads. Where no message is there that fits, the miner stands.
+    fn go_on(&mut self, running: Running, block: Pending<P>) -> Result<Option<Standing>, AllocError>
+        requires idle { self.old.work ≡ AtWork.Idle }
         requires gates { self.old.begun ≤ length self.old.gates.items }
         requires sound { IsSoundRun P.me self.old running }
         ensures same { OnOk result ((more : List ℕ) → engine_outcome P.me (filled self.new more)
-            ≡ outcome_of P.me self.old.links (left_at P.me (filled self.old more) (Work.Within running block))) }
-        ensures stands { IfOk result (λ at. IfSome at (λ at. StandsAlways P.me (Stand.Waits at.0 at.1) self.new)) }
-        ensures falls { IfOk result (λ at. at ≡ None → measure self.new self.new.work < measure self.old (Work.Within running block)) }
+            ≡ outcome_of P.me self.old.links (left_at P.me (filled self.old more) (AtWork.Within running block))) }
+        ensures stands { IfOk result (λ at. IfSome at (λ standing. StandsAlways P.me standing self.new)) }
+        ensures falls { IfOk result (λ at. at ≡ None → measure self.new self.new.work < measure self.old (AtWork.Within running block)) }
         ensures sound { IsSound P.me self.new }
         ensures kept { OnOk result (KeepsGates self.old self.new) }
     {
         match block.step(&mut self.links)? {
             Progress::Stands(block, cause) => {
                 let link = block.awaits();
-                put(&mut self.work, Work::Within(running, block));
-                Ok(Some((link, cause)))
+                put(&mut self.work, AtWork::Within(running, block));
+                Ok(Some(Standing::Waits(link, cause)))
             }
             Progress::Goes(block) => {
-                put(&mut self.work, Work::Within(running, block));
+                put(&mut self.work, AtWork::Within(running, block));
                 Ok(None)
             }
             Progress::Made { first, second } => {
                 put(
                     &mut self.work,
-                    Work::Between(running.through(&first, &second)?),
+                    AtWork::Between(running.through(&first, &second)?),
                 );
                 Ok(None)
             }
         }
     }
 
-    /// The gate at work, as far as the messages lead: to its end, to a wait, or not at all where it couldn't begin. It stands apart, since a
-    /// function's places are made anew with each call.
+    /// The gate at work, as far as the messages lead: to its end, or to a wait. It stands apart, since a function's places are made anew with
+    /// each call.
     #[inline(never)]
-    fn finish(&mut self) -> Result<Stand, AllocError>
+    fn finish(&mut self) -> Result<Option<Standing>, AllocError>
         requires sound { IsSound P.me self.old }
         ensures same { OnOk result (DoesTheSame P.me self.old self.new) }
-        ensures stands { IfOk result (λ stand. RunStands P.me stand self.new) }
+        ensures stands { IfOk result (λ at. IfSome at (λ standing. StandsAlways P.me standing self.new)) }
+        ensures idle { IfOk result (λ at. at ≡ None → self.new.work ≡ AtWork.Idle) }
         ensures sound { IsSound P.me self.new }
         ensures kept { OnOk result (KeepsGates self.old self.new) }
     {
         loop {
-            match mem::replace(&mut self.work, Work::Idle) {
-                Work::Idle => return Ok(Stand::Through),
-                Work::Between(running) => self.next_block(running)?,
-                Work::Within(running, block) => {
-                    if let Some((link, cause)) = self.go_on(running, block)? {
-                        return Ok(Stand::Waits(link, cause));
+            match mem::replace(&mut self.work, AtWork::Idle) {
+                AtWork::Idle => return Ok(None),
+                AtWork::Between(running) => self.next_block(running)?,
+                AtWork::Within(running, block) => {
+                    if let Some(standing) = self.go_on(running, block)? {
+                        return Ok(Some(standing));
                     }
-                }
-                Work::Halt => {
-                    put(&mut self.work, Work::Halt);
-                    return Ok(Stand::Stuck);
                 }
             }
         }
     }
 
-    /// The oldest gate begins that hasn't; where more words are needed than were supplied, it doesn't, and they are counted. A gate that sends
-    /// nothing is through at once.
+    /// The oldest gate begins that hasn't, where it suits and its words were supplied; else the miner stands, and all is as before. A gate that
+    /// sends nothing is through at once.
     #[inline(never)]
-    fn begin_next(&mut self) -> Result<Option<u128>, AllocError>
-        requires idle { self.old.work ≡ Work.Idle }
+    fn begin_next(&mut self) -> Result<Option<Standing>, AllocError>
+        requires idle { self.old.work ≡ AtWork.Idle }
         requires more { self.old.begun < length self.old.gates.items }
         requires sound { IsSound P.me self.old }
         ensures same { OnOk result (DoesTheSame P.me self.old self.new) }
-        ensures wants { IfOk result (λ wants. IfSome wants (λ count. StandsAlways P.me (Stand.Wants count) self.new)) }
-        ensures falls { IfOk result (λ wants. wants ≡ None → to_come P.me self.new < to_come P.me self.old) }
+        ensures stands { IfOk result (λ at. IfSome at (λ standing. StandsAlways P.me standing self.new)) }
+        ensures falls { IfOk result (λ at. at ≡ None → to_come P.me self.new < to_come P.me self.old) }
         ensures sound { IsSound P.me self.new }
         ensures kept { OnOk result (Keeps self.old self.new) }
     {
@@ -344,37 +343,40 @@ impl<P: Party> Engine<P> {
             self.tape.left(),
             gate,
         ) {
-            Beginning::Wants(count) => return Ok(Some(count)),
-            Beginning::Unfit => {
-                self.begun += 1;
-                put(&mut self.work, Work::Halt);
-            }
-            Beginning::Alone => {
-                let share = local_share(self.alloc, P::number(), &self.dealt, &self.values, gate)?;
-                self.begun += 1;
-                self.values.push(share)?;
-            }
-            Beginning::Together(gate) => {
-                self.begun += 1;
-                let made = Made::new(self.alloc, gate.exchange);
-                let running = Running {
-                    gate,
-                    begun: 0,
-                    made,
-                };
-                put(&mut self.work, Work::Between(running));
-            }
+            Err(standing) => return Ok(Some(standing)),
+            Ok(exchanged) => match exchanged {
+                None => {
+                    let share = local_share(
+                        self.alloc,
+                        P::number(),
+                        &self.dealt,
+                        &self.values,
+                        gate,
+                    )?;
+                    self.begun += 1;
+                    self.values.push(share)?;
+                }
+                Some(gate) => {
+                    self.begun += 1;
+                    let made = Made::new(self.alloc, gate.exchange);
+                    let running = Running {
+                        gate,
+                        begun: 0,
+                        made,
+                    };
+                    put(&mut self.work, AtWork::Between(running));
+                }
+            },
         }
         Ok(None)
     }
 
-    /// The oldest gate begins that hasn't, or a plan ends whose gates are through; else it is told where the miner stands: there is no gate, or
-    /// words are missing for it.
-    fn begin_gate(&mut self) -> Result<Option<Stand>, AllocError>
-        requires idle { self.old.work ≡ Work.Idle }
+    /// The oldest gate begins that hasn't, or a plan ends whose gates are through; else the miner stands: there is no gate, or it can't begin.
+    fn begin_gate(&mut self) -> Result<Option<Standing>, AllocError>
+        requires idle { self.old.work ≡ AtWork.Idle }
         requires sound { IsSound P.me self.old }
         ensures same { OnOk result (DoesTheSame P.me self.old self.new) }
-        ensures stands { IfOk result (λ at. IfSome at (λ stand. StandsAlways P.me stand self.new)) }
+        ensures stands { IfOk result (λ at. IfSome at (λ standing. StandsAlways P.me standing self.new)) }
         ensures falls { IfOk result (λ at. at ≡ None → to_come P.me self.new < to_come P.me self.old) }
         ensures sound { IsSound P.me self.new }
         ensures kept { OnOk result (Keeps self.old self.new) }
@@ -383,34 +385,29 @@ impl<P: Party> Engine<P> {
             if self.end_plan() {
                 return Ok(None);
             }
-            return Ok(Some(Stand::Through));
+            return Ok(Some(Standing::Through));
         }
-        match self.begin_next()? {
-            Some(count) => Ok(Some(Stand::Wants(count))),
-            None => Ok(None),
-        }
+        self.begin_next()
     }
 
     /// All gates, as far as the messages and the words that were supplied lead. After each gate of a plan, what it has taken is let go where
     /// it is large and not wanted, and no later one takes it.
-    pub fn advance(&mut self) -> Result<Stand, AllocError>
+    pub fn advance(&mut self) -> Result<Standing, AllocError>
         requires sound { IsSound P.me self.old }
         ensures same { OnOk result (DoesTheSame P.me self.old self.new) }
-        ensures stands { IfOk result (λ stand. StandsAlways P.me stand self.new) }
+        ensures stands { IfOk result (λ standing. StandsAlways P.me standing self.new) }
         ensures sound { IsSound P.me self.new }
         ensures kept { OnOk result (Keeps self.old self.new) }
     {
         loop {
             if !self.is_idle() {
-                let stand = self.finish()?;
-                match stand {
-                    Stand::Through => {}
-                    Stand::Waits(..) | Stand::Stuck | Stand::Wants(_) => return Ok(stand),
+                if let Some(standing) = self.finish()? {
+                    return Ok(standing);
                 }
             }
             self.let_go_operands();
-            if let Some(stand) = self.begin_gate()? {
-                return Ok(stand);
+            if let Some(standing) = self.begin_gate()? {
+                return Ok(standing);
             }
         }
     }

@@ -12,10 +12,12 @@ mod made;
 mod node;
 mod plan;
 mod running;
-mod stand;
+mod standing;
+mod supply_err;
 mod tape;
 mod wanted;
 
 pub use laws::{gates_are_its_part_of_the_run, later_gates_are_run_behind, the_test_is_right};
 pub use node::GateNode;
-pub use stand::Stand;
+pub use standing::Standing;
+pub use supply_err::SupplyErr;

@@ -1,6 +1,7 @@
-ghost use Rattle.std.specs.Prelude.{◌≡◌, ◌≤◌, ◌↔◌, ℕ, IsTrue, true, false, List, [], length, drop, IfOk, OnOk, OnErr};
+ghost use Rattle.std.specs.Prelude.{◌≡◌, ◌≤◌, ◌↔◌, ℕ, IsTrue, true, false, List, [], length, drop, IfOk, IfErr, OnOk, OnErr};
 ghost use Rattle.std.specs.Ordering.{nat_cmp};
 ghost use Rattle.std.specs.BTreeSet.{contains};
+ghost use Rattle.outside.specs.Tapes.{TapesState, left_of};
 ghost use Rattle.gates.specs.Clear.{value};
 ghost use Rattle.gates.specs.Held.{kept_only};
 ghost use Rattle.proto_core.specs.Strand.{then_do};
@@ -10,13 +11,16 @@ ghost use Rattle.gate_node.specs.OwnGates.{then_gates};
 ghost use Rattle.gate_node.specs.Nodes.{engine_left, StandsAlways, Keeps, HasStored, IsAhead, IsSameButGates, IsSameButValues, with_links};
 ghost use Rattle.gate_node.specs.Nodes.{gates_left, filled, DoesTheSame, HasTheSameLeft, ComesTo, IsDone, CanStore, CanPlan, IsPlanOf};
 ghost use Rattle.gate_node.specs.Plans.{is_large_plan};
+ghost use Rattle.gate_node.specs.Supplies.{SuppliesFrom, IsUnsupplied};
 
-use crate::engine::{Engine, Work};
-use crate::stand::Stand;
+use crate::engine::{AtWork, Engine};
+use crate::standing::Standing;
+use crate::supply_err::SupplyErr;
 use crate::tape::Tape;
 use crate::wanted::Wanted;
 use block_steps::Links;
 use gates::{Gate, Values};
+use outside::TapeSource;
 use proto_core::{Msg, Party};
 use std::alloc::{AllocError, Global};
 use std::collections::BTreeSet;
@@ -72,19 +76,30 @@ impl<P: Party> GateNode<P> {
                 tape: Tape::new(tape),
                 gates: Vec::new(alloc),
                 begun: 0,
-                work: Work::Idle,
+                work: AtWork::Idle,
                 wanted: Wanted::All,
                 links: Links::new(alloc),
             },
         }
     }
 
-    /// Further words of its tape; with no memory left all is as before.
-    pub fn supply(&mut self, words: &[u64]) -> Result<(), AllocError>
-        ensures ok { OnOk result (self.new ≡ filled self.old words.now) }
+    /// Further words of its tape, so many of a party's, drawn from a source where they are to lie; else all is as before.
+    ///
+    /// `Memory` comes before any word is asked for, and `Failed` only where the source counted a fault.
+    pub fn supply_from<T: TapeSource>(
+        &mut self,
+        party: u8,
+        count: usize,
+        tapes: &mut T,
+    ) -> Result<(), SupplyErr>
+        requires party { party ≤ 3 }
+        requires enough { count ≤ left_of (T.state tapes.old) party }
+        ensures ok { OnOk result (SuppliesFrom party count self.old self.new (T.state tapes.old) (T.state tapes.new)) }
         ensures err { OnErr result (self.new ≡ self.old) }
+        ensures cause { IfErr result (IsUnsupplied (T.state tapes.old) (T.state tapes.new)) }
+        ensures still { (T.state tapes.old).steady ≡ true → (T.state tapes.new).steady ≡ true }
     {
-        self.engine.tape.supply(words)
+        self.engine.tape.supply_from(party, count, tapes)
     }
 
     /// Further gates, after those before; with no memory left nothing else is to be done than before. Gates that have begun are let go once
@@ -229,9 +244,9 @@ impl<P: Party> GateNode<P> {
 
     /// Does all that the messages and the words that were supplied lead to, and answers where it then stands. What it has done, and does with
     /// the messages that are there, is the same before and after.
-    pub fn advance(&mut self) -> Result<Stand, AllocError>
+    pub fn advance(&mut self) -> Result<Standing, AllocError>
         ensures same { OnOk result (DoesTheSame P.me self.old self.new) }
-        ensures stands { IfOk result (λ stand. StandsAlways P.me stand self.new) }
+        ensures stands { IfOk result (λ standing. StandsAlways P.me standing self.new) }
         ensures kept { OnOk result (Keeps self.old self.new) }
     {
         self.engine.advance()

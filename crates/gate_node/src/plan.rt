@@ -5,7 +5,7 @@ ghost use Rattle.gates.specs.Taken.{numbers_of};
 ghost use Rattle.gate_node.specs.Nodes.{gates_left, to_come, HasTheSameLeft, IsSound, CanPlan, IsPlanOf, is_spent, without_spent, last_taken, Keeps};
 ghost use Rattle.gate_node.specs.Plans.{is_large_plan};
 
-use crate::engine::{Engine, Work};
+use crate::engine::{AtWork, Engine};
 use crate::wanted::{Wanted, count_with, is_taken};
 use gates::{Gate, Operands};
 use proto_core::Party;
@@ -86,7 +86,7 @@ impl<P: Party> Engine<P> {
 
     /// A value is let go where it is spent.
     fn let_go_spent(&mut self, number: u64)
-        requires idle { self.old.work ≡ Work.Idle }
+        requires idle { self.old.work ≡ AtWork.Idle }
         requires within { self.old.begun ≤ length self.old.gates.items }
         ensures left { HasTheSameLeft P.me self.old self.new }
         ensures values { self.new.values ≡ without_spent P.me (number ∷ []) self.old }
@@ -111,7 +111,7 @@ impl<P: Party> Engine<P> {
 
     /// Once a plan's gate is through, which is the last one that has begun, those of the values that it has taken are let go that are spent.
     pub fn let_go_operands(&mut self)
-        requires idle { self.old.work ≡ Work.Idle }
+        requires idle { self.old.work ≡ AtWork.Idle }
         requires within { self.old.begun ≤ length self.old.gates.items }
         ensures left { HasTheSameLeft P.me self.old self.new }
         ensures values { self.new.values ≡ without_spent P.me (last_taken P.me self.old) self.old }
@@ -133,7 +133,7 @@ impl<P: Party> Engine<P> {
     /// Where all gates of a plan are through, the values are let go that aren't wanted, and the gates after it are the next. Else there is no
     /// plan, and all is as before.
     pub fn end_plan(&mut self) -> bool
-        requires idle { self.old.work ≡ Work.Idle }
+        requires idle { self.old.work ≡ AtWork.Idle }
         requires through { length self.old.gates.items ≤ self.old.begun }
         requires sound { IsSound P.me self.old }
         ensures left { HasTheSameLeft P.me self.old self.new }

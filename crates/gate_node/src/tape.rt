@@ -1,8 +1,11 @@
 // A miner's random words.
-ghost use Rattle.std.specs.Prelude.{◌≡◌, ◌≤◌, ◌++◌, length, drop, OnOk, OnErr};
+ghost use Rattle.std.specs.Prelude.{◌≡◌, ◌≤◌, length, drop, true, IfErr, OnOk, OnErr};
+ghost use Rattle.outside.specs.Tapes.{TapesState, left_of};
 ghost use Rattle.block_steps.specs.Inboxes.{LetsGo};
+ghost use Rattle.gate_node.specs.Supplies.{DrawsTo, SuppliesTape, IsUnsupplied};
 
-use std::alloc::AllocError;
+use crate::supply_err::SupplyErr;
+use outside::TapeSource;
 use std::marker::Model;
 
 /// The words of a miner's tape that were supplied, and how many of them were drawn. Contracts see all that were supplied, and beside them
@@ -23,6 +26,33 @@ impl Model for Tape {
     ghost invariant = { λ t. t.drawn ≤ length t.words.items };
 }
 
+/// Draws so many words of a party's tape behind those that are there; else all is as before.
+fn draw_to<T: TapeSource>(
+    words: &mut Vec<u64>,
+    party: u8,
+    count: usize,
+    tapes: &mut T,
+) -> Result<(), SupplyErr>
+    requires party { party ≤ 3 }
+    requires enough { count ≤ left_of (T.state tapes.old) party }
+    ensures ok { OnOk result (DrawsTo party count words.old.items words.new.items (T.state tapes.old) (T.state tapes.new)) }
+    ensures err { OnErr result (words.new.items ≡ words.old.items) }
+    ensures cause { IfErr result (IsUnsupplied (T.state tapes.old) (T.state tapes.new)) }
+    ensures still { (T.state tapes.old).steady ≡ true → (T.state tapes.new).steady ≡ true }
+{
+    let held = words.len();
+    let Some(all) = held.checked_add(count) else {
+        return Err(SupplyErr::Memory);
+    };
+    words.resize(all, 0)?;
+    let taken = tapes.take(party, &mut words.as_mut_slice()[held..]);
+    if let Err(failed) = taken {
+        words.truncate(held);
+        return Err(SupplyErr::from(failed));
+    }
+    Ok(())
+}
+
 impl Tape {
     /// No word was drawn.
     pub fn new(words: Vec<u64>) -> Self
@@ -31,13 +61,22 @@ impl Tape {
         Tape { words, drawn: 0 }
     }
 
-    /// Further words; with no memory left all is as before.
+    /// Further words, so many of a party's tape, drawn from a source where they are to lie; else all is as before.
     #[tactic(auto, using(crate::proofs::Tapes::tape_steps))]
-    pub fn supply(&mut self, words: &[u64]) -> Result<(), AllocError>
-        ensures ok { OnOk result ((self.new.0 ≡ self.old.0 ++ words.now) × (self.new.1 ≡ self.old.1 ++ words.now)) }
+    pub fn supply_from<T: TapeSource>(
+        &mut self,
+        party: u8,
+        count: usize,
+        tapes: &mut T,
+    ) -> Result<(), SupplyErr>
+        requires party { party ≤ 3 }
+        requires enough { count ≤ left_of (T.state tapes.old) party }
+        ensures ok { OnOk result (SuppliesTape party count self.old self.new (T.state tapes.old) (T.state tapes.new)) }
         ensures err { OnErr result (self.new ≡ self.old) }
+        ensures cause { IfErr result (IsUnsupplied (T.state tapes.old) (T.state tapes.new)) }
+        ensures still { (T.state tapes.old).steady ≡ true → (T.state tapes.new).steady ≡ true }
     {
-        self.words.extend_from_slice(words)
+        draw_to(&mut self.words, party, count, tapes)
     }
 
     /// All words that were supplied.

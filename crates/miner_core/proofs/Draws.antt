@@ -10,14 +10,12 @@ use Rattle.proto_core.specs.Strand.{same_link}
 use Rattle.proto_core.proofs.Beginnings.{append-none}
 use Rattle.gates.specs.Clear.{Values}
 use Rattle.gate_node.specs.Nodes.{IsTapeOf}
-use Rattle.gate_node.specs.declared.stand.Stand.{Stand}
-use Rattle.gate_node.specs.declared.stand.Stand.TheVariants as stand
+use Rattle.gate_node.specs.declared.standing.Standing.{Standing}
+use Rattle.gate_node.specs.declared.standing.Standing.TheVariants as stand
 use Rattle.gate_node.proofs.Supplied.{filled-filled, wants-fewer, tape-before}
 use Rattle.miner_core.specs.declared.engine.Engine.{Engine}
-use Rattle.miner_core.specs.declared.rest.Rest.{Rest}
-use Rattle.miner_core.specs.declared.rest.Rest.TheVariants as rest
 use Rattle.miner_core.specs.declared.task.Task.{Task}
-use Rattle.miner_core.specs.Engines.{engine_outcome, engine_told, shown, with_words, outcome_with, told_with, all_shown, rest_of}
+use Rattle.miner_core.specs.Engines.{engine_outcome, engine_told, shown, with_words, outcome_with, told_with, all_shown}
 use Rattle.miner_core.specs.Engines.{IsQuiet, IsSound, IsSoundAlways, StandsAlways, Rests, Keeps}
 use Rattle.miner_core.specs.Drawing.{left_for, IsTooShort, DrewOn, RunsOn, Delivers, IsAtRest}
 use Rattle.miner_core.specs.Past.{Past, no_past, with_past}
@@ -60,11 +58,14 @@ pub tape_earlier :
 tape_earlier i s t before after taken ahead drew is left tape of =
     tape-before before taken tape ahead (left_for i t) (sym drew.fewer ∙ left) (subst (λ l. IsTapeOf l (left_for i t) tape) is of)
 
-no_waits : (link : Link) (cause : Option BadMessage) → rest.Waits link cause ≡ rest.Through → ⊥
+no_waits : (link : Link) (cause : Option BadMessage) → stand.Waits link cause ≡ stand.Through → ⊥
 no_waits link cause e = cc
 
-no_stuck : rest.Stuck ≡ rest.Through → ⊥
-no_stuck e = cc
+no_unfit : stand.Unfit ≡ stand.Through → ⊥
+no_unfit e = cc
+
+no_wants : (count : ℕ) → stand.Wants count ≡ stand.Through → ⊥
+no_wants count e = cc
 
 module _ {P : Type 0} (i : Number) where
   -- ---- turn by turn
@@ -134,25 +135,20 @@ module _ {P : Type 0} (i : Number) where
 
   -- no more words come than are left
   pub rests_with :
-      (e : Engine P) (s : Stand) (left : ℕ) → StandsAlways i s e → IsTooShort s left → (more : List ℕ) → length more ≤ left →
-      Rests i (rest_of s) (with_words e more)
+      (e : Engine P) (s : Standing) (left : ℕ) → StandsAlways i s e → IsTooShort s left → (more : List ℕ) → length more ≤ left →
+      Rests i s (with_words e more)
   rests_with e stand.Through left h short more few = record { node = h.node more; over = λ same. h.over refl }
   rests_with e (stand.Waits link cause) left h short more few = record { node = h.node more; over = λ same. absurd (no_waits link cause same) }
-  rests_with e stand.Stuck left h short more few = record { node = h.node more; over = λ same. absurd (no_stuck same) }
+  rests_with e stand.Unfit left h short more few = record { node = h.node more; over = λ same. absurd (no_unfit same) }
   rests_with e (stand.Wants count) left h short more few =
       let less : left < count = short in
-      record { node = wants-fewer e.node i count more (h.node more) (omega (arith, few, less)); over = λ same. absurd (no_stuck same) }
+      record { node = wants-fewer e.node i count more (h.node more) (omega (arith, few, less)); over = λ same. absurd (no_wants count same) }
 
   pub runs_on :
-      (b e : Engine P) (at : Stand) (left : ℕ) (r : Rest) (s t : TapesState) → DrewOn i b e s t → StandsAlways i at e → left ≡ left_for i t →
-      IsTooShort at left → r ≡ rest_of at → RunsOn i r b e s t
-  runs_on b e at left r s t d h is short led =
-      record {
-        drew = d;
-        rests =
-            λ more few.
-            subst (λ q. Rests i q (with_words e more)) (sym led) (rests_with e at (left_for i t) h (subst (IsTooShort at) is short) more few);
-      }
+      (b e : Engine P) (at : Standing) (left : ℕ) (s t : TapesState) → DrewOn i b e s t → StandsAlways i at e → left ≡ left_for i t →
+      IsTooShort at left → RunsOn i at b e s t
+  runs_on b e at left s t d h is short =
+      record { drew = d; rests = λ more few. rests_with e at (left_for i t) h (subst (IsTooShort at) is short) more few }
 
   -- ---- its story
 
@@ -172,7 +168,7 @@ module _ {P : Type 0} (i : Number) where
       ∙ ap (λ w. start_of task dealt w budget) (d.tape ∙ ap (λ (x : Story). x.tape ++ d.taken) story)
 
   pub story_delivered :
-      (e e2 : Engine P) (at : Rest) (l : Link) (m : List ℕ) (budget : ℕ) (s t : TapesState) → (d : Delivers i at l m e e2 s t) →
+      (e e2 : Engine P) (at : Standing) (l : Link) (m : List ℕ) (budget : ℕ) (s t : TapesState) → (d : Delivers i at l m e e2 s t) →
       story_of e2 budget ≡ record (received i (story_of e budget) l m) { tape = e.node.tape.0 ++ d.taken }
   story_delivered e e2 at l m budget s t d =
       d.story budget ∙ ap (λ w. record (received i (story_of e budget) l m) { tape = w }) d.tape
@@ -189,7 +185,7 @@ module _ {P : Type 0} (i : Number) where
       }
 
   pub delivers :
-      (e r e2 : Engine P) (at : Rest) (l : Link) (m : List ℕ) (s t : TapesState) →
+      (e r e2 : Engine P) (at : Standing) (l : Link) (m : List ℕ) (s t : TapesState) →
       ((past : Past) (more : List ℕ) (x : Story) → Leads i (with_words (with_past past e) more) x →
       Leads i (with_words (with_past past r) more) (received i x l m)) →
       ((budget : ℕ) → story_of r budget ≡ received i (story_of e budget) l m) → r.node.tape ≡ e.node.tape → RunsOn i at r e2 s t →
@@ -210,7 +206,7 @@ module _ {P : Type 0} (i : Number) where
       }
 
   pub at_rest_after :
-      (past : Past) (e e2 : Engine P) (at at2 : Rest) (l : Link) (m : List ℕ) (ahead : ℕ) (x : Story) (s t : TapesState) → IsAtRest i past e at ahead x →
+      (past : Past) (e e2 : Engine P) (at at2 : Standing) (l : Link) (m : List ℕ) (ahead : ℕ) (x : Story) (s t : TapesState) → IsAtRest i past e at ahead x →
       (d : Delivers i at2 l m e e2 s t) → IsAtRest i past e2 at2 (left_for i t) (record (received i x l m) { tape = x.tape ++ d.taken })
   at_rest_after past e e2 at at2 l m ahead x s t h d =
       record {
@@ -225,7 +221,7 @@ module _ {P : Type 0} (i : Number) where
       }
 
   pub at_rest_new :
-      (e e2 : Engine P) (at : Rest) (task : Task) (dealt : Values) (first : List ℕ) (budget : ℕ) (s t : TapesState) →
+      (e e2 : Engine P) (at : Standing) (task : Task) (dealt : Values) (first : List ℕ) (budget : ℕ) (s t : TapesState) →
       ((more : List ℕ) → Leads i (with_words e more) (start_of task dealt (first ++ more) budget)) → (runs : RunsOn i at e e2 s t) →
       IsAtRest i no_past e2 at (left_for i t) (start_of task dealt (first ++ runs.drew.taken) budget)
   at_rest_new e e2 at task dealt first budget s t leads runs =

@@ -6,12 +6,11 @@ use Rattle.proto_core.specs.Net.{added}
 use Rattle.block_steps.specs.Outcomes.{mail_left}
 use Rattle.gate_node.specs.Nodes as node
 use Rattle.gate_node.specs.declared.engine.Engine as gates
-use Rattle.gate_node.specs.declared.engine.Work.TheVariants.{Idle}
-use Rattle.gate_node.specs.declared.stand.Stand as at_gates
-use Rattle.gate_node.specs.declared.stand.Stand.TheVariants as stand
+use Rattle.gate_node.specs.declared.engine.AtWork.TheVariants.{Idle}
+use Rattle.gate_node.specs.declared.standing.Standing as at_gates
+use Rattle.gate_node.specs.declared.standing.Standing.TheVariants as stand
 use Rattle.miner_core.specs.declared.engine.At.{At}
 use Rattle.miner_core.specs.declared.engine.Engine.{Engine}
-use Rattle.miner_core.specs.declared.rest.Rest.TheVariants as rest
 use Rattle.miner_core.specs.Engines.{with_words, left_with, outcome_with, told_with, all_shown, all_forgetting, IsQuiet, IsQuietAlways, IsThroughAlways}
 use Rattle.miner_core.specs.Engines.{IsSound, IsSoundAlways, KeepsLinks}
 use Rattle.miner_core.proofs.Quiet.{QuietAt, quiet_wanted, node_quiet}
@@ -85,13 +84,13 @@ module _ {P : Type 0} (i : Number) where
 
   -- after a call that goes as far as the messages and the words that were supplied lead
   pub quiet_after :
-      (n n2 : gates.Engine P) (at : at_gates.Stand) → node.DoesTheSame i n n2 → node.StandsAlways i at n2 → IsQuietAlways i n → IsQuietAlways i n2
+      (n n2 : gates.Engine P) (at : at_gates.Standing) → node.DoesTheSame i n n2 → node.StandsAlways i at n2 → IsQuietAlways i n → IsQuietAlways i n2
   quiet_after n n2 stand.Through same h quiet =
-      λ more. node_quiet i (node.filled n more) (node.filled n2 more) rest.Through (same more) (h more) (quiet more)
-  quiet_after n n2 stand.Stuck same h quiet =
-      λ more. node_quiet i (node.filled n more) (node.filled n2 more) rest.Stuck (same more) (h more) (quiet more)
+      λ more. node_quiet i (node.filled n more) (node.filled n2 more) stand.Through (same more) (h more) (quiet more)
+  quiet_after n n2 stand.Unfit same h quiet =
+      λ more. node_quiet i (node.filled n more) (node.filled n2 more) stand.Unfit (same more) (h more) (quiet more)
   quiet_after n n2 (stand.Waits link cause) same h quiet =
-      λ more. node_quiet i (node.filled n more) (node.filled n2 more) (rest.Waits link cause) (same more) (h more) (quiet more)
+      λ more. node_quiet i (node.filled n more) (node.filled n2 more) (stand.Waits link cause) (same more) (h more) (quiet more)
   quiet_after n n2 (stand.Wants count) same h quiet = λ more. idle_quiet n2 more (h more).idle
 
 -- all is as before but the values, whatever words come

@@ -9,7 +9,7 @@ use Rattle.own_code.specs.Places.{Place, step_told}
 use Rattle.miner_core.specs.TurnViews.{went_to}
 use Rattle.block_steps.specs.Outcomes.{outcome_of, mail_left}
 use Rattle.block_steps.proofs.Behind.{outcome-then}
-use Rattle.gate_node.specs.OwnGates.{Halted, Whole, Stuck}
+use Rattle.gate_node.specs.OwnGates.{GatesEnd, Whole, Stuck}
 use Rattle.gate_node.specs.Nodes as node
 use Rattle.gate_node.specs.declared.engine.Engine as gates
 use Rattle.gate_node.proofs.Always.{then-all}
@@ -29,7 +29,7 @@ module _ {P : Type 0} (i : Number) (e : Engine P) (n : gates.Engine P) where
   code_by d = own_code (task_world e.task) (task_code e.task) i d e.fuel
 
   -- what is after asks of the gates only what the miner was dealt
-  behind_same : n.dealt ≡ e.node.dealt → (a : At) (h : Halted) → behind_node i with_node a h ≡ behind_node i e a h
+  behind_same : n.dealt ≡ e.node.dealt → (a : At) (h : GatesEnd) → behind_node i with_node a h ≡ behind_node i e a h
   behind_same dealt a Stuck = refl
   behind_same dealt at.Ready (Whole values tape) = ap (λ d. code_by d (place_at i e) values tape) dealt
   behind_same dealt at.Again (Whole values tape) =

@@ -28,7 +28,7 @@ use Rattle.miner_core.specs.declared.engine.Engine.{Engine}
 use Rattle.miner_core.specs.declared.kept.Kept.{Kept}
 use Rattle.miner_core.specs.declared.miner.Miner.TheInside.{Inside}
 use Rattle.miner_core.specs.declared.kept.Kept.TheVariants.{All, Needed}
-use Rattle.miner_core.specs.declared.rest.Rest.{Rest}
+use Rattle.gate_node.specs.declared.standing.Standing.{Standing}
 use Rattle.miner_core.specs.declared.task.Task.{Task}
 use Rattle.miner_core.specs.Drawing.{left_for, HasDrawn, IsLostBy, Delivers, IsAtItsEnd, IsAtRest, RunsOn}
 use Rattle.miner_core.specs.Engines.{engine_left, with_words, Rests}
@@ -444,7 +444,7 @@ held_grow gone held held2 more before after later first second grown =
     sym (drop-append_seam gone held2) ∙ ap (drop (length gone)) all ∙ drop-append_seam gone (held ++ (more ++ later))
 
 module _
-    {P : Type 0} (i : Number) (past : Past) (e e2 : Engine P) (at at2 : Rest) (ahead : ℕ) (x : Story) (l : Link) (m : List ℕ) (s t : TapesState)
+    {P : Type 0} (i : Number) (past : Past) (e e2 : Engine P) (at at2 : Standing) (ahead : ℕ) (x : Story) (l : Link) (m : List ℕ) (s t : TapesState)
     (h : IsAtRest i past e at ahead x) (d : Delivers i at2 l m e e2 s t) where
   -- the words that were drawn are enough
   abbrev begun : Story
@@ -497,7 +497,7 @@ received_budget i s l m = by_link (same_link (from_previous i) l)
 -- the engine has gone on with it, and may then have let go what is done with
 module _
     {P : Type 0} (i : Number) (m : MinerSeen P) (w : MinerState) (is : IsOf i m w) (going : w.stream.lost ≡ None) (l : Link) (words : List ℕ)
-    (e2 e3 : Engine P) (at2 : Rest) (s t : TapesState) (d : Delivers i at2 l words m.engine e2 s t) (lighter : IsLighter e2 e3)
+    (e2 e3 : Engine P) (at2 : Standing) (s t : TapesState) (d : Delivers i at2 l words m.engine e2 s t) (lighter : IsLighter e2 e3)
     (little : m.past ≡ Needed → HoldsLittle e3) (same : m.past ≡ All → e3 ≡ e2) (ahead : ℕ) (left : ahead ≡ left_for i t) where
   abbrev then_stream : StreamState
   then_stream = then_state i w.stream l words d.taken ahead
@@ -557,7 +557,7 @@ module _
 
 pub made_so :
     {P : Type 0} (i : Number) (task : Task) (dealt : Values) (first : List ℕ) (budget : ℕ) (past : Kept) (s t : TapesState) (e e2 e3 : Engine P)
-    (at : Rest) (ahead : ℕ) → story_of e budget ≡ start_of task dealt first budget →
+    (at : Standing) (ahead : ℕ) → story_of e budget ≡ start_of task dealt first budget →
     ((more : List ℕ) → Leads i (with_words e more) (start_of task dealt (first ++ more) budget)) → (runs : RunsOn i at e e2 s t) →
     IsLighter e2 e3 → (past ≡ Needed → HoldsLittle e3) → (past ≡ All → e3 ≡ e2) → ahead ≡ left_for i t →
     IsMadeSo i task dealt first budget past s t

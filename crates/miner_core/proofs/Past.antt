@@ -11,16 +11,16 @@ use Rattle.block_steps.specs.declared.links.Links.{Links}
 use Rattle.block_steps.specs.Inboxes.{LetsGo}
 use Rattle.block_steps.specs.Outcomes.{Outcome, outcome, mail_left, HasNoneOf, StandsAt, AwaitsOn}
 use Rattle.block_steps.proofs.Inboxes.{holds_none}
-use Rattle.gate_node.specs.OwnGates.{Halted}
+use Rattle.gate_node.specs.OwnGates.{GatesEnd}
 use Rattle.gate_node.specs.Nodes as node
 use Rattle.gate_node.specs.Plans.{then_wanted}
 use Rattle.gate_node.specs.declared.engine.Engine as gates
-use Rattle.gate_node.specs.declared.engine.Work.{Work}
-use Rattle.gate_node.specs.declared.engine.Work.TheVariants.{Idle, Between, Within, Halt}
+use Rattle.gate_node.specs.declared.engine.AtWork.{AtWork}
+use Rattle.gate_node.specs.declared.engine.AtWork.TheVariants.{Idle, Between, Within}
 use Rattle.own_code.specs.OwnCode.{Ended}
 use Rattle.miner_core.specs.declared.engine.Engine.{Engine}
-use Rattle.miner_core.specs.declared.rest.Rest.{Rest}
-use Rattle.miner_core.specs.declared.rest.Rest.TheVariants.{Through, Waits as AtWait, Stuck as AtStuck}
+use Rattle.gate_node.specs.declared.standing.Standing.{Standing}
+use Rattle.gate_node.specs.declared.standing.Standing.TheVariants.{Through, Waits as AtWait, Unfit as NotFit, Wants as WantsMore}
 use Rattle.miner_core.specs.Drawing.{IsAtRest}
 use Rattle.miner_core.specs.Engines.{behind_node, engine_left, engine_outcome, engine_told, shown, with_words, IsQuiet, IsSound, IsSoundAlways, Rests}
 use Rattle.miner_core.specs.Past.{Past, sent_before, with_past, with_inboxes, IsLighter, HoldsLittle}
@@ -37,11 +37,10 @@ module _
   abbrev other : Engine P
   other = record e { node = other_node }
 
-  work_same : (w : Work P) → node.work_left i other_node w ≡ node.work_left i e.node w
+  work_same : (w : AtWork P) → node.work_left i other_node w ≡ node.work_left i e.node w
   work_same Idle = refl
   work_same (Between r) = refl
   work_same (Within r block) = refl
-  work_same Halt = refl
 
   node_left : node.engine_left i other_node ≡ node.engine_left i e.node
   node_left = ap (then_wanted i e.node.dealt e.node.wanted) (work_same e.node.work)
@@ -66,14 +65,15 @@ module _
   sound_same : IsSound i e → IsSound i other
   sound_same sound = record { stands = sound.stands; quiet = quiet_same sound.quiet }
 
-  stands_same : (cause : Option BadMessage) (s : Strand Halted) → StandsAt i e.node.links cause s → StandsAt i l cause s
+  stands_same : (cause : Option BadMessage) (s : Strand GatesEnd) → StandsAt i e.node.links cause s → StandsAt i l cause s
   stands_same cause (Ends a) h = h
   stands_same cause (Acts act s) h = h
   stands_same cause (Waits link shape k) h = subst (λ (x : Mail). HasNoneOf shape cause (x link)) (sym mail) h
 
-  rests_same : (r : Rest) → Rests i r e → Rests i r other
+  rests_same : (r : Standing) → Rests i r e → Rests i r other
   rests_same Through h = record { node = node_left ∙ h.node; over = h.over }
-  rests_same AtStuck h = record { node = node_left ∙ h.node; over = h.over }
+  rests_same NotFit h = record { node = node_left ∙ h.node; over = h.over }
+  rests_same (WantsMore count) h = record { node = node_left ∙ h.node; over = h.over }
   rests_same (AtWait link cause) h =
       record {
         node = (
@@ -118,7 +118,7 @@ module _ {P : Type 0} (i : Number) (past : Past) where
   pub sound_past : (e : Engine P) → IsSound i e → IsSound i (with_past past e)
   sound_past e sound = sound_same i e (sent_before past e.node.links) e.node.tape.0 refl sound
 
-  pub rests_past : (e : Engine P) (r : Rest) → Rests i r e → Rests i r (with_past past e)
+  pub rests_past : (e : Engine P) (r : Standing) → Rests i r e → Rests i r (with_past past e)
   rests_past e r rests = rests_same i e (sent_before past e.node.links) e.node.tape.0 refl r rests
 
 -- ---- it lets go what was taken and drawn
@@ -156,7 +156,7 @@ module _ {P : Type 0} (i : Number) (e e2 : Engine P) (lighter : IsLighter e e2) 
         told = told_same i all l words mail_same ∙ leads.told;
       })
 
-  pub at_rest_lighter : (past : Past) (at : Rest) (ahead : ℕ) (s : Story) → IsAtRest i past e at ahead s → IsAtRest i past e2 at ahead s
+  pub at_rest_lighter : (past : Past) (at : Standing) (ahead : ℕ) (s : Story) → IsAtRest i past e at ahead s → IsAtRest i past e2 at ahead s
   at_rest_lighter past at ahead s h =
       record {
         sound = sound_lighter h.sound;
@@ -181,7 +181,7 @@ module _
       ap (λ (ms : List (List ℕ) × List (List ℕ)). mail_of i ms.1 l.from_next.1) previous
       ∙ ap (λ (ms : List (List ℕ) × List (List ℕ)). mail_of i e.node.links.from_previous.1 ms.1) next
 
-  pub at_rest_less : (at : Rest) (ahead : ℕ) (s : Story) → IsAtRest i past e at ahead s → IsAtRest i past2 left_with_less at ahead s
+  pub at_rest_less : (at : Standing) (ahead : ℕ) (s : Story) → IsAtRest i past e at ahead s → IsAtRest i past2 left_with_less at ahead s
   at_rest_less at ahead s h =
       record {
         sound =
@@ -198,7 +198,7 @@ module _
 
 -- those to the next miner
 pub at_rest_next :
-    {P : Type 0} (i : Number) (past : Past) (e : Engine P) (at : Rest) (ahead : ℕ) (s : Story) → IsAtRest i past e at ahead s →
+    {P : Type 0} (i : Number) (past : Past) (e : Engine P) (at : Standing) (ahead : ℕ) (s : Story) → IsAtRest i past e at ahead s →
     IsAtRest i (record past { to_next = past.to_next ++ e.node.links.to_next })
     (record e { node = node.with_links e.node (record e.node.links { to_next = [] }) }) at ahead s
 at_rest_next i past e at ahead s h =
@@ -208,7 +208,7 @@ at_rest_next i past e at ahead s h =
 
 -- those to the previous miner
 pub at_rest_previous :
-    {P : Type 0} (i : Number) (past : Past) (e : Engine P) (at : Rest) (ahead : ℕ) (s : Story) → IsAtRest i past e at ahead s →
+    {P : Type 0} (i : Number) (past : Past) (e : Engine P) (at : Standing) (ahead : ℕ) (s : Story) → IsAtRest i past e at ahead s →
     IsAtRest i (record past { to_previous = past.to_previous ++ e.node.links.to_previous })
     (record e { node = node.with_links e.node (record e.node.links { to_previous = [] }) }) at ahead s
 at_rest_previous i past e at ahead s h =
@@ -218,7 +218,7 @@ at_rest_previous i past e at ahead s h =
 
 -- the first of those to the next miner
 pub at_rest_next_first :
-    {P : Type 0} (i : Number) (count : ℕ) (past : Past) (e : Engine P) (at : Rest) (ahead : ℕ) (s : Story) → IsAtRest i past e at ahead s →
+    {P : Type 0} (i : Number) (count : ℕ) (past : Past) (e : Engine P) (at : Standing) (ahead : ℕ) (s : Story) → IsAtRest i past e at ahead s →
     IsAtRest i (record past { to_next = past.to_next ++ take count e.node.links.to_next })
     (record e { node = node.with_links e.node (record e.node.links { to_next = drop count e.node.links.to_next }) }) at ahead s
 at_rest_next_first i count past e at ahead s h =
@@ -231,7 +231,7 @@ at_rest_next_first i count past e at ahead s h =
 
 -- the first of those to the previous miner
 pub at_rest_previous_first :
-    {P : Type 0} (i : Number) (count : ℕ) (past : Past) (e : Engine P) (at : Rest) (ahead : ℕ) (s : Story) → IsAtRest i past e at ahead s →
+    {P : Type 0} (i : Number) (count : ℕ) (past : Past) (e : Engine P) (at : Standing) (ahead : ℕ) (s : Story) → IsAtRest i past e at ahead s →
     IsAtRest i (record past { to_previous = past.to_previous ++ take count e.node.links.to_previous })
     (record e { node = node.with_links e.node (record e.node.links { to_previous = drop count e.node.links.to_previous }) }) at ahead s
 at_rest_previous_first i count past e at ahead s h =

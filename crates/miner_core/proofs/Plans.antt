@@ -16,7 +16,7 @@ use Rattle.driven_nodes.proofs.Telling.{silent_run}
 use Rattle.bytecode.specs.Raw.{RawCode}
 use Rattle.code_machine.specs.Views.{machine_seen}
 use Rattle.block_steps.specs.Outcomes.{mail_left}
-use Rattle.gate_node.specs.OwnGates.{Halted, Whole, Stuck, own_gates}
+use Rattle.gate_node.specs.OwnGates.{GatesEnd, Whole, Stuck, own_gates}
 use Rattle.gate_node.specs.Plans.{with_these}
 use Rattle.gate_node.specs.Nodes as node
 use Rattle.gate_node.specs.declared.engine.Engine as gates
@@ -49,13 +49,13 @@ module _ {P : Type 0} (i : Number) (e : Engine P) (n : gates.Engine P) (numbers 
       (subst (λ m. IsTrue (contains nat_cmp numbers (m - 1))) many last)
       (λ k h. let here : 0 + k ≡ k = omega arith in kept_value numbers 0 all k (ap (contains nat_cmp numbers) here ∙ h))
 
-  abbrev behind : Halted → Strand Ended
+  abbrev behind : GatesEnd → Strand Ended
   behind h = forgetting (behind_node i e e.at h)
 
-  abbrev behind_planned : Halted → Strand Ended
+  abbrev behind_planned : GatesEnd → Strand Ended
   behind_planned h = forgetting (behind_node i planned e.at (with_these numbers h))
 
-  comes_alike : (h : Halted) → HasBehind values (made_by_all rest) h → behind_planned h ≡ behind h
+  comes_alike : (h : GatesEnd) → HasBehind values (made_by_all rest) h → behind_planned h ≡ behind h
   comes_alike (Whole all t) h =
       ap (λ v. behind_planned (Whole v t)) h.1
       ∙ goes_alike i e n e.letting (values ++ h.0) (kept_only numbers (values ++ h.0)) dealt (held h.0 h.2) t e.at leads
@@ -67,7 +67,7 @@ module _ {P : Type 0} (i : Number) (e : Engine P) (n : gates.Engine P) (numbers 
 
   pub planned_left : forgetting (engine_left i planned) ≡ forgetting (engine_left i e)
   planned_left =
-      let s : Strand Halted = node.engine_left i e.node in
+      let s : Strand GatesEnd = node.engine_left i e.node in
       ap (λ v. forgetting (then_do v (behind_node i planned e.at))) left
       ∙ ap forgetting (then-assoc s (λ h. Ends (with_these numbers h)) (behind_node i planned e.at))
       ∙ then-assoc s (λ h. behind_node i planned e.at (with_these numbers h)) (λ x. Ends (forgotten x))
@@ -78,8 +78,8 @@ module _ {P : Type 0} (i : Number) (e : Engine P) (n : gates.Engine P) (numbers 
 pub plan_quiet :
     {P : Type 0} (i : Number) (n n2 : gates.Engine P) (numbers : BTreeSet ℕ) (count : ℕ) → node.IsPlanOf i numbers count n n2 → IsQuietAlways i n2
 plan_quiet i n n2 numbers count plan = λ more mail.
-    let s : Strand Halted = own_gates i n.dealt (node.gates_left i n) n.values (n.tape.1 ++ more) in
-    let end : Halted → Strand Halted = λ h. Ends (with_these numbers h) in
+    let s : Strand GatesEnd = own_gates i n.dealt (node.gates_left i n) n.values (n.tape.1 ++ more) in
+    let end : GatesEnd → Strand GatesEnd = λ h. Ends (with_these numbers h) in
     ap (λ v. told_in (run v (added (mail_left i n2.links) mail)).acts) (plan.left more ∙ ap (λ v. then_do v end) (plan.gates more))
     ∙ silent_run (then_do s end) (added (mail_left i n2.links) mail)
     (silent_then s end (silent_own i n.dealt (node.gates_left i n) n.values (n.tape.1 ++ more)) (λ h. tt))

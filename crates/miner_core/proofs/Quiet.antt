@@ -17,13 +17,13 @@ use Rattle.block_steps.specs.Outcomes.{outcome_of, mail_left, IsStill}
 use Rattle.block_steps.proofs.Behind.{still-is}
 use Rattle.gate_node.specs.declared.wanted.Wanted.{Wanted}
 use Rattle.gate_node.specs.declared.wanted.Wanted.TheVariants.{All, These}
-use Rattle.gate_node.specs.OwnGates.{Halted, Whole, Stuck, own_gate, own_draws, can_run, own_gates, then_gates}
+use Rattle.gate_node.specs.OwnGates.{GatesEnd, Whole, Stuck, own_gate, own_draws, can_run, own_gates, then_gates}
 use Rattle.gate_node.specs.Plans.{with_these, then_wanted}
 use Rattle.gate_node.specs.Nodes as node
 use Rattle.gate_node.specs.declared.engine.Engine as gates
-use Rattle.miner_core.specs.declared.rest.Rest.{Rest}
-use Rattle.miner_core.specs.declared.rest.Rest.TheVariants.{Through, Waits as AtWait, Stuck as AtStuck}
-use Rattle.miner_core.specs.Engines.{gates_stand, IsQuiet}
+use Rattle.gate_node.specs.declared.standing.Standing.{Standing}
+use Rattle.gate_node.specs.declared.standing.Standing.TheVariants.{Through, Waits as AtWait, Unfit as NotFit, Wants as WantsMore}
+use Rattle.miner_core.specs.Engines.{IsQuiet}
 
 -- ---- own gates
 
@@ -47,11 +47,11 @@ silent_own i dealt (gate ∷ gates) values tape =
     by_test false more = tt
 
 -- and what comes after a plan
-silent_behind : (i : Number) (dealt : Values) (gates : List Gate) (h : Halted) → IsSilent (then_gates i dealt gates h)
+silent_behind : (i : Number) (dealt : Values) (gates : List Gate) (h : GatesEnd) → IsSilent (then_gates i dealt gates h)
 silent_behind i dealt gates (Whole values tape) = silent_own i dealt gates values tape
 silent_behind i dealt gates Stuck = tt
 
-silent_wanted : (i : Number) (dealt : Values) (w : Wanted) (s : Strand Halted) → IsSilent s → IsSilent (then_wanted i dealt w s)
+silent_wanted : (i : Number) (dealt : Values) (w : Wanted) (s : Strand GatesEnd) → IsSilent s → IsSilent (then_wanted i dealt w s)
 silent_wanted i dealt All s h = h
 silent_wanted i dealt (These numbers later) s h =
     silent_then s (λ end. then_gates i dealt later.items (with_these numbers end)) h (λ end. silent_behind i dealt later.items (with_these numbers end))
@@ -74,7 +74,7 @@ pub quiet_wanted :
     (i : Number) (dealt : Values) (w : Wanted) (gates : List Gate) (values : Values) (tape : List ℕ) (x : Mail) →
     QuietAt (then_wanted i dealt w (own_gates i dealt gates values tape)) x
 quiet_wanted i dealt w gates values tape x = λ more.
-    let s : Strand Halted = own_gates i dealt gates values tape in
+    let s : Strand GatesEnd = own_gates i dealt gates values tape in
     silent_run (then_wanted i dealt w s) (added x more) (silent_wanted i dealt w s (silent_own i dealt gates values tape))
 
 quiet_now : {A : Type 0} (s : Strand A) (x : Mail) → QuietAt s x → told_in (run s x).acts ≡ []
@@ -98,11 +98,12 @@ quiet_kept i l l2 s s2 same still h =
 
 -- after a call that goes as far as the messages lead
 pub node_quiet :
-    {P : Type 0} (i : Number) (n n2 : gates.Engine P) (at : Rest) → node.engine_outcome i n2 ≡ node.engine_outcome i n → node.EngineStands i
-    (gates_stand at) n2 →
+    {P : Type 0} (i : Number) (n n2 : gates.Engine P) (at : Standing) → node.engine_outcome i n2 ≡ node.engine_outcome i n → node.EngineStands i
+    (node.settled at) n2 →
     IsQuiet i n → IsQuiet i n2
 node_quiet i n n2 Through same h quiet = subst (λ s. QuietAt s (mail_left i n2.links)) (sym h) (λ more. refl)
-node_quiet i n n2 AtStuck same h quiet = subst (λ s. QuietAt s (mail_left i n2.links)) (sym h) (λ more. refl)
+node_quiet i n n2 NotFit same h quiet = subst (λ s. QuietAt s (mail_left i n2.links)) (sym h) (λ more. refl)
+node_quiet i n n2 (WantsMore count) same h quiet = subst (λ s. QuietAt s (mail_left i n2.links)) (sym h) (λ more. refl)
 node_quiet i n n2 (AtWait link cause) same h quiet =
     quiet_kept i n.links n2.links (node.engine_left i n) (node.engine_left i n2) same (still-is i n2.links cause (node.engine_left i n2) h.0) quiet
 

@@ -2,16 +2,19 @@
 use Rattle.std.proofs.Common.{◌≡◌, ◌≤◌, ℕ, ◌+◌, List, [], ◌++◌, length, true, refl, sym, subst, ◌∙◌, ap, append_assoc, length-append, arith}
 use Rattle.std.proofs.lemmas.Result.{MatchResult-weaker}
 use Rattle.std.specs.Prelude.{Result, Err, IfErr}
-use Rattle.outside.specs.declared.error.Failed.{Failed}
-use Rattle.outside.specs.Causes.{Rose, HasLinkCause, IsSteadyLink}
+use Rattle.outside.specs.Causes.{Rose}
 use Rattle.outside.specs.Files.{FilesState, OnlyRead}
 use Rattle.outside.specs.Tapes.{TapesState, Drew, SameTape, SameTapes, StandsStill, faults_of}
 use Rattle.proto_core.specs.declared.party.Number.{Number}
 use Rattle.proto_core.specs.declared.party.Number.TheVariants.{One, Two, Three}
 use Rattle.proto_core.specs.Parties.{count_of}
+use Rattle.gate_node.specs.declared.supply_err.SupplyErr.{SupplyErr}
+use Rattle.gate_node.specs.declared.supply_err.SupplyErr.TheVariants as refused
+use Rattle.gate_node.specs.Supplies.{IsUnsupplied}
 use Rattle.miner_core.specs.declared.answer.Lost.{Lost}
 use Rattle.miner_core.specs.declared.answer.Lost.TheVariants as lost
 use Rattle.miner_core.specs.Drawing.{HasDrawn, IsLostBy, Draws}
+use Rattle.miner_core.specs.Unsupplied.{lost_by}
 
 pub party-small : (i : Number) → count_of i ≤ 3
 party-small One = omega arith
@@ -119,16 +122,14 @@ draws_none {A} i a r is =
       still = λ s. s;
     }
 
--- a call that failed, of which the source counted a fault
-pub draws_failed :
-    {A B : Type 0} (i : Number) (a b : TapesState) (d : Failed) (r : Result A Lost) → r ≡ Err lost.TapeFault → SameTapes a b →
-    HasLinkCause {T = B} (faults_of a) (faults_of b) (Err d) → (a.steady ≡ true → IsSteadyLink {T = B} (faults_of a) (faults_of b) (Err d) ⊥) →
+-- no words were supplied, for this cause
+pub draws_unsupplied :
+    {A : Type 0} (i : Number) (a b : TapesState) (e : SupplyErr) (r : Result A Lost) → r ≡ Err (lost_by e) → IsUnsupplied a b e →
     (a.steady ≡ true → b.steady ≡ true) → Draws i a b r
-draws_failed {A} {B} i a b d r is same cause steady still =
+draws_unsupplied {A} i a b refused.Memory r is same still = subst (λ t. Draws i a t r) (sym same) (draws_none i a r is)
+draws_unsupplied {A} i a b refused.Failed r is fault still =
     record {
-      drawn = drawn_same i a b same;
-      lost =
-          subst (λ (q : Result A Lost). IfErr q (IsLostBy a b)) (sym is)
-          (record { rose = cause.failed; unsteady = λ s. (steady s).failed });
+      drawn = drawn_same i a b fault.same;
+      lost = subst (λ (q : Result A Lost). IfErr q (IsLostBy a b)) (sym is) (record { rose = fault.rose; unsteady = fault.unsteady });
       still = still;
     }

@@ -13,19 +13,19 @@ use Rattle.own_code.specs.Places.{Place, place}
 use Rattle.driven_nodes.specs.Steps.{Running, Stopped, Short}
 use Rattle.block_steps.specs.declared.links.Links.{Links}
 use Rattle.block_steps.specs.Outcomes.{Outcome, StandsAt}
-use Rattle.gate_node.specs.OwnGates.{Halted}
+use Rattle.gate_node.specs.OwnGates.{GatesEnd}
 use Rattle.gate_node.specs.Nodes as node
 use Rattle.miner_core.specs.declared.engine.At.{At}
 use Rattle.miner_core.specs.declared.engine.At.TheVariants as at
 use Rattle.miner_core.specs.declared.engine.Engine.{Engine}
-use Rattle.miner_core.specs.declared.rest.Rest.{Rest}
-use Rattle.miner_core.specs.declared.rest.Rest.TheVariants.{Through, Waits as AtWait, Stuck as AtStuck}
+use Rattle.gate_node.specs.declared.standing.Standing.{Standing}
+use Rattle.gate_node.specs.declared.standing.Standing.TheVariants.{Through, Waits as AtWait, Unfit as NotFit, Wants as WantsMore}
 use Rattle.own_code.specs.EarlierGates.{place_with_gates}
 use Rattle.own_code.specs.OwnCode.{Ended, Reached, Unfit}
 use Rattle.miner_core.specs.Engines.{behind_node, ended_by, ending_at, engine_left, forgetting, goes_on_at, if_ended, IsOver, Rests}
 use Rattle.miner_core.specs.Story.{Story, Follows, at_stop_or, ending_in, cost_in, drawn_in}
 use Rattle.miner_core.specs.Story as story
-use Rattle.miner_core.proofs.Stories.{stuck_ends}
+use Rattle.miner_core.proofs.Stories.{unfit_ends, wants_ends}
 
 -- ---- what is read off a place, whatever its gates are
 
@@ -40,7 +40,7 @@ module _ {A : Type 0} (other : A) (f : Place → A) (ignores : (p : Place) → f
   forgetting_reads (Waits l shape k) = refl
 
   -- nothing is, where a message is awaited
-  waits_reads : (i : Number) (l : Links) (cause : Option BadMessage) (g : Halted → Strand Ended) (s : Strand Halted) → StandsAt i l cause s →
+  waits_reads : (i : Number) (l : Links) (cause : Option BadMessage) (g : GatesEnd → Strand Ended) (s : Strand GatesEnd) → StandsAt i l cause s →
       at_stop_or other f (then_do s g) ≡ other
   waits_reads i l cause g (Ends a) h = absurd h
   waits_reads i l cause g (Acts a s) h = absurd h
@@ -60,13 +60,14 @@ module _ {A : Type 0} (other : A) (f : Place → A) (ignores : (p : Place) → f
     over_reads e (at.Over ending) values tape h = refl
     over_reads e at.Short values tape h = refl
 
-    rest_reads : (e : Engine P) (r : Rest) → Rests i r e → at_stop_or other f (engine_left i e) ≡ read_off e (ending_at r e.at)
+    rest_reads : (e : Engine P) (r : Standing) → Rests i r e → at_stop_or other f (engine_left i e) ≡ read_off e (ending_at r e.at)
     rest_reads e Through h =
         ap (λ s. at_stop_or other f (then_do s (behind_node i e e.at))) h.node ∙ over_reads e e.at e.node.values e.node.tape.1 (h.over refl)
-    rest_reads e AtStuck h = ap (at_stop_or other f) (stuck_ends i e h)
+    rest_reads e NotFit h = ap (at_stop_or other f) (unfit_ends i e h)
+    rest_reads e (WantsMore count) h = ap (at_stop_or other f) (wants_ends i e count h)
     rest_reads e (AtWait link cause) h = waits_reads i e.node.links cause (behind_node i e e.at) (node.engine_left i e.node) h.node.0
 
-    pub stop_is : (e : Engine P) (r : Rest) (s : Story) → Follows i e s → Rests i r e →
+    pub stop_is : (e : Engine P) (r : Standing) (s : Story) → Follows i e s → Rests i r e →
         at_stop_or other f (story.node i s).left ≡ read_off e (ending_at r e.at)
     stop_is e r s follows rests =
         sym (forgetting_reads (story.node i s).left)
@@ -76,7 +77,7 @@ module _ {A : Type 0} (other : A) (f : Place → A) (ignores : (p : Place) → f
 
 -- ---- how the run has ended, its cost, and the words that it has drawn
 
-module _ {P : Type 0} (i : Number) (e : Engine P) (r : Rest) (s : Story) (follows : Follows i e s) (rests : Rests i r e) where
+module _ {P : Type 0} (i : Number) (e : Engine P) (r : Standing) (s : Story) (follows : Follows i e s) (rests : Rests i r e) where
   pub ending_is : ending_in i s ≡ ending_at r e.at
   ending_is = stop_is None (λ p. p.ended) (λ p. refl) i e r s follows rests ∙ same (ending_at r e.at)
     where

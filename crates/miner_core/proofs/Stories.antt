@@ -25,17 +25,17 @@ use Rattle.driven_nodes.specs.Steps.{Running}
 use Rattle.block_steps.specs.declared.links.Links.{Links}
 use Rattle.block_steps.specs.Outcomes.{Outcome, outcome, mail_left, IsStill, HasNoneOf, StandsAt, AwaitsOn, came_from_previous, came_from_next}
 use Rattle.block_steps.proofs.Behind.{still-then, mail-added, kahn-behind, kahn-step}
-use Rattle.gate_node.specs.OwnGates.{Halted, Whole}
+use Rattle.gate_node.specs.OwnGates.{GatesEnd, Whole}
 use Rattle.gate_node.specs.Plans.{then_wanted}
 use Rattle.gate_node.specs.Nodes as node
 use Rattle.gate_node.specs.declared.engine.Engine as gates
-use Rattle.gate_node.specs.declared.engine.Work.{Work}
-use Rattle.gate_node.specs.declared.engine.Work.TheVariants.{Idle, Between, Within, Halt}
+use Rattle.gate_node.specs.declared.engine.AtWork.{AtWork}
+use Rattle.gate_node.specs.declared.engine.AtWork.TheVariants.{Idle, Between, Within}
 use Rattle.miner_core.specs.declared.engine.At.{At}
 use Rattle.miner_core.specs.declared.engine.At.TheVariants as at
 use Rattle.miner_core.specs.declared.engine.Engine.{Engine}
-use Rattle.miner_core.specs.declared.rest.Rest.{Rest}
-use Rattle.miner_core.specs.declared.rest.Rest.TheVariants.{Through, Waits as AtWait, Stuck as AtStuck}
+use Rattle.gate_node.specs.declared.standing.Standing.{Standing}
+use Rattle.gate_node.specs.declared.standing.Standing.TheVariants.{Through, Waits as AtWait, Unfit as NotFit, Wants as WantsMore}
 use Rattle.miner_core.specs.declared.task.Task.{Task}
 use Rattle.own_code.specs.OwnCode.{Ended, Reached, Unfit, own_code}
 use Rattle.miner_core.specs.Views.{notice_seen, task_world, task_code}
@@ -63,7 +63,7 @@ module _ (i : Number) where
   mail_next p n m = sym (mail-added i p n [] (m ∷ []) ∙ ap (λ v. mail_of i v (n ++ m ∷ [])) (append-none p))
 
   -- where a message is awaited
-  module _ (l : Links) (link : Link) (f : Halted → Strand Ended) where
+  module _ (l : Links) (link : Link) (f : GatesEnd → Strand Ended) where
     waits_front : (shape : Shape) (ms : List (List ℕ)) → HasNoneOf shape None ms → before_mail link shape ms ≡ Awaits link
     waits_front shape [] h = refl
     waits_front shape (m ∷ ms) h = absurd h
@@ -72,7 +72,7 @@ module _ (i : Number) where
     refuses_front cause shape [] h = absurd h
     refuses_front cause shape (m ∷ ms) h = ap (λ o. option_map_or (Refuses link) o (Awaits link)) h
 
-    pub waits_is : (s : Strand Halted) → StandsAt i l None s × AwaitsOn link s → standing_with (then_do s f) (mail_left i l) ≡ Awaits link
+    pub waits_is : (s : Strand GatesEnd) → StandsAt i l None s × AwaitsOn link s → standing_with (then_do s f) (mail_left i l) ≡ Awaits link
     waits_is (Ends a) h = absurd h.0
     waits_is (Acts a s) h = absurd h.0
     waits_is (Waits other shape k) h =
@@ -80,7 +80,7 @@ module _ (i : Number) where
         (waits_front shape (mail_left i l link)) h.0
 
     pub refuses_is :
-        (cause : BadMessage) (s : Strand Halted) → StandsAt i l (Some cause) s × AwaitsOn link s
+        (cause : BadMessage) (s : Strand GatesEnd) → StandsAt i l (Some cause) s × AwaitsOn link s
         → standing_with (then_do s f) (mail_left i l) ≡ Refuses link cause
     refuses_is cause (Ends a) h = absurd h.0
     refuses_is cause (Acts a s) h = absurd h.0
@@ -97,7 +97,7 @@ module _ (i : Number) where
         fault_no_end (Some cause) e = not_at_end_refuses link cause e
 
     pub goes :
-        (cause : Option BadMessage) (s : Strand Halted) → StandsAt i l cause s × AwaitsOn link s → standing_with (then_do s f) (mail_left i l) ≢ AtItsEnd
+        (cause : Option BadMessage) (s : Strand GatesEnd) → StandsAt i l cause s × AwaitsOn link s → standing_with (then_do s f) (mail_left i l) ≢ AtItsEnd
     goes cause (Ends a) h e = h.0
     goes cause (Acts a s) h e = h.0
     goes cause (Waits other shape k) h e =
@@ -131,18 +131,22 @@ module _ {P : Type 0} (i : Number) where
       subst (λ s. HasEnded (then_do s (behind_node i e e.at)) (end_by e.at)) (sym h.node)
       (over_has_ended e e.at e.node.values e.node.tape.1 (h.over refl))
 
-  pub stuck_ends : (e : Engine P) → Rests i AtStuck e → engine_left i e ≡ Ends Unfit
-  stuck_ends e h = ap (λ s. then_do s (behind_node i e e.at)) h.node
+  pub unfit_ends : (e : Engine P) → Rests i NotFit e → engine_left i e ≡ Ends Unfit
+  unfit_ends e h = ap (λ s. then_do s (behind_node i e e.at)) h.node
 
-  rests_still : (e : Engine P) (s : Rest) → Rests i s e → IsStill i e.node.links (engine_left i e)
+  pub wants_ends : (e : Engine P) (count : ℕ) → Rests i (WantsMore count) e → engine_left i e ≡ Ends Unfit
+  wants_ends e count h = ap (λ s. then_do s (behind_node i e e.at)) h.node
+
+  rests_still : (e : Engine P) (s : Standing) → Rests i s e → IsStill i e.node.links (engine_left i e)
   rests_still e Through h = subst (λ v. IsStill i e.node.links v) (sym (through_ends e h).1) refl
-  rests_still e AtStuck h = subst (λ v. IsStill i e.node.links v) (sym (stuck_ends e h)) refl
+  rests_still e NotFit h = subst (λ v. IsStill i e.node.links v) (sym (unfit_ends e h)) refl
+  rests_still e (WantsMore count) h = subst (λ v. IsStill i e.node.links v) (sym (wants_ends e count h)) refl
   rests_still e (AtWait link cause) h = still-then i e.node.links cause (node.engine_left i e.node) (behind_node i e e.at) h.node.0
 
   abbrev of_lists : (e : Engine P) → (n p : List (List ℕ)) → (o : List ℕ) → Outcome Ended
   of_lists e n p o = record { to_next = n; to_previous = p; opened = o; left = engine_left i e; unread = mail_left i e.node.links }
 
-  standing_is : (e : Engine P) (s : Rest) → Rests i s e → standing i e ≡ engine_outcome i e
+  standing_is : (e : Engine P) (s : Standing) → Rests i s e → standing i e ≡ engine_outcome i e
   standing_is e s h =
       let l = e.node.links in
       sym (ap (outcome i l.to_next l.to_previous l.opened.items) (rests_still e s h)
@@ -150,12 +154,12 @@ module _ {P : Type 0} (i : Number) where
       ∙ ap (λ v. of_lists e l.to_next v (l.opened.items ++ [])) (append-none l.to_previous)
       ∙ ap (λ v. of_lists e l.to_next l.to_previous v) (append-none l.opened.items))
 
-  told_is : (e : Engine P) (s : Rest) → Rests i s e → map notice_seen e.notices.items ≡ engine_told i e
+  told_is : (e : Engine P) (s : Standing) → Rests i s e → map notice_seen e.notices.items ≡ engine_told i e
   told_is e s h =
       sym (ap (λ r. map notice_seen e.notices.items ++ told_in r.acts) (rests_still e s h) ∙ append-none (map notice_seen e.notices.items))
 
   -- an engine that rests is where its story leads
-  pub follows : (e : Engine P) (s : Story) (at : Rest) → Leads i e s → Rests i at e → Follows i e s
+  pub follows : (e : Engine P) (s : Story) (at : Standing) → Leads i e s → Rests i at e → Follows i e s
   follows e s at leads rests =
       record {
         sound = leads.sound;
@@ -165,13 +169,12 @@ module _ {P : Type 0} (i : Number) where
 
   -- ---- a message comes
 
-  work_same : (n : gates.Engine P) (l : Links) (w : Work P) → node.work_left i (record n { links = l }) w ≡ node.work_left i n w
+  work_same : (n : gates.Engine P) (l : Links) (w : AtWork P) → node.work_left i (record n { links = l }) w ≡ node.work_left i n w
   work_same n l Idle = refl
   work_same n l (Between r) = refl
   work_same n l (Within r block) = refl
-  work_same n l Halt = refl
 
-  links_same : (n : gates.Engine P) (l : Links) (w : Work P) → node.left_at i (record n { links = l }) w ≡ node.left_at i n w
+  links_same : (n : gates.Engine P) (l : Links) (w : AtWork P) → node.left_at i (record n { links = l }) w ≡ node.left_at i n w
   links_same n l w = ap (then_wanted i n.dealt n.wanted) (work_same n l w)
 
   -- its gates tell nothing, with these messages more

@@ -20,7 +20,7 @@ use Rattle.miner_core.specs.declared.answer.MinerErr.{MinerErr}
 use Rattle.miner_core.specs.declared.answer.Lost.{Lost}
 use Rattle.miner_core.specs.declared.answer.MinerErr.TheVariants as error
 use Rattle.miner_core.specs.declared.engine.Engine.{Engine}
-use Rattle.miner_core.specs.declared.rest.Rest.{Rest}
+use Rattle.gate_node.specs.declared.standing.Standing.{Standing}
 use Rattle.miner_core.specs.declared.task.Task.{Task}
 use Rattle.miner_core.specs.Engines.{engine_left, ending_at, if_ended, with_words, Rests}
 use Rattle.miner_core.specs.Drawing.{left_for, Delivers, IsAtRest, IsAtItsEnd}
@@ -51,7 +51,7 @@ IsNotAwaited r l = r ≡ Err (error.NotAwaited l)
 
 -- while it is of use it rests so, with what it has let go of what it had sent
 module _
-    {P : Type 0} (i : Number) (past : Past) (e : Engine P) (at : Rest) (w : StreamState)
+    {P : Type 0} (i : Number) (past : Past) (e : Engine P) (at : Standing) (w : StreamState)
     (rests : w.lost ≡ None → IsAtRest i past e at w.ahead (story_in_use w)) where
   -- what follows where it follows a story, for each that it may have
   module _
@@ -149,7 +149,7 @@ then_state i w l m taken ahead = record w { story = record (received i w.story l
 
 module _ {P : Type 0} (i : Number) (w : StreamState) (l : Link) (m : List ℕ) where
   pub at_rest_then :
-      (past : Past) (e e2 : Engine P) (at at2 : Rest) (s t : TapesState) → IsAtRest i past e at w.ahead (story_in_use w) →
+      (past : Past) (e e2 : Engine P) (at at2 : Standing) (s t : TapesState) → IsAtRest i past e at w.ahead (story_in_use w) →
       (d : Delivers i at2 l m e e2 s t) → (ahead : ℕ) → ahead ≡ left_for i t →
       IsAtRest i past e2 at2 ahead (story_in_use (then_state i w l m d.taken ahead))
   at_rest_then past e e2 at at2 s t h d ahead left =
@@ -159,7 +159,7 @@ module _ {P : Type 0} (i : Number) (w : StreamState) (l : Link) (m : List ℕ) w
       (at_rest_after i past e e2 at at2 l m w.ahead (story_in_use w) s t h d))
 
   moved :
-      (past : Past) (e2 : Engine P) (at2 : Rest) (s t : TapesState) (taken : List ℕ) (ahead : ℕ) (r : Result Step MinerErr) → w.lost ≡ None →
+      (past : Past) (e2 : Engine P) (at2 : Standing) (s t : TapesState) (taken : List ℕ) (ahead : ℕ) (r : Result Step MinerErr) → w.lost ≡ None →
       Drew s t (count_of i) taken → left_for i t ≡ ahead → IsAtRest i past e2 at2 ahead (story_in_use (then_state i w l m taken ahead)) →
       ((more : List ℕ) → Rests i at2 (with_words e2 more) →
       IsAnswerOf (engine_left i (with_words e2 more)) (mail_left i e2.node.links) r) →
@@ -177,7 +177,7 @@ module _ {P : Type 0} (i : Number) (w : StreamState) (l : Link) (m : List ℕ) w
       }
 
   pub answers_moved :
-      (past : Past) (e2 : Engine P) (at2 : Rest) (s t : TapesState) (taken : List ℕ) (ahead : ℕ) (r : Result Step MinerErr) → w.lost ≡ None →
+      (past : Past) (e2 : Engine P) (at2 : Standing) (s t : TapesState) (taken : List ℕ) (ahead : ℕ) (r : Result Step MinerErr) → w.lost ≡ None →
       Drew s t (count_of i) taken → left_for i t ≡ ahead → IsAtRest i past e2 at2 ahead (story_in_use (then_state i w l m taken ahead)) →
       ((more : List ℕ) → Rests i at2 (with_words e2 more) →
       IsAnswerOf (engine_left i (with_words e2 more)) (mail_left i e2.node.links) r) → IsOfMessage r →

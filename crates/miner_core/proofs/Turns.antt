@@ -17,7 +17,7 @@ use Rattle.driven_nodes.specs.Steps.{Went, place_of, stand_of, gained, last_of}
 use Rattle.own_code.specs.Places.{Place, step_told, notices_between, next_step, told_by, where_made}
 use Rattle.block_steps.specs.declared.links.Links.{Links}
 use Rattle.block_steps.specs.Outcomes.{outcome, outcome_of, mail_left}
-use Rattle.gate_node.specs.OwnGates.{Halted, Whole, Stuck, own_gates, then_gates}
+use Rattle.gate_node.specs.OwnGates.{GatesEnd, Whole, Stuck, own_gates, then_gates}
 use Rattle.gate_node.specs.Nodes as node
 use Rattle.gate_node.proofs.Always.{then-all}
 use Rattle.miner_core.specs.declared.outcome.Turned.{Turned}
@@ -29,8 +29,8 @@ use Rattle.miner_core.proofs.Places.{stage_went}
 use Rattle.miner_core.specs.declared.engine.At.{At}
 use Rattle.miner_core.specs.declared.engine.At.TheVariants as at
 use Rattle.miner_core.specs.declared.engine.Engine.{Engine}
-use Rattle.gate_node.specs.declared.stand.Stand.{Stand}
-use Rattle.gate_node.specs.declared.stand.Stand.TheVariants as stand
+use Rattle.gate_node.specs.declared.standing.Standing.{Standing}
+use Rattle.gate_node.specs.declared.standing.Standing.TheVariants as stand
 use Rattle.miner_core.specs.declared.notice.Notice as said
 use Rattle.own_code.specs.OwnCode.{From, go_on, tell_and_go_on, gates_between, led_by, behind_gates, own_code, Ended}
 use Rattle.miner_core.specs.Views.{task_world, task_code, told_since, notice_seen}
@@ -74,7 +74,7 @@ module _ {P : Type 0} (i : Number) (e e2 : Engine P) where
   IsLed = (values : Values) (tape : List ℕ)
       → goes_on_at i e2 e2.at values tape ≡ tell_and_go_on (code_at e2.fuel) (place_at i e) (led_at values first) values tape
 
-  led_on : IsLed → (h : Halted) → behind_node i e2 e2.at h ≡ behind_gates (task_world e.task) (task_code e.task) (code_at e2.fuel) (place_at i e) first h
+  led_on : IsLed → (h : GatesEnd) → behind_node i e2 e2.at h ≡ behind_gates (task_world e.task) (task_code e.task) (code_at e2.fuel) (place_at i e) first h
   led_on led (Whole values tape) = led values tape
   led_on led Stuck = refl
 
@@ -201,18 +201,18 @@ holds_links e e2 k =
 no_through_waits : (link : Link) (cause : Option BadMessage) → stand.Waits link cause ≡ stand.Through → ⊥
 no_through_waits link cause e = cc
 
-no_through_stuck : stand.Stuck ≡ stand.Through → ⊥
-no_through_stuck e = cc
+no_through_unfit : stand.Unfit ≡ stand.Through → ⊥
+no_through_unfit e = cc
 
 no_through_wants : (count : ℕ) → stand.Wants count ≡ stand.Through → ⊥
 no_through_wants count e = cc
 
-module _ {P : Type 0} (i : Number) (e : Engine P) (s : Stand) where
+module _ {P : Type 0} (i : Number) (e : Engine P) (s : Standing) where
   pub stands_waits : (link : Link) (cause : Option BadMessage) → s ≡ stand.Waits link cause → node.StandsAlways i s e.node → StandsAlways i s e
   stands_waits link cause is h = record { node = h; over = λ other. absurd (no_through_waits link cause (sym is ∙ other)) }
 
-  pub stands_stuck : s ≡ stand.Stuck → node.StandsAlways i s e.node → StandsAlways i s e
-  stands_stuck is h = record { node = h; over = λ other. absurd (no_through_stuck (sym is ∙ other)) }
+  pub stands_unfit : s ≡ stand.Unfit → node.StandsAlways i s e.node → StandsAlways i s e
+  stands_unfit is h = record { node = h; over = λ other. absurd (no_through_unfit (sym is ∙ other)) }
 
   pub stands_wants : (count : ℕ) → s ≡ stand.Wants count → node.StandsAlways i s e.node → StandsAlways i s e
   stands_wants count is h = record { node = h; over = λ other. absurd (no_through_wants count (sym is ∙ other)) }

@@ -7,12 +7,11 @@ use Rattle.proto_core.specs.declared.link.Link.{Link}
 use Rattle.proto_core.specs.Parties.{count_of}
 use Rattle.proto_core.specs.Standing.{AtItsEnd, standing_with}
 use Rattle.block_steps.specs.Outcomes.{mail_left, Holds}
-use Rattle.gate_node.specs.declared.stand.Stand.{Stand}
-use Rattle.gate_node.specs.declared.stand.Stand.TheVariants as stand
+use Rattle.gate_node.specs.declared.standing.Standing.{Standing}
+use Rattle.gate_node.specs.declared.standing.Standing.TheVariants as stand
 use Rattle.miner_core.specs.declared.answer.Lost.{Lost}
 use Rattle.miner_core.specs.declared.answer.Lost.TheVariants as lost
 use Rattle.miner_core.specs.declared.engine.Engine.{Engine}
-use Rattle.miner_core.specs.declared.rest.Rest.{Rest}
 use Rattle.miner_core.specs.Engines.{engine_left, engine_outcome, engine_told, shown, with_words, IsSoundAlways, Rests}
 use Rattle.miner_core.specs.Past.{Past, with_past}
 use Rattle.miner_core.specs.Story.{Story, Leads, received, story_of}
@@ -24,11 +23,11 @@ abbrev pub left_for : Number → TapesState → ℕ
 left_for i s = left_of s (count_of i)
 
 -- so many are left that a gate which wants more can't begin
-abbrev pub IsTooShort : Stand → (left : ℕ) → Type 0
+abbrev pub IsTooShort : Standing → (left : ℕ) → Type 0
 IsTooShort (stand.Wants count) left = left < count
 IsTooShort stand.Through left = Unit {0}
 IsTooShort (stand.Waits link cause) left = Unit {0}
-IsTooShort stand.Stuck left = Unit {0}
+IsTooShort stand.Unfit left = Unit {0}
 
 -- words of this miner's tape were drawn, and no others
 pub record HasDrawn (i : Number) (old new : TapesState) : Type 0 where
@@ -80,13 +79,13 @@ module _ {P : Type 0} (i : Number) where
     pub dealt : after.node.dealt ≡ before.node.dealt
     pub still : old.steady ≡ true → new.steady ≡ true
 
-  -- and so it rests, whatever words come, if no more do than are left
-  pub record RunsOn (rest : Rest) (before after : Engine P) (old new : TapesState) : Type 0 where
+  -- and so it stands, whatever words come, if no more do than are left
+  pub record RunsOn (rest : Standing) (before after : Engine P) (old new : TapesState) : Type 0 where
     pub drew : DrewOn before after old new
     pub rests : (more : List ℕ) → length more ≤ left_for i new → Rests i rest (with_words after more)
 
   -- a message came; what it has done then is what its story leads to, whatever it has let go of what it had sent, and whatever words come
-  pub record Delivers (rest : Rest) (l : Link) (m : List ℕ) (before after : Engine P) (old new : TapesState) : Type 0 where
+  pub record Delivers (rest : Standing) (l : Link) (m : List ℕ) (before after : Engine P) (old new : TapesState) : Type 0 where
     pub taken : List ℕ
     pub drew : Drew old new (count_of i) taken
     pub tape : after.node.tape.0 ≡ before.node.tape.0 ++ taken
@@ -99,7 +98,7 @@ module _ {P : Type 0} (i : Number) where
 
   -- with what it has let go of what it had sent, it has done what this story leads to, whatever words come after those of the story; and so it
   -- rests, where no more do than are ahead
-  pub record IsAtRest (past : Past) (e : Engine P) (rest : Rest) (ahead : ℕ) (s : Story) : Type 0 where
+  pub record IsAtRest (past : Past) (e : Engine P) (rest : Standing) (ahead : ℕ) (s : Story) : Type 0 where
     pub sound : IsSoundAlways i e
     pub leads : (more : List ℕ) → Leads i (with_words (with_past past e) more) (record s { tape = s.tape ++ more })
     pub rests : (more : List ℕ) → length more ≤ ahead → Rests i rest (with_words e more)

@@ -13,13 +13,11 @@ use Rattle.driven_nodes.specs.Driven.{telling}
 use Rattle.driven_nodes.specs.Steps.{Stopped, Short, stand_of, last_of}
 use Rattle.own_code.specs.Places.{Place, place, step_told}
 use Rattle.block_steps.specs.Outcomes.{Outcome, outcome_of, mail_left, Holds}
-use Rattle.gate_node.specs.OwnGates.{Halted, Whole, Stuck}
+use Rattle.gate_node.specs.OwnGates.{GatesEnd, Whole, Stuck}
 use Rattle.gate_node.specs.Nodes as node
 use Rattle.gate_node.specs.declared.engine.Engine as gates
-use Rattle.gate_node.specs.declared.stand.Stand as at_gates
-use Rattle.gate_node.specs.declared.stand.Stand.TheVariants as stand
-use Rattle.miner_core.specs.declared.rest.Rest.{Rest}
-use Rattle.miner_core.specs.declared.rest.Rest.TheVariants as rest
+use Rattle.gate_node.specs.declared.standing.Standing as at_gates
+use Rattle.gate_node.specs.declared.standing.Standing.TheVariants as stand
 use Rattle.miner_core.specs.TurnViews.{place_in, went_to}
 use Rattle.miner_core.specs.declared.outcome.Turned.{Turned}
 use Rattle.miner_core.specs.declared.outcome.Turned.TheVariants as turned
@@ -46,21 +44,6 @@ forgetting s = then_do s (λ e. Ends (forgotten e))
 
 abbrev pub shown : Outcome Ended → Outcome Ended
 shown o = record o { left = forgetting o.left }
-
--- ---- where it rests
-
--- where its gates stand then, with the whole tape
-abbrev pub gates_stand : Rest → at_gates.Stand
-gates_stand rest.Through = stand.Through
-gates_stand (rest.Waits link cause) = stand.Waits link cause
-gates_stand rest.Stuck = stand.Stuck
-
--- where it rests whose gates stand so, where no further words come
-abbrev pub rest_of : at_gates.Stand → Rest
-rest_of stand.Through = rest.Through
-rest_of (stand.Waits link cause) = rest.Waits link cause
-rest_of stand.Stuck = rest.Stuck
-rest_of (stand.Wants count) = rest.Stuck
 
 -- ---- what is left
 
@@ -94,7 +77,7 @@ module _ {P : Type 0} (i : Number) where
       Ends (Reached (Stopped (place (Some ending) (machine_seen e.task.code e.machine) (stage_seen e.stage))) values)
   goes_on_at e at.Short values tape = Ends (Reached (Short (place_at e)) values)
 
-  abbrev pub behind_node : Engine P → At → Halted → Strand Ended
+  abbrev pub behind_node : Engine P → At → GatesEnd → Strand Ended
   behind_node e a (Whole values tape) = goes_on_at e a values tape
   behind_node e a Stuck = Ends Unfit
 
@@ -152,13 +135,13 @@ module _ {P : Type 0} (i : Number) where
   IsOver e (at.Over ending) = Unit {0}
   IsOver e at.Short = Unit {0}
 
-  -- where it rests when it can do no more
-  pub record Rests (r : Rest) (e : Engine P) : Type 0 where
-    pub node : node.EngineStands i (gates_stand r) e.node
-    pub over : r ≡ rest.Through → IsOver e e.at
+  -- so it stands when it can do no more, with its whole tape: a gate that wants more words can't begin
+  pub record Rests (s : at_gates.Standing) (e : Engine P) : Type 0 where
+    pub node : node.EngineStands i (node.settled s) e.node
+    pub over : s ≡ stand.Through → IsOver e e.at
 
   -- where it stands whatever words come after; it may want some
-  pub record StandsAlways (s : at_gates.Stand) (e : Engine P) : Type 0 where
+  pub record StandsAlways (s : at_gates.Standing) (e : Engine P) : Type 0 where
     pub node : node.StandsAlways i s e.node
     pub over : s ≡ stand.Through → IsOver e e.at
 
@@ -212,11 +195,12 @@ ended_by (at.Acts t speech before) = None
 ended_by (at.Over ending) = Some ending
 ended_by at.Short = None
 
--- how the run has ended that rests so, if it has
-abbrev pub ending_at : Rest → At → Option Ending
-ending_at rest.Through a = ended_by a
-ending_at (rest.Waits link cause) a = None
-ending_at rest.Stuck a = None
+-- how the run has ended, if it has, where it stands so
+abbrev pub ending_at : at_gates.Standing → At → Option Ending
+ending_at stand.Through a = ended_by a
+ending_at (stand.Waits link cause) a = None
+ending_at stand.Unfit a = None
+ending_at (stand.Wants count) a = None
 
 -- a number of a run that has ended; 0 while it has not
 abbrev pub if_ended : Option Ending → ℕ → ℕ

@@ -7,6 +7,7 @@ pub mod Drawing
 pub mod Streams
 pub mod Miners
 pub mod Laws
+pub mod Unsupplied
 pub use Rattle.own_code.specs.OwnCode
 pub use Rattle.own_code.specs.Places
 pub use Rattle.gate_node.specs.OwnGates

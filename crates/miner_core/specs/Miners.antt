@@ -4,13 +4,13 @@ use Rattle.outside.specs.Tapes.{TapesState}
 use Rattle.proto_core.specs.declared.party.Number.{Number}
 use Rattle.proto_core.specs.declared.link.Link.{Link}
 use Rattle.gates.specs.Clear.{Values}
+use Rattle.gate_node.specs.declared.standing.Standing.{Standing}
 use Rattle.miner_core.specs.declared.answer.Lost.{Lost}
 use Rattle.miner_core.specs.declared.answer.MinerErr.{MinerErr}
 use Rattle.miner_core.specs.declared.answer.Step.{Step}
 use Rattle.miner_core.specs.declared.engine.Engine.{Engine}
 use Rattle.miner_core.specs.declared.kept.Kept.{Kept}
 use Rattle.miner_core.specs.declared.kept.Kept.TheVariants.{All, Needed}
-use Rattle.miner_core.specs.declared.rest.Rest.{Rest}
 use Rattle.miner_core.specs.declared.task.Task.{Task}
 use Rattle.miner_core.specs.Drawing.{IsAtRest}
 use Rattle.miner_core.specs.Past.{Past, no_past, HoldsLittle}
@@ -22,7 +22,7 @@ use Rattle.miner_core.specs.Streams.{StreamState, ForEachTape, story_in_use, IsM
 -- what a miner has
 pub record MinerSeen (P : Type 0) : Type 0 where
   pub engine : Engine P
-  pub rest : Rest
+  pub rest : Standing
   pub budget : ℕ
   pub ahead : ℕ
   pub lost : Option Lost

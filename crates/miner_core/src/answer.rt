@@ -1,7 +1,7 @@
 ghost use Rattle.std.specs.Prelude.{◌≡◌};
 ghost use Rattle.miner_core.specs.declared.answer.Lost.TheVariants as lost;
 
-use outside::Failed;
+use gate_node::SupplyErr;
 use proto_core::{BadMessage, Link};
 use sc_text::Ending;
 use std::alloc::AllocError;
@@ -45,11 +45,16 @@ impl From<AllocError> for Lost {
     }
 }
 
-impl From<Failed> for Lost {
-    ghost from_gives = { λ _ l. l ≡ lost.TapeFault };
+impl From<SupplyErr> for Lost {
+    ghost use Rattle.miner_core.specs.Unsupplied.{lost_by};
 
-    fn from(_: Failed) -> Self {
-        Lost::TapeFault
+    ghost from_gives = { λ e l. l ≡ lost_by e };
+
+    fn from(err: SupplyErr) -> Self {
+        match err {
+            SupplyErr::Memory => Lost::Memory,
+            SupplyErr::Failed => Lost::TapeFault,
+        }
     }
 }
 

@@ -11,10 +11,9 @@ ghost use Rattle.miner_core.specs.Streams.{IsOfMessage};
 use crate::answer::{End, Lost, MinerErr, Step};
 use crate::engine::{At, Engine};
 use crate::letting_go::Letting;
-use crate::rest::Rest;
 use crate::task::Task;
 use code_machine::{most_steps, start};
-use gate_node::GateNode;
+use gate_node::{GateNode, Standing};
 use gates::Values;
 use outside::TapeSource;
 use proto_core::{Link, Party};
@@ -74,26 +73,27 @@ impl<P: Party> Engine<P> {
         link: Link,
         words: &[u64],
         tapes: &mut T,
-    ) -> Result<Rest, Lost>
+    ) -> Result<Standing, Lost>
         requires sound { IsSoundAlways P.me self.old }
         requires few { length words.now ≤ 2048 }
-        ensures delivers { IfOk result (λ rest. Delivers P.me rest link words.now self.old self.new (T.state tapes.old) (T.state tapes.new)) }
+        ensures delivers { IfOk result (λ standing. Delivers P.me standing link words.now self.old self.new (T.state tapes.old) (T.state tapes.new)) }
         ensures draws { Draws P.me (T.state tapes.old) (T.state tapes.new) result }
     {
         self.receive(link, words)?;
-        let rest = self.run_on(tapes)?;
-        Ok(rest)
+        let standing = self.run_on(tapes)?;
+        Ok(standing)
     }
 
     /// Whether it has ended, where it stands so, whatever words come.
-    pub fn is_ended(&self, rest: Rest) -> bool
-        ensures ended { result ≡ true → (more : List ℕ) → Rests P.me rest (with_words self.now more) → IsAtItsEnd P.me self.now more }
-        ensures going { result ≡ false → (more : List ℕ) → Rests P.me rest (with_words self.now more) → IsAtItsEnd P.me self.now more → ⊥ }
+    pub fn is_ended(&self, standing: Standing) -> bool
+        ensures ended { result ≡ true → (more : List ℕ) → Rests P.me standing (with_words self.now more) → IsAtItsEnd P.me self.now more }
+        ensures going { result ≡ false → (more : List ℕ) → Rests P.me standing (with_words self.now more) → IsAtItsEnd P.me self.now more → ⊥ }
     {
-        match rest {
-            Rest::Waits(..) => false,
-            Rest::Through => true,
-            Rest::Stuck => true,
+        match standing {
+            Standing::Waits(..) => false,
+            Standing::Through => true,
+            Standing::Unfit => true,
+            Standing::Wants(_) => true,
         }
     }
 
@@ -118,29 +118,30 @@ impl<P: Party> Engine<P> {
         }
     }
 
-    /// How the run has ended that rests so, if it has.
-    pub fn ending(&self, rest: Rest) -> Option<Ending>
-        ensures { result ≡ ending_at rest self.now.at }
+    /// How the run has ended, if it has, where it stands so.
+    pub fn ending(&self, standing: Standing) -> Option<Ending>
+        ensures { result ≡ ending_at standing self.now.at }
     {
-        match rest {
-            Rest::Through => self.over(),
-            Rest::Waits(..) | Rest::Stuck => None,
+        match standing {
+            Standing::Through => self.over(),
+            Standing::Waits(..) | Standing::Unfit | Standing::Wants(_) => None,
         }
     }
 
     /// What is answered, where it stands so, whatever words come.
-    pub fn answer(&self, rest: Rest) -> Result<Step, MinerErr>
-        ensures stands { (more : List ℕ) → Rests P.me rest (with_words self.now more) →
+    pub fn answer(&self, standing: Standing) -> Result<Step, MinerErr>
+        ensures stands { (more : List ℕ) → Rests P.me standing (with_words self.now more) →
             IsAnswerOf (engine_left P.me (with_words self.now more)) (mail_left P.me self.now.node.links) result }
         ensures of_message { IsOfMessage result }
     {
-        match rest {
-            Rest::Through => {
+        match standing {
+            Standing::Through => {
                 let end = self.end();
                 Ok(Step::Ended(end))
             }
-            Rest::Stuck => Ok(Step::Ended(End::Unfit)),
-            Rest::Waits(link, cause) => match cause {
+            Standing::Unfit => Ok(Step::Ended(End::Unfit)),
+            Standing::Wants(_) => Ok(Step::Ended(End::Unfit)),
+            Standing::Waits(link, cause) => match cause {
                 None => Ok(Step::Waits(link)),
                 Some(cause) => Err(MinerErr::BadMessage { link, cause }),
             },

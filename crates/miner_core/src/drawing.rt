@@ -2,31 +2,30 @@
 ghost use Rattle.std.specs.Prelude.{◌≡◌, ◌≤◌, IfOk, OnOk, IfSome, IfNone};
 ghost use Rattle.proto_core.specs.Parties.{count_of};
 ghost use Rattle.outside.specs.Tapes.{TapesState};
-ghost use Rattle.gate_node.specs.declared.stand.Stand.TheVariants.{Wants};
+ghost use Rattle.gate_node.specs.declared.standing.Standing.TheVariants.{Wants};
 ghost use Rattle.miner_core.specs.Drawing.{left_for, Draws, Supplied, RunsOn, IsTooShort};
 ghost use Rattle.miner_core.specs.Engines.{IsSoundAlways};
 
 use crate::answer::Lost;
 use crate::engine::Engine;
-use crate::rest::{Rest, rest_at};
-use gate_node::Stand;
+use gate_node::Standing;
 use outside::TapeSource;
 use proto_core::Party;
 
-/// How many words are to be drawn where the gates stand so, and so many are left; none where that is too few.
-fn wanted(stand: Stand, left: u64) -> Option<u64>
-    ensures some { IfSome result (λ count. (stand ≡ Wants count) × (count ≤ left)) }
-    ensures none { IfNone result (IsTooShort stand left) }
+/// How many words are to be drawn where the gates stand so: as many as they want, where no fewer than these are `left`.
+fn wanted(standing: Standing, left: u64) -> Option<u64>
+    ensures some { IfSome result (λ count. (standing ≡ Wants count) × (count ≤ left)) }
+    ensures none { IfNone result (IsTooShort standing left) }
 {
-    match stand {
-        Stand::Wants(count) => {
+    match standing {
+        Standing::Wants(count) => {
             if count <= u128::from(left) {
                 Some(count as u64)
             } else {
                 None
             }
         }
-        Stand::Through | Stand::Waits(..) | Stand::Stuck => None,
+        Standing::Through | Standing::Waits(..) | Standing::Unfit => None,
     }
 }
 
@@ -46,30 +45,29 @@ pub(crate) fn words_left<P: Party, T: TapeSource>(tapes: &T) -> u64
 }
 
 impl<P: Party> Engine<P> {
-    /// Draws so many words of its tape, which are supplied to its gates.
+    /// Draws so many words of its tape to the place where its gates take them.
     fn draw<T: TapeSource>(&mut self, count: u64, tapes: &mut T) -> Result<(), Lost>
         requires { count ≤ left_for P.me (T.state tapes.old) }
         ensures supplied { OnOk result (Supplied P.me count self.old self.new (T.state tapes.old) (T.state tapes.new)) }
         ensures draws { Draws P.me (T.state tapes.old) (T.state tapes.new) result }
     {
-        let mut words = vec![in self.alloc; 0u64; count as usize]?;
-        tapes.take(own_party::<P>(), words.as_mut_slice())?;
-        self.node.supply(&words)?;
+        self.node
+            .supply_from(own_party::<P>(), count as usize, tapes)?;
         Ok(())
     }
 
-    /// Does all that the messages and the tape lead to, and answers where it then rests. Words are drawn where a gate wants them that begins, as
-    /// many as it wants; where fewer are left, none is, and the gate is stuck.
-    pub fn run_on<T: TapeSource>(&mut self, tapes: &mut T) -> Result<Rest, Lost>
+    /// Does all that the messages and the tape lead to, and answers where it then stands. Words are drawn where a gate wants them that begins, as
+    /// many as it wants; where fewer are left, none is, and the gate can't begin.
+    pub fn run_on<T: TapeSource>(&mut self, tapes: &mut T) -> Result<Standing, Lost>
         requires sound { IsSoundAlways P.me self.old }
-        ensures runs { IfOk result (λ rest. RunsOn P.me rest self.old self.new (T.state tapes.old) (T.state tapes.new)) }
+        ensures runs { IfOk result (λ standing. RunsOn P.me standing self.old self.new (T.state tapes.old) (T.state tapes.new)) }
         ensures draws { Draws P.me (T.state tapes.old) (T.state tapes.new) result }
     {
         loop {
-            let stand = self.advance()?;
+            let standing = self.advance()?;
             let left = words_left::<P, T>(tapes);
-            let Some(count) = wanted(stand, left) else {
-                return Ok(rest_at(stand));
+            let Some(count) = wanted(standing, left) else {
+                return Ok(standing);
             };
             self.draw(count, tapes)?;
         }

@@ -14,7 +14,7 @@ use crate::stepping::{gates_from, is_done, step_alone, step_told};
 use crate::task::Task;
 use crate::telling::{Told, last_words, told_yet};
 use code_machine::{Machine, coming_step, marked, rewind};
-use gate_node::{GateNode, Stand};
+use gate_node::{GateNode, Standing};
 use proto_core::Party;
 use sc_text::Ending;
 use std::alloc::{AllocError, Global};
@@ -274,7 +274,7 @@ impl<P: Party> Engine<P> {
 
     /// Does all that the messages and the words that were supplied lead to, and answers where it then stands. What it has done, tells, and
     /// does with the messages that are there, is the same before and after, whatever words come.
-    pub fn advance(&mut self) -> Result<Stand, AllocError>
+    pub fn advance(&mut self) -> Result<Standing, AllocError>
         requires sound { IsSoundAlways P.me self.old }
         ensures same { OnOk result (all_shown (outcome_with P.me self.new) ≡ all_shown (outcome_with P.me self.old)) }
         ensures told { OnOk result (told_with P.me self.new ≡ told_with P.me self.old) }
@@ -283,22 +283,22 @@ impl<P: Party> Engine<P> {
         ensures kept { OnOk result (Keeps self.old self.new) }
     {
         loop {
-            let stand = self.gates()?;
-            match stand {
-                Stand::Through => {}
-                Stand::Waits(..) => return Ok(stand),
-                Stand::Stuck => return Ok(stand),
-                Stand::Wants(_) => return Ok(stand),
+            let standing = self.gates()?;
+            match standing {
+                Standing::Through => {}
+                Standing::Waits(..) => return Ok(standing),
+                Standing::Unfit => return Ok(standing),
+                Standing::Wants(_) => return Ok(standing),
             }
             let more = self.turn()?;
             if !more {
-                return Ok(stand);
+                return Ok(standing);
             }
         }
     }
 
     /// The gates that have begun, as far as the messages and the words that were supplied lead.
-    fn gates(&mut self) -> Result<Stand, AllocError>
+    fn gates(&mut self) -> Result<Standing, AllocError>
         requires sound { IsSoundAlways P.me self.old }
         ensures same { OnOk result (outcome_with P.me self.new ≡ outcome_with P.me self.old) }
         ensures told { OnOk result (told_with P.me self.new ≡ told_with P.me self.old) }
@@ -307,7 +307,7 @@ impl<P: Party> Engine<P> {
         ensures kept { OnOk result (Keeps self.old self.new) }
         ensures beside { measure self.new ≡ measure self.old }
     {
-        let stand = self.node.advance()?;
-        Ok(stand)
+        let standing = self.node.advance()?;
+        Ok(standing)
     }
 }

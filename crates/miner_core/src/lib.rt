@@ -18,7 +18,6 @@ mod no_tapes;
 mod notice;
 mod outcome;
 mod plan;
-mod rest;
 mod speech;
 mod step;
 mod stepping;

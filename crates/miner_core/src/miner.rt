@@ -22,8 +22,8 @@ use crate::engine::Engine;
 use crate::kept::Kept;
 use crate::no_tapes::NoTapes;
 use crate::notice::{Notice, shown_words};
-use crate::rest::Rest;
 use crate::task::Task;
+use gate_node::Standing;
 use gates::Values;
 use outside::TapeSource;
 use proto_core::{Link, Messages, Msg, Number, Party};
@@ -47,7 +47,7 @@ const MANY: usize = 16;
 /// Once memory ran out or its tape couldn't be read, it is of no further use: each delivery answers so.
 pub struct Miner<P: Party> {
     engine: Engine<P>,
-    rest: Rest,
+    rest: Standing,
     budget: u64,
     ahead: u64,
     lost: Option<Lost>,

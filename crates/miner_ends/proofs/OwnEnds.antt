@@ -31,7 +31,7 @@ use Rattle.gate_exchanges.specs.declared.exchange.Exchange.{Exchange}
 use Rattle.gate_exchanges.specs.declared.exchange.Exchange.TheVariants.{Product, Splitting, Conversion, Opening, Resharing}
 use Rattle.gate_exchanges.specs.Exchanges.{protocol_of}
 use Rattle.driven_nodes.specs.Steps.{last_of}
-use Rattle.gate_node.specs.OwnGates.{Halted, Whole, Stuck, own_gate, own_draws, can_run, own_gates, then_gates}
+use Rattle.gate_node.specs.OwnGates.{GatesEnd, Whole, Stuck, own_gate, own_draws, can_run, own_gates, then_gates}
 use Rattle.gate_node.proofs.Always.{EndsAlways, HaveSizes, always-then, gate-sized}
 use Rattle.gate_node.proofs.Suiting.{test-is}
 use Rattle.gate_node.proofs.OwnGates.{run-behind}
@@ -103,7 +103,7 @@ abbrev pub draws_of : Number → (dealt : Values) → (sizes : List ℕ) → Lis
 draws_of i dealt sizes gates = needed (run_gates (λ k. dealt) (sizes_of dealt) sizes gates) i
 
 -- through, with values of the sizes that are told; what was drawn is gone from the tape
-abbrev pub IsGone : Number → (dealt : Values) → List Gate → (values : Values) → (tape : List ℕ) → Halted → Type 0
+abbrev pub IsGone : Number → (dealt : Values) → List Gate → (values : Values) → (tape : List ℕ) → GatesEnd → Type 0
 IsGone i dealt gates values tape (Whole all rest) =
     (sizes_of all ≡ sizes_after (sizes_of dealt) (sizes_of values) gates) × (length rest + draws_of i dealt (sizes_of values) gates ≡ length tape)
 IsGone i dealt gates values tape Stuck = ⊥
@@ -120,7 +120,7 @@ module _ (i : Number) (dealt : Values) where
       ∙ le-leb (own_draws i dealt values gate) (length tape) reach
 
   gone_then : (gate : Gate) (gates : List Gate) (values : Values) (tape : List ℕ) (all : Values) → own_draws i dealt values gate ≤ length tape
-      → sizes_of all ≡ sizes_of values ++ sizes_made ds (sizes_of values) gate → (h : Halted)
+      → sizes_of all ≡ sizes_of values ++ sizes_made ds (sizes_of values) gate → (h : GatesEnd)
       → IsGone i dealt gates all (drop (own_draws i dealt values gate) tape) h → IsGone i dealt (gate ∷ gates) values tape h
   gone_then gate gates values tape all reach same Stuck h = h
   gone_then gate gates values tape all reach same (Whole ends rest) h =
@@ -154,7 +154,7 @@ module _ (i : Number) (dealt : Values) where
       (gates_go gates all (drop n tape) (subst (λ ns. AllSizesSuit ds ns gates) (sym same) suit.1)
       (subst (λ ns. draws_of i dealt ns gates ≤ length (drop n tape)) (sym same) rest))))
     where
-      weaken : (P Q : Halted → Type 0) → ((h : Halted) → P h → Q h) → (s : Strand Halted) → EndsAlways P s → EndsAlways Q s
+      weaken : (P Q : GatesEnd → Type 0) → ((h : GatesEnd) → P h → Q h) → (s : Strand GatesEnd) → EndsAlways P s → EndsAlways Q s
       weaken P Q so (Ends a) h = so a h
       weaken P Q so (Acts act s) h = weaken P Q so s h
       weaken P Q so (Waits l shape f) h = λ m. weaken P Q so (f m) (h m)
@@ -201,7 +201,7 @@ last_made values m =
     let e : length (values ++ m ∷ []) - 1 ≡ length values = omega (arith, both) in
     ap (nth_value (values ++ m ∷ [])) e ∙ nth_last values m
 
-abbrev pub LastWords : Halted → Type 0
+abbrev pub LastWords : GatesEnd → Type 0
 LastWords (Whole all rest) = AreWords (last_of all)
 LastWords Stuck = Unit {0}
 
@@ -228,7 +228,7 @@ module _ (i : Number) (dealt : Values) (ring : RingKind) (u : ℕ) where
           blocks_strand (open_protocol (ring_of ring)) (block_sizes n) i (nth_value values u) []
           (take ((blocked (open_protocol (ring_of ring))).draws n i) tape)
 
-      on : Values → Strand Halted
+      on : Values → Strand GatesEnd
       on all = Ends (Whole all (drop (own_draws i dealt values (Open ring u)) tape))
 
       made : EndsAlways (λ m. HaveSizes (n ∷ []) m × AllWords m) opened
@@ -253,7 +253,7 @@ module _ (i : Number) (dealt : Values) (ring : RingKind) (u : ℕ) where
       (always-then (λ h. Unit {0}) LastWords (own_gates i dealt before values tape) (then_gates i dealt (Open ring u ∷ []))
       (always (λ h. Unit {0}) (λ h. tt) (own_gates i dealt before values tape)) (λ h _. behind h))
     where
-      behind : (h : Halted) → EndsAlways LastWords (then_gates i dealt (Open ring u ∷ []) h)
+      behind : (h : GatesEnd) → EndsAlways LastWords (then_gates i dealt (Open ring u ∷ []) h)
       behind (Whole all rest) = opening_last all rest
       behind Stuck = tt
 

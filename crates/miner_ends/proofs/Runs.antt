@@ -45,7 +45,7 @@ use Rattle.driven_nodes.specs.Driven.{telling}
 use Rattle.driven_nodes.specs.Steps.{Went as Led, On, Over, Wants, Stopped, place_of, last_of}
 use Rattle.code_places.specs.Places.{Place, place, telling_stage, went, next_step, first_place, notices_between}
 use Rattle.code_places.proofs.Turns.{gained_more}
-use Rattle.gate_node.specs.OwnGates.{Halted, Whole, Stuck, own_gates}
+use Rattle.gate_node.specs.OwnGates.{GatesEnd, Whole, Stuck, own_gates}
 use Rattle.gate_node.proofs.Always.{EndsAlways, always-then}
 use Rattle.own_code.specs.OwnCode.{Ended, Reached, gates_between, tell_and_go_on, own_code, behind_gates}
 use Rattle.own_code.proofs.Told.{same_when_told}
@@ -270,12 +270,12 @@ module _
         (k : ℕ) (rest_ends : (q : Place) (all : Values) (rest : List ℕ) → At k q all rest → EndsWell (own k q all rest)) (p : Place) (values : Values)
         (tape : List ℕ) (at : At (suc k) p values tape)
       where
-        abbrev behind : Led Place → Halted → Strand Ended
+        abbrev behind : Led Place → GatesEnd → Strand Ended
         behind led h = behind_gates w c (own_code w c i dealt k) p led h
 
         -- after the gates of a step
-        pass : (P : Halted → Type 0) (g : List Gate) (u : Stage) → Later p g u → EndsAlways P (own_gates i dealt g values tape) → (led : Led Place)
-            → (place_of led).stage.gates ≡ u.gates → ((h : Halted) → P h → EndsWell (behind led h))
+        pass : (P : GatesEnd → Type 0) (g : List Gate) (u : Stage) → Later p g u → EndsAlways P (own_gates i dealt g values tape) → (led : Led Place)
+            → (place_of led).stage.gates ≡ u.gates → ((h : GatesEnd) → P h → EndsWell (behind led h))
             → EndsWell (then_do (own_gates i dealt (gates_between p (place_of led)) values tape) (behind led))
         pass P g u l through led e more =
             let is : gates_between p (place_of led) ≡ g = gained_more p.stage.gates g (place_of led).stage.gates (e ∙ l.gates) in
@@ -306,7 +306,7 @@ module _
             none : u.answers ≡ []
             none = subst LeavesNone is (none_left_over w c p.machine source (telling_stage [] p.stage) refl)
 
-            by : (h : Halted) → IsGone i dealt g values tape h → EndsWell (behind (On (place None m u)) h)
+            by : (h : GatesEnd) → IsGone i dealt g values tape h → EndsWell (behind (On (place None m u)) h)
             by Stuck gone = absurd gone
             by (Whole all rest) gone =
                 telling_ends (EndsAsItCan w c budget) (notices_between p (place None m u) all) (own k (place None m u) all rest)
@@ -324,7 +324,7 @@ module _
             l : Later p g u
             l = later_by [] no_words (Err (effects.Ended e, u)) is
 
-            by : (h : Halted) → IsGone i dealt g values tape h → EndsWell (behind (Over (place (Some e) p.machine u)) h)
+            by : (h : GatesEnd) → IsGone i dealt g values tape h → EndsWell (behind (Over (place (Some e) p.machine u)) h)
             by Stuck gone = absurd gone
             by (Whole all rest) gone =
                 telling_ends (EndsAsItCan w c budget) (notices_between p (place (Some e) p.machine u) all)
@@ -393,7 +393,7 @@ module _
               (opened_last i dealt (ring_for (p.machine.registers o.is.1).shape.element) sized.number sized.front values tape))
               (Wants (place None p.machine h)) refl (λ x gone. by x gone.0 gone.1)
             where
-              by : (x : Halted) → IsGone i dealt opening_gates values tape x → LastWords x → EndsWell (behind (Wants (place None p.machine h)) x)
+              by : (x : GatesEnd) → IsGone i dealt opening_gates values tape x → LastWords x → EndsWell (behind (Wants (place None p.machine h)) x)
               by Stuck gone words = absurd gone
               by (Whole all rest) gone words = told_ends all rest gone words (one p (last_of all)) refl
 

@@ -16,7 +16,7 @@ use Rattle.driven_nodes.specs.Driven.{telling}
 use Rattle.driven_nodes.specs.Steps.{Went, On, Over, Wants, place_of, stand_of, gained, last_of}
 use Rattle.code_places.specs.Places.{Place, telling_stage, stopped, went, next_step, step_told, notices_between, where_made, told_by}
 use Rattle.code_places.proofs.Turns.{gained_more}
-use Rattle.gate_node.specs.OwnGates.{Halted, Whole, Stuck, own_gates}
+use Rattle.gate_node.specs.OwnGates.{GatesEnd, Whole, Stuck, own_gates}
 use Rattle.gate_node.proofs.Always.{then-assoc, then-same}
 use Rattle.named_values.specs.Named.{Numbers, or_from, AllTake, MachineNames, AreAmong}
 use Rattle.named_values.specs.Laws.{HaveSame, Grows, Arrives}
@@ -163,7 +163,7 @@ module _ (w : World) (c : List Function) where
       abbrev gates : List Gate
       gates = gates_between p (place_of (step_told w c p []))
 
-      abbrev behind : Halted → Strand Ended
+      abbrev behind : GatesEnd → Strand Ended
       behind = behind_gates w c on p (step_told w c p [])
 
       whole_alike : (made : Values) (tape : List ℕ) → length made ≡ made_by_all gates →
@@ -175,7 +175,7 @@ module _ (w : World) (c : List Function) where
           (leads_led Taken p among new (held ++ made) (step_told w c p []) refl)
           (count ∙ ap (λ gs. made_by_all (gained p.stage.gates gs)) (sym (gates_led (held ++ made) p (step_told w c p []) refl))) tape
 
-      behind_alike : (h : Halted) → HasBehind held (made_by_all gates) h → without_values (behind (with_before values h)) ≡ without_values (behind h)
+      behind_alike : (h : GatesEnd) → HasBehind held (made_by_all gates) h → without_values (behind (with_before values h)) ≡ without_values (behind h)
       behind_alike (Whole all tape) h =
           ap (λ vs. without_values (behind (Whole (values ++ vs) tape)))
           (ap (drop (length values)) h.1 ∙ drop_at held h.0 (length values) is_held.as_many)

@@ -17,7 +17,7 @@ use Rattle.gates.specs.Counts.{size_of, made_by, made_by_all}
 use Rattle.gate_exchanges.specs.declared.exchange.Exchange.{Exchange}
 use Rattle.gate_exchanges.specs.declared.exchange.Exchange.TheVariants.{Product, Splitting, Conversion, Opening, Resharing}
 use Rattle.gate_exchanges.specs.Exchanges.{protocol_of}
-use Rattle.gate_node.specs.OwnGates.{Halted, Whole, Stuck, own_draws, can_run, own_gates}
+use Rattle.gate_node.specs.OwnGates.{GatesEnd, Whole, Stuck, own_draws, can_run, own_gates}
 use Rattle.gate_node.proofs.Always.{EndsAlways, HaveSizes, always-then, gate-sized}
 use Rattle.own_code.specs.LettingGo.{HasBehind, MakeWhatTheyCount}
 use Rattle.gate_node.proofs.OneGate.{makes, first_then, made_by_gate, gate_first}
@@ -69,7 +69,7 @@ module _ (i : Number) (dealt : Values) where
   gate_count gate values tape = refl
 
   further :
-      (values made : Values) (n m : ℕ) → length made ≡ n → (h : Halted) → HasBehind (values ++ made) m h → HasBehind values (n + m) h
+      (values made : Values) (n m : ℕ) → length made ≡ n → (h : GatesEnd) → HasBehind (values ++ made) m h → HasBehind values (n + m) h
   further values made n m count (Whole all tape) h = (
     made ++ h.0,
     h.1 ∙ append_assoc values made h.0,
@@ -88,7 +88,7 @@ module _ (i : Number) (dealt : Values) where
       rest : List ℕ
       rest = drop (own_draws i dealt values gate) tape
 
-      on : Values → Strand Halted
+      on : Values → Strand GatesEnd
       on made = own_gates i dealt gates (values ++ made) rest
 
       by_test : (b : Bool) → ((made : Values) → EndsAlways (HasBehind (values ++ made) (made_by_all gates)) (on made))

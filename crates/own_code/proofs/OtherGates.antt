@@ -12,7 +12,7 @@ use Rattle.named_values.specs.Machine.{Machine, step}
 use Rattle.driven_nodes.specs.Driven.{telling}
 use Rattle.driven_nodes.specs.Steps.{Went, On, Over, Wants, place_of, last_of}
 use Rattle.code_places.specs.Places.{Place, telling_stage, went, next_step, step_told, notices_between}
-use Rattle.gate_node.specs.OwnGates.{Halted, Whole, Stuck, own_gates}
+use Rattle.gate_node.specs.OwnGates.{GatesEnd, Whole, Stuck, own_gates}
 use Rattle.named_values.specs.Besides.{ran_behind_others}
 use Rattle.named_values.proofs.BesidesSteps.{earlier_gates_change_nothing}
 use Rattle.own_code.specs.OwnCode.{From, tell_and_go_on, gates_between, led_by, behind_gates, own_code}
@@ -83,7 +83,7 @@ module _ (on : From Place) (alike : GoesOnAlike on) (before : List Gate) (p : Pl
   led_alike w c (Wants q) values = step_alike before p w c (last_of values)
 
   behind_alike :
-      (w : World) (c : List Function) (x : Went Place) (h : Halted) →
+      (w : World) (c : List Function) (x : Went Place) (h : GatesEnd) →
       without_gates (behind_gates w c on p x h) ≡ without_gates (behind_gates w c on (other before p) (went_behind before p x) h)
   behind_alike w c x Stuck = refl
   behind_alike w c x (Whole values tape) =

@@ -6,7 +6,7 @@ use Rattle.proto_core.specs.declared.party.Number.{Number}
 use Rattle.proto_core.specs.Strand.{Strand, Ends, then_do}
 use Rattle.gates.specs.declared.gate.Gate.{Gate}
 use Rattle.gates.specs.Clear.{Values}
-use Rattle.gate_node.specs.OwnGates.{Halted, Whole, own_draws, can_run, own_gates}
+use Rattle.gate_node.specs.OwnGates.{GatesEnd, Whole, own_draws, can_run, own_gates}
 use Rattle.gate_node.proofs.Always.{then-all, then-assoc}
 use Rattle.gate_node.proofs.Holding.{all_among, as_many_behind, same_behind}
 use Rattle.gate_node.proofs.OneGate.{first_then, made_by_gate, gate_first, same_draws, same_can, same_made}
@@ -19,7 +19,7 @@ module _ (i : Number) (dealt : Values) where
     abbrev Taken : Numbers
     Taken = or_from (HaveSame values held) (length values)
 
-    abbrev whole : Halted → Strand Halted
+    abbrev whole : GatesEnd → Strand GatesEnd
     whole h = Ends (with_before values h)
 
     abbrev Alike : List Gate → Type 0

@@ -9,7 +9,7 @@ use Rattle.language_model.specs.Effects.{World}
 use Rattle.verified_code.specs.Steps.{Function}
 use Rattle.driven_nodes.specs.Steps.{last_of}
 use Rattle.code_places.specs.Places.{Place}
-use Rattle.gate_node.specs.OwnGates.{Halted, Whole, Stuck, own_gates}
+use Rattle.gate_node.specs.OwnGates.{GatesEnd, Whole, Stuck, own_gates}
 use Rattle.named_values.specs.Named.{or_from, AllTake, MachineNames, AreAmong}
 use Rattle.named_values.specs.Laws.{HaveSame}
 use Rattle.own_code.specs.OwnCode.{Ended, Reached, Unfit, own_code}
@@ -17,17 +17,17 @@ use Rattle.own_code.specs.OwnCode.{Ended, Reached, Unfit, own_code}
 -- ---- gates
 
 -- an end with so many values after these
-abbrev pub HasBehind : Values → ℕ → Halted → Type 0
+abbrev pub HasBehind : Values → ℕ → GatesEnd → Type 0
 HasBehind values n (Whole all tape) = (made : Values) × (all ≡ values ++ made) × (length made ≡ n)
 HasBehind values n Stuck = Unit {0}
 
 -- whatever messages come, gates that come to an end have made as many values as they count
 abbrev pub MakeWhatTheyCount : Number → (dealt : Values) → List Gate → (values : Values) → (tape : List ℕ) → Mail → Type 0
 MakeWhatTheyCount i dealt gates values tape mail =
-    (h : Halted) → (run (own_gates i dealt gates values tape) mail).left ≡ Ends h → HasBehind values (made_by_all gates) h
+    (h : GatesEnd) → (run (own_gates i dealt gates values tape) mail).left ≡ Ends h → HasBehind values (made_by_all gates) h
 
 -- an end with these values before those that were made
-abbrev pub with_before : Values → Halted → Halted
+abbrev pub with_before : Values → GatesEnd → GatesEnd
 with_before values (Whole all tape) = Whole (values ++ drop (length values) all) tape
 with_before values Stuck = Stuck
 

@@ -9,7 +9,7 @@ use Rattle.verified_code.specs.Steps.{Function}
 use Rattle.driven_nodes.specs.Driven.{telling}
 use Rattle.driven_nodes.specs.Steps.{Went, On, Over, Wants, Stand, Running, Stopped, Short, place_of, stand_of, gained, last_of}
 use Rattle.code_places.specs.Places.{Place, step_told, notices_between}
-use Rattle.gate_node.specs.OwnGates.{Halted, Whole, Stuck, own_gates}
+use Rattle.gate_node.specs.OwnGates.{GatesEnd, Whole, Stuck, own_gates}
 
 -- where a miner ends
 pub data Ended : Type 0 where
@@ -43,7 +43,7 @@ module _ (w : World) (c : List Function) where
   led_by values p (Wants q) = step_told w c p (last_of values)
 
   -- after the gates of a step
-  abbrev pub behind_gates : From Place → Place → Went Place → Halted → Strand Ended
+  abbrev pub behind_gates : From Place → Place → Went Place → GatesEnd → Strand Ended
   behind_gates on p went (Whole values tape) = tell_and_go_on on p (led_by values p went) values tape
   behind_gates on p went Stuck = Ends Unfit
 

@@ -17,7 +17,7 @@ use Rattle.code_runs.proofs.Onwards.{step_onward}
 use Rattle.driven_nodes.specs.Steps.{On, Over, Wants, Stand, Running, Stopped, Short, place_of, stand_of, last_of}
 use Rattle.driven_nodes.specs.Steps as steps
 use Rattle.code_places.specs.Places.{Place, telling_stage, stopped, went, next_step, notices_between, step_told}
-use Rattle.gate_node.specs.OwnGates.{Halted, Whole, Stuck, own_gates}
+use Rattle.gate_node.specs.OwnGates.{GatesEnd, Whole, Stuck, own_gates}
 use Rattle.gate_node.proofs.Always.{EndsAlways, always-then}
 use Rattle.own_code.specs.OwnCode.{Reached, Unfit, From, gates_between, led_by, go_on, tell_and_go_on, behind_gates, own_code}
 use Rattle.own_code.specs.OwnCode as own
@@ -125,7 +125,7 @@ module _ (w : World) where
     stand_fits on more (steps.Short q) values tape h = h
 
     behind_fits :
-        (on : From Place) → CodeFits on → (p : Place) → Fits p.stage → (halted : Halted) →
+        (on : From Place) → CodeFits on → (p : Place) → Fits p.stage → (halted : GatesEnd) →
         EndsAlways EndFits (behind_gates w c on p (step_told w c p []) halted)
     behind_fits on more p h Stuck = tt
     behind_fits on more p h (Whole all rest) =
@@ -136,6 +136,6 @@ module _ (w : World) where
     pub code_fits : (i : Number) (dealt : Values) (k : ℕ) → CodeFits (own_code w c i dealt k)
     code_fits i dealt zero p values tape h = h
     code_fits i dealt (suc k) p values tape h =
-        let gates : Strand Halted = own_gates i dealt (gates_between p (place_of (step_told w c p []))) values tape in
+        let gates : Strand GatesEnd = own_gates i dealt (gates_between p (place_of (step_told w c p []))) values tape in
         always-then (λ halted. Unit {0}) EndFits gates (behind_gates w c (own_code w c i dealt k) p (step_told w c p [])) (always_any gates)
         (λ halted u. behind_fits (own_code w c i dealt k) (code_fits i dealt k) p h halted)

@@ -13,7 +13,7 @@ use Rattle.gates.specs.Clear.{Values}
 use Rattle.shared_gates.specs.Model.{SizesSuit}
 use Rattle.shared_gates.proofs.Models.{gates-sound, gates-sized}
 use Rattle.gate_node.specs.Suiting.{suits}
-use Rattle.gate_node.specs.OwnGates.{Halted, Whole, Stuck, own_gate, own_draws, can_run, own_gates}
+use Rattle.gate_node.specs.OwnGates.{GatesEnd, Whole, Stuck, own_gate, own_draws, can_run, own_gates}
 use Rattle.gate_node.proofs.Suiting.{test-is}
 use Rattle.framed_runs.proofs.FramedScripts.{SendsFit, GatesFit, run_gates-fit}
 use Rattle.language_model.specs.Effects.{World}
@@ -70,7 +70,7 @@ module _ (i : Number) (dealt : Values) where
   gates_behave [] values tape = tt
   gates_behave (gate ∷ gates) values tape = go (can_run i dealt values tape gate) refl (λ all rest. gates_behave gates all rest)
     where
-      on : Values → Strand Halted
+      on : Values → Strand GatesEnd
       on all = own_gates i dealt gates all (drop (own_draws i dealt values gate) tape)
 
       go : (b : Bool) → can_run i dealt values tape gate ≡ b → ((all : Values) (rest : List ℕ) → Behaves i (own_gates i dealt gates all rest))
@@ -96,7 +96,7 @@ module _ (i : Number) (dealt : Values) where
       on (Stopped q) all rest more = tt
       on (Short q) all rest more = tt
 
-      behind : ((q : Place) (all : Values) (rest : List ℕ) → Behaves i (own_code w c i dealt fuel q all rest)) → (h : Halted)
+      behind : ((q : Place) (all : Values) (rest : List ℕ) → Behaves i (own_code w c i dealt fuel q all rest)) → (h : GatesEnd)
           → Behaves i (behind_gates w c (own_code w c i dealt fuel) p went h)
       behind more Stuck = tt
       behind more (Whole all rest) =

@@ -25,7 +25,7 @@ use Rattle.gate_exchanges.specs.declared.exchange.Exchange.{Exchange}
 use Rattle.gate_exchanges.specs.declared.exchange.Exchange.TheVariants.{Product, Splitting, Conversion, Opening, Resharing}
 use Rattle.gate_exchanges.specs.Exchanges.{protocol_of}
 use Rattle.gate_node.specs.Suiting.{suits}
-use Rattle.gate_node.specs.OwnGates.{Halted, Whole, Stuck, own_gate, own_draws, can_run, own_gates}
+use Rattle.gate_node.specs.OwnGates.{GatesEnd, Whole, Stuck, own_gate, own_draws, can_run, own_gates}
 use Rattle.gate_node.proofs.Always.{EndsAlways, HaveSizes, always-then, gate-sized}
 use Rattle.gate_node.proofs.Suiting.{test-is}
 use Rattle.language_model.specs.Effects.{World, Run, RunStop, Ended, Short, Stage}
@@ -98,7 +98,7 @@ module _ (i : Number) (dealt : Values) where
 
   -- ---- gate by gate
 
-  module _ {B : Type 0} (go : Halted → Strand B) (unfit : B) (stuck : go Stuck ≡ Ends unfit) (Is : B → ℕ → Type 0) (never : (n : ℕ) → Is unfit n) where
+  module _ {B : Type 0} (go : GatesEnd → Strand B) (unfit : B) (stuck : go Stuck ≡ Ends unfit) (Is : B → ℕ → Type 0) (never : (n : ℕ) → Is unfit n) where
     abbrev gates_taping : List Gate → Values → Taping B
     gates_taping gates values tape = then_do (own_gates i dealt gates values tape) go
 

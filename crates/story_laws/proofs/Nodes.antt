@@ -13,7 +13,7 @@ use Rattle.protocol_model.specs.Gates as model
 use Rattle.gates.specs.declared.gate.Gate.{Gate}
 use Rattle.gates.specs.Clear.{Values}
 use Rattle.gate_node.specs.Suiting.{suits}
-use Rattle.gate_node.specs.OwnGates.{Halted, Whole, Stuck, own_gate, own_draws, can_run, own_gates}
+use Rattle.gate_node.specs.OwnGates.{GatesEnd, Whole, Stuck, own_gate, own_draws, can_run, own_gates}
 use Rattle.language_model.specs.Effects.{World}
 use Rattle.verified_code.specs.Steps.{Function}
 use Rattle.driven_nodes.specs.Steps.{Stand, Running, Stopped, Short, Went, place_of, stand_of}
@@ -57,7 +57,7 @@ below_or_not k d = by_test (nat_le d k) refl
     by_test true e = inr (leb-true d k e)
     by_test false e = inl (leb-false d k e)
 
-module _ (i : Number) (dealt : Values) {B : Type 0} (unfit : B) (go : Halted → Strand B) (stuck : go Stuck ≡ Ends unfit) where
+module _ (i : Number) (dealt : Values) {B : Type 0} (unfit : B) (go : GatesEnd → Strand B) (stuck : go Stuck ≡ Ends unfit) where
   abbrev gates_taping : List Gate → Values → Taping B
   gates_taping gates values tape = then_do (own_gates i dealt gates values tape) go
 

@@ -2,4 +2,5 @@ pub mod Drawing
 pub mod Filling
 pub mod Opened
 pub mod Parties
+pub mod ReadAhead
 pub mod Splits

@@ -1,20 +1,21 @@
 -- Words that are drawn from tapes in memory or of a seed.
-use Rattle.std.proofs.Common.{◌≡◌, ◌≢◌, ℕ, zero, suc, ◌+◌, ◌-◌, ◌*◌, ◌^◌, ◌<◌, ◌≤◌, List, [], ◌∷◌, ◌++◌, true, length, take, drop, map, set, refl, sym, ap, ◌∙◌}
+use Rattle.std.proofs.Common.{◌≡◌, ◌≢◌, ℕ, zero, suc, ◌+◌, ◌-◌, ◌*◌, ◌^◌, ◌<◌, ◌≤◌, List, [], ◌∷◌, ◌++◌, true, false, Bool, length, take, drop, map, set, refl, sym, ap, subst, ◌∙◌}
 use Rattle.std.proofs.Common.{arith}
-use Rattle.std.specs.Prelude.{slice_index, nat_le}
+use Rattle.std.specs.Prelude.{slice_index, slice_index_or, nat_eq, nat_le}
 use Rattle.std.specs.List.{range_with_len}
 use Rattle.std.proofs.lemmas.Bool.Decides.{nat_tests}
-use Rattle.std.proofs.lemmas.Grind.{common_steps}
-use Rattle.std.proofs.lemmas.List.{length-append, length-drop, map-append, get_or-set_same, get_or-set_other}
+use Rattle.std.proofs.lemmas.Bool.{eqb-true, eqb-false}
+use Rattle.std.proofs.lemmas.Grind.{common_steps, get_or-set_at}
+use Rattle.std.proofs.lemmas.List.{length-append, length-drop, length-set, map-append, get_or-set_same, get_or-set_other}
 use Rattle.std.proofs.lemmas.List.FromFn.{length-map-range_with_len, map-range_with_len_more}
-use Rattle.rand_chacha.specs.ChaCha.{key_of, word_at}
+use Rattle.rand_chacha.specs.ChaCha.{ChaCha, key_of, word_at}
 use Rattle.outside.specs.Tapes.{Drew, left_of, no_files}
 use Rattle.tape_file.specs.Seeds.{seed_tapes, seed_word, stream_word}
 use Rattle.tape_file.specs.Tapes.{FourTapes}
 use Rattle.tape_file.proofs.WordLists.{drop-part}
 use Rattle.tape_sources.specs.Held.{words_after}
 use Rattle.tape_sources.specs.Parties.{four_of, tape_of, told_state}
-use Rattle.tape_sources.specs.SeedWords.{seed_words, words_left}
+use Rattle.tape_sources.specs.SeedWords.{AreStreamsOf, IsStreamOf, seed_words, words_left}
 use Rattle.tape_sources.proofs.Filling.{reads_none}
 
 told_drew : (old new : ℕ → List ℕ) (party : ℕ) (drawn : List ℕ) → old party ≡ drawn ++ new party → ((p : ℕ) → p ≢ party → new p ≡ old p)
@@ -135,3 +136,20 @@ pub seed_words-more : (seed key words : List ℕ) (party from k stream place wor
 seed_words-more seed key words party from k stream place word before ek es ep ew =
     let next = ew ∙ seed_word-next seed key party stream (from + k) place ek es ep in
     rw (before, next) (sym (map-range_with_len_more (seed_word seed party) from k (from + k) refl))
+
+-- the generators after one party's words were made
+pub streams_after : (seed taken : List ℕ) (streams : List ChaCha) (party count : ℕ) (rng : ChaCha) → AreStreamsOf seed taken streams → party < length taken
+    → party < length streams → IsStreamOf seed party (slice_index taken party + count) rng
+    → AreStreamsOf seed (set taken party (slice_index taken party + count)) (set streams party rng)
+streams_after seed taken streams party count rng are in_taken in_streams is = λ p d lt. at p d lt (nat_eq p party) refl
+  where
+    at : (p : ℕ) (d : ChaCha) → p < length (set streams party rng) → (b : Bool) → nat_eq p party ≡ b
+        → IsStreamOf seed p (slice_index (set taken party (slice_index taken party + count)) p) (slice_index_or (set streams party rng) p d)
+    at p d lt true e =
+        let same = eqb-true p party e in
+        rw (get_or-set_at taken party p (slice_index taken party + count) 0 same in_taken, get_or-set_at streams party p rng d same in_streams)
+        (subst (λ (q : ℕ). IsStreamOf seed q (slice_index taken party + count) rng) (sym same) is)
+    at p d lt false e =
+        let other = eqb-false p party e in
+        rw (get_or-set_other taken party p (slice_index taken party + count) 0 other, get_or-set_other streams party p rng d other)
+        (are p d (subst (λ (n : ℕ). p < n) (length-set streams party rng) lt))

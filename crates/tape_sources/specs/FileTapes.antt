@@ -1,6 +1,6 @@
 -- What a source that reads a file means: by the party's number, where in the file its next word stands, and how many are left.
-use Rattle.std.specs.Prelude.{◌≡◌, ◌≤◌, ℕ, ◌+◌, ◌*◌, List, [], length, Bool, true, false, ◌&&◌, nat_le, slice_index, Option, Some}
-use Rattle.std.specs.Prelude.{None, IsSomeAnd}
+use Rattle.std.specs.Prelude.{◌≡◌, ◌<◌, ◌≤◌, ℕ, ◌+◌, ◌*◌, List, [], length, take, drop, Bool, true, false, ◌&&◌, nat_le, slice_index, slice_index_or, Option, Some}
+use Rattle.std.specs.Prelude.{None, IfSome, IsSomeAnd}
 use Rattle.outside.specs.Causes.{Rose}
 use Rattle.outside.specs.Files.{FilesState, file_at}
 use Rattle.outside.specs.Tapes.{TapesState}
@@ -45,6 +45,14 @@ pub record AreWithin (size : ℕ) (next left : List ℕ) : Type 0 where
   pub one : slice_index next 1 + 8 * slice_index left 1 ≤ size
   pub two : slice_index next 2 + 8 * slice_index left 2 ≤ size
   pub three : slice_index next 3 + 8 * slice_index left 3 ≤ size
+
+-- these bytes are those that the file has from this place on
+abbrev pub IsAhead : Option (List ℕ) → ℕ → List ℕ → Type 0
+IsAhead file from bytes = IfSome file (λ all. bytes ≡ take (length bytes) (drop from all))
+
+-- of each party's tape what was read ahead is what the file has from its next word on
+abbrev pub AreAhead : Option (List ℕ) → (next : List ℕ) → (ahead : List (List ℕ)) → Type 0
+AreAhead file next ahead = (p : ℕ) (d : List ℕ) → p < length ahead → IsAhead file (slice_index next p) (slice_index_or ahead p d)
 
 -- words of a tape couldn't be read: the count of the files' faults rose, and where they tell, they were not steady
 pub record TapeFaulted (old new : FilesState) : Type 0 where

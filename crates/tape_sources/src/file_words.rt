@@ -9,10 +9,15 @@ use byteorder::{ByteOrder, LittleEndian};
 use outside::{Failed, Files};
 
 /// How many words are read at once at most.
-const MOST_WORDS: usize = 512;
+pub(crate) const MOST_WORDS: usize = 512;
 
-// Fills the slice with the file's bytes from a place on. A steady store fails only where the file is missing or ends before.
-fn fill<F: Files>(files: &mut F, path: &str, from: u64, into: &mut [u8]) -> Result<(), Failed>
+/// Fills the slice with the file's bytes from a place on. A steady store fails only where the file is missing or ends before.
+pub(crate) fn fill<F: Files>(
+    files: &mut F,
+    path: &str,
+    from: u64,
+    into: &mut [u8],
+) -> Result<(), Failed>
     requires sized { IsSizedTo (F.state files.old) path.now (from + length into.old) }
     requires fits { from + length into.old < 2 ^ 64 }
     ensures ok { OnOk result ((F.state files.old).told ≡ true → IfSome (file_in (F.state files.old) path.now)

@@ -1,12 +1,13 @@
 // The tapes in a file, as a source.
-ghost use Rattle.std.specs.Prelude.{◌≡◌, ◌+◌, ◌*◌, ◌^◌, ◌<◌, ◌≤◌, Some};
-ghost use Rattle.tape_sources.specs.FileTapes.{AreWithin, words_state};
+ghost use Rattle.std.specs.Prelude.{◌≡◌, ◌+◌, ◌*◌, ◌^◌, ◌<◌, ◌≤◌, [], ◌∷◌, true, Some};
+ghost use Rattle.std.proofs.Props.{props};
+ghost use Rattle.tape_sources.specs.FileTapes.{AreAhead, AreWithin, file_in, words_state};
 
-use crate::file_words::read_words;
+use crate::ahead::Ahead;
 use crate::lengths::TapeLengths;
 use outside::{Failed, Files, TapeSource};
 
-/// The four tapes in a file of a store, which is read where words are drawn. It fails only where the store counts a fault.
+/// The four tapes in a file of a store, which is read where words are drawn, and a little ahead. It fails only where the store counts a fault.
 #[derive(Drop)]
 pub struct FileTapes<'a, F: Files> {
     files: &'a mut F,
@@ -15,9 +16,19 @@ pub struct FileTapes<'a, F: Files> {
     // Of each party, where in the file its next word stands, and how many are left.
     next: [u64; 4],
     left: [u64; 4],
+    // Of each party, what was read of the words that are left.
+    ahead: [Ahead; 4],
     ghost sized: { (F.state files.now).sized path.now ≡ Some size },
     ghost within: { AreWithin size next left },
     ghost fits: { size < 2 ^ 64 },
+    ghost read: { (F.state files.now).told ≡ true → AreAhead (file_in (F.state files.now) path.now) next ahead } by { Prim.hlevel props },
+}
+
+// Nothing was read ahead.
+fn none_ahead() -> [Ahead; 4]
+    ensures { result ≡ [] ∷ [] ∷ [] ∷ [] ∷ [] }
+{
+    [Ahead::new(), Ahead::new(), Ahead::new(), Ahead::new()]
 }
 
 impl<'a, F: Files> FileTapes<'a, F> {
@@ -45,6 +56,7 @@ impl<'a, F: Files> FileTapes<'a, F> {
                 lengths.miner2,
                 lengths.miner3,
             ],
+            ahead: none_ahead(),
         }
     }
 
@@ -68,6 +80,7 @@ impl<'a, F: Files> FileTapes<'a, F> {
             size,
             next,
             left,
+            ahead: none_ahead(),
         }
     }
 
@@ -88,11 +101,16 @@ impl<'a, F: Files> TapeSource for FileTapes<'a, F> {
     }
 
     fn take(&mut self, party: u8, into: &mut [u64]) -> Result<(), Failed> {
-        let from = self.next[party as usize];
-        read_words(self.files, self.path, from, into)?;
+        let at = party as usize;
+        let from = self.next[at];
+        let left = self.left[at];
+        let path = self.path;
+        let ahead = &mut self.ahead;
+        let files = &mut *self.files;
+        ahead[at].take(files, path, from, left, into)?;
         let count = into.len() as u64;
-        self.next[party as usize] = from + 8 * count;
-        self.left[party as usize] -= count;
+        self.next[at] = from + 8 * count;
+        self.left[at] -= count;
         Ok(())
     }
 }

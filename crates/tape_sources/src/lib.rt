@@ -3,6 +3,7 @@
 //! They are taken from tapes in memory, made from a seed, or read from a file of all four tapes or of one party's own.
 #![tactic(auto)]
 
+mod ahead;
 mod file_words;
 mod four_file;
 mod held;

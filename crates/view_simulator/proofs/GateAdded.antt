@@ -15,8 +15,8 @@ use Rattle.joint_run.specs.Three.{each_of}
 use Rattle.block_steps.specs.declared.links.Links.{Links}
 use Rattle.block_steps.specs.Outcomes.{mail_left}
 use Rattle.gate_node.specs.declared.engine.Engine.{Engine}
-use Rattle.gate_node.specs.declared.engine.Work.{Work}
-use Rattle.gate_node.specs.declared.engine.Work.TheVariants as work
+use Rattle.gate_node.specs.declared.engine.AtWork.{AtWork}
+use Rattle.gate_node.specs.declared.engine.AtWork.TheVariants as work
 use Rattle.gate_node.specs.OwnGates.{Whole, own_draws, own_gates}
 use Rattle.gate_node.specs.Plans.{then_wanted}
 use Rattle.gate_node.specs.Nodes.{work_left, engine_left, with_links, Keeps}
@@ -28,11 +28,10 @@ use Rattle.view_simulator.proofs.OneGate.{gate-ends, gate-makes}
 
 -- messages that come change nothing of what is left to do
 module _ {P : Type 0} (i : Number) (e : Engine P) (links : Links) where
-  work-there : (w : Work P) → work_left i (with_links e links) w ≡ work_left i e w
+  work-there : (w : AtWork P) → work_left i (with_links e links) w ≡ work_left i e w
   work-there work.Idle = refl
   work-there (work.Between r) = refl
   work-there (work.Within r block) = refl
-  work-there work.Halt = refl
 
   pub left-there : engine_left i (with_links e links) ≡ engine_left i e
   left-there = ap (then_wanted i e.dealt e.wanted) (work-there e.work)

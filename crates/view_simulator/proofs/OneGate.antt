@@ -19,7 +19,7 @@ use Rattle.shared_gates.proofs.Models.{local-size}
 use Rattle.gate_exchanges.specs.declared.exchange.Exchange.{Exchange}
 use Rattle.gate_exchanges.specs.declared.exchange.Exchange.TheVariants.{Product, Splitting, Conversion, Opening, Resharing}
 use Rattle.joint_run.specs.Exchanges.{protocol_of}
-use Rattle.gate_node.specs.OwnGates.{Halted, Whole, own_gate, own_draws, own_gates}
+use Rattle.gate_node.specs.OwnGates.{GatesEnd, Whole, own_gate, own_draws, own_gates}
 use Rattle.gate_node.proofs.OwnGates.{its-part}
 use Rattle.view_simulator.specs.Simulators.{EndsOn}
 use Rattle.view_simulator.proofs.Taking.{ends-map}
@@ -53,7 +53,7 @@ module _ (i : Number) (dealt own : Values) (opened : List ℕ) (tapes : Tapes) w
   gate-ends gate suits reach =
       let g : model.Gate = own_gate i dealt own gate in
       let mail = on_both i (made_messages i (g ∷ []) own opened tapes) in
-      let whole : Values → Halted = λ all. Whole all (drop (own_draws i dealt own gate) (tapes i)) in
+      let whole : Values → GatesEnd = λ all. Whole all (drop (own_draws i dealt own gate) (tapes i)) in
       subst (λ s. EndsOn s mail (whole (made_values i (g ∷ []) own opened tapes)))
       (sym (its-part i dealt (λ k. dealt) refl (gate ∷ []) own (tapes i) (suits, tt) (reach i)))
       (ends-map (gates_strand i (g ∷ []) own (tapes i)) whole mail (made_values i (g ∷ []) own opened tapes) (strand-ends gate reach))

@@ -12,9 +12,9 @@ use Rattle.block_steps.specs.declared.links.Links.{Links}
 use Rattle.block_steps.specs.Outcomes.{outcome_of, mail_left, StandsAt}
 use Rattle.block_steps.proofs.Behind.{still-is}
 use Rattle.gate_node.specs.declared.engine.Engine.{Engine}
-use Rattle.gate_node.specs.declared.stand.Stand.{Stand}
-use Rattle.gate_node.specs.declared.stand.Stand.TheVariants as stand
-use Rattle.gate_node.specs.OwnGates.{Halted, Whole, Stuck, own_gates, then_gates}
+use Rattle.gate_node.specs.declared.standing.Standing.{Standing}
+use Rattle.gate_node.specs.declared.standing.Standing.TheVariants as stand
+use Rattle.gate_node.specs.OwnGates.{GatesEnd, Whole, Stuck, own_gates, then_gates}
 use Rattle.gate_node.specs.Nodes.{engine_left, engine_outcome, filled, DoesTheSame, EngineStands, StandsAlways, settled, IsSameButGates}
 use Rattle.gate_node.proofs.Always.{EndsAlways}
 use Rattle.gate_node.proofs.Supplied.{filled-none, same-here, stands-here}
@@ -31,12 +31,12 @@ same-tape a b s t h = cc
 not-stuck : {X : Type 0} (all : Values) (tape : List ℕ) → Ends Stuck ≡ Ends (Whole all tape) → X
 not-stuck all tape h = cc
 
-module _ {P : Type 0} (i : Number) (e : Engine P) (links : Links) (s : Strand Halted) (all : Values) (tape : List ℕ) where
-  abbrev L : Strand Halted
+module _ {P : Type 0} (i : Number) (e : Engine P) (links : Links) (s : Strand GatesEnd) (all : Values) (tape : List ℕ) where
+  abbrev L : Strand GatesEnd
   L = engine_left i e
 
   pub stands-through :
-      (at : Stand) → engine_outcome i e ≡ outcome_of i links s → EngineStands i at e → EndsOn s (mail_left i links) (Whole all tape) → IsThrough i all tape e
+      (at : Standing) → engine_outcome i e ≡ outcome_of i links s → EngineStands i at e → EndsOn s (mail_left i links) (Whole all tape) → IsThrough i all tape e
   stands-through stand.Through same at ends =
       let is : Ends (Whole e.values e.tape.1) ≡ Ends (Whole all tape) =
       sym (ap (λ t. (run t (mail_left i e.links)).left) at) ∙ ap (λ o. o.left) same ∙ ends.left in
@@ -52,14 +52,14 @@ module _ {P : Type 0} (i : Number) (e : Engine P) (links : Links) (s : Strand Ha
   stands-through (stand.Waits link cause) same at ends =
       let is : L ≡ Ends (Whole all tape) = sym (ap (λ r. r.left) (still-is i e.links cause L at.0)) ∙ ap (λ o. o.left) same ∙ ends.left in
       absurd (subst (λ t. StandsAt i e.links cause t) is at.0)
-  stands-through stand.Stuck same at ends =
+  stands-through stand.Unfit same at ends =
       not-stuck all tape (sym (ap (λ t. (run t (mail_left i e.links)).left) at) ∙ ap (λ o. o.left) same ∙ ends.left)
   stands-through (stand.Wants count) same at ends = absurd at
 
 -- one gate more, after those that are through
 module _ {P : Type 0} (i : Number) (before added after : Engine P) (gate : Gate) (gates : List Gate) where
   pub one-through :
-      (at : Stand) → engine_left i before ≡ Ends (Whole before.values before.tape.1) → gates ≡ gate ∷ [] →
+      (at : Standing) → engine_left i before ≡ Ends (Whole before.values before.tape.1) → gates ≡ gate ∷ [] →
       ((more : List ℕ) → engine_left i (filled added more) ≡ then_do (engine_left i (filled before more)) (then_gates i before.dealt gates)) →
       IsSameButGates before added → DoesTheSame i added after → StandsAlways i at after → (all : Values) (tape : List ℕ) →
       EndsOn (own_gates i before.dealt (gate ∷ []) before.values before.tape.1) (mail_left i before.links) (Whole all tape) → IsThrough i all tape after

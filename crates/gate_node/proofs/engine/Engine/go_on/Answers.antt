@@ -4,7 +4,7 @@ use Rattle.blocked_protocol.specs.Blocked.{joined}
 use Rattle.block_steps.specs.Outcomes.{outcome_of, StandsAt, AwaitsOn}
 use Rattle.block_steps.specs.Pendings.{pending_left, progress_left, StandsThen}
 use Rattle.gate_node.specs.Shares.{shares_of}
-use Rattle.gate_node.specs.declared.engine.Work.TheVariants.{Between, Within}
+use Rattle.gate_node.specs.declared.engine.AtWork.TheVariants.{Between, Within}
 use Rattle.gate_node.specs.Plans.{then_wanted}
 use Rattle.gate_node.specs.Nodes.{running_left, left_at, filled}
 use Rattle.gate_node.proofs.Plans.{outcome-wanted, stands-wanted, awaits-wanted}

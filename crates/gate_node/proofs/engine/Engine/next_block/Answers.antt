@@ -10,7 +10,7 @@ use Rattle.gate_node.specs.Shares.{shares_of}
 use Rattle.gate_node.specs.Plans.{then_wanted}
 use Rattle.gate_node.specs.Nodes.{blocks_then, protocol_at, gates_then, filled}
 use Rattle.gate_node.proofs.Plans.{outcome-wanted}
-use Rattle.gate_node.specs.declared.engine.Work.TheVariants.{Between, Within}
+use Rattle.gate_node.specs.declared.engine.AtWork.TheVariants.{Between, Within}
 use Rattle.gate_node.proofs.Blocks.{draws-apart}
 use Rattle.gate_node.proofs.Tapes.{front-more, further}
 use Rattle.gate_node.proofs.Turns.{next-turn, reaches, begun-left, of-made, put-to-work, sound-work}

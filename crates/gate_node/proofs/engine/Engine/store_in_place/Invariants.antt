@@ -1,5 +1,5 @@
 use Rattle.std.proofs.Common.{◌≡◌, ◌-◌, ◌≤◌, ◌↔◌, length}
-use Rattle.gate_node.specs.declared.engine.Work.TheVariants as work
+use Rattle.gate_node.specs.declared.engine.AtWork.TheVariants as work
 use Rattle.gate_node.specs.Nodes.{CanStore, IsAhead}
 use Rattle.gate_node.proofs.engine.Engine.store_in_place.Given as goal
 
