@@ -5,7 +5,8 @@ use Rattle.std.specs.Borrow.{Bor}
 use Rattle.std.proofs.lemmas.List.{drop_all}
 use Rattle.sc_text.specs.declared.end.End.{End}
 use Rattle.view_text.specs.Reading.{words_in_line, lines_in}
-use Rattle.view_reader.proofs.OpenedRead.{left_from, left_more, map_last}
+use Rattle.view_reader.proofs.LinesRead.{left_more, map_last}
+use Rattle.view_reader.proofs.OpenedRead.{left_from}
 use Rattle.miner_text.specs.Reading.{line_in, in_front, at_the_end, at_line, lines_from, read_of}
 use Rattle.miner_text.specs.declared.line.MinerLine.{MinerLine}
 use Rattle.miner_text.specs.declared.line.MinerLine.TheVariants as lines
