@@ -15,7 +15,7 @@ use Rattle.miner_core.specs.declared.answer.End.{End}
 use Rattle.miner_core.specs.declared.answer.End.TheVariants as end
 use Rattle.miner_core.specs.declared.answer.Step.{Step}
 use Rattle.miner_core.specs.declared.answer.Step.TheVariants as step
-use Rattle.miner_core.specs.Story.{Story, received, strand_in, node, sent_to_next, sent_to_previous, stands_at, HasEnded, IsAnswer}
+use Rattle.miner_core.specs.Story.{Story, received, mail_in, strand_in, node, sent_to_next, sent_to_previous, stands_at, HasEnded, IsAnswer}
 use Rattle.wire.specs.declared.fields.Hello.{Hello}
 use Rattle.wire.specs.Hellos.{hello_bytes}
 use Rattle.miner_node.specs.declared.node_err.NodeErr.{NodeErr}

@@ -19,7 +19,9 @@ use Rattle.miner_node.specs.Faults.{IsLater, WasNotSent}
 use Rattle.miner_node.specs.Order.{NeverDue, GivesOnly}
 use Rattle.miner_node.specs.Peers.{Sends}
 use Rattle.miner_node.specs.Serving.{frames}
+use Rattle.miner_node.specs.Transfers.{SendsAll}
 use Rattle.miner_node.specs.Turns.{SendsFrom, HasSentSome, SendsNew}
+use Rattle.miner_node.proofs.Pieces.{sent_none}
 use Rattle.miner_node.proofs.Faulting.{later_self, later_on, fault_on}
 use Rattle.miner_node.proofs.Greetings.{numbers_differ, begins-take}
 
@@ -62,6 +64,18 @@ pub record SendsUpTo (a b : LinksState) (peer : ℕ) (m : List (List ℕ)) (sent
   pub did : GivesOnly a b
   pub coming : b.coming ≡ a.coming
   pub later : IsLater a b
+
+-- there was no memory for the bytes
+pub sends_nothing : (a : LinksState) (peer : ℕ) (bytes : List ℕ) {T : Type 0} → SendsAll {T = T} a a peer bytes (Err stop.Memory)
+sends_nothing a peer bytes =
+    record {
+      ok = tt;
+      front = (0, sent_none a peer bytes);
+      did_all = tt;
+      did = λ t. (no_bytes, did_none NeverDue a);
+      err = tt;
+      later = later_self a;
+    }
 
 -- bytes are given, and then more
 pub gives_on : (a b c : LinksState) → b.told ≡ a.told → GivesOnly a b → GivesOnly b c → GivesOnly a c

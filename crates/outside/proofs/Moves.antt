@@ -38,7 +38,7 @@ bytes_more n xs ys = λ x. λ p. by_test p (p == n) x
 pub bytes_none : (n : ℕ) → bytes_of n [] ≡ no_bytes
 bytes_none n = λ x. λ p. by_test p (p == n) x
   where
-    by_test : (p : ℕ) (same : Bool) → (if same then [] else []) ≡ []
+    by_test : (p : ℕ) (same : Bool) → (if same then no_bytes p else no_bytes p) ≡ no_bytes p
     by_test p true = refl
     by_test p false = refl
 

@@ -46,7 +46,7 @@ pub fn run<F: Files, C: Spawner>(
         port,
         budget,
     };
-    launch(alloc, &job, files, children)?;
+    launch(alloc, &job, &*files, children)?;
     let joined = join_outputs(alloc, prefix, files)?;
     Ok(joined)
 }
