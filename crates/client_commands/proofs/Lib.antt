@@ -1,5 +1,0 @@
-pub mod MapPlanned
-pub mod Handed
-pub mod Differences
-pub mod TwinPlanned
-pub mod SimulatePlanned

@@ -1,4 +1,0 @@
-pub mod Map
-pub mod Simulate
-pub mod Difference
-pub mod Twin
