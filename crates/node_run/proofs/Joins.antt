@@ -163,18 +163,18 @@ module _ (i : Number) (port : ℕ) (a b : LinksState) (same : SameBytes a b) (la
         let h = both.serves in
         record {
           serves = record {
-          taken = h.taken;
-          drew = h.drew;
-          ok =
-              if_ok_so r _ _
-              (λ x k. record {
-                gone = k.gone;
-                served = λ tape of.
-                    joined_so i a b same later hello (with_tape m tape) c (with_tape (miner x) tape) (ending x) (k.served tape of);
-              })
-              h.ok;
-          err = if_err_so r _ _ (stops_on h.taken) h.err;
-          still = h.still;
+            taken = h.taken;
+            drew = h.drew;
+            ok =
+                if_ok_so r _ _
+                (λ x k. record {
+                  gone = k.gone;
+                  served = λ tape of.
+                      joined_so i a b same later hello (with_tape m tape) c (with_tape (miner x) tape) (ending x) (k.served tape of);
+                })
+                h.ok;
+            err = if_err_so r _ _ (stops_on h.taken) h.err;
+            still = h.still;
           };
           joins = λ tape of told. did_join _ (count_of i) port a b c told same (called) (both.order tape of);
         }

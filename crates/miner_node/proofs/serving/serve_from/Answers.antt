@@ -24,13 +24,13 @@ returns-in-Err-clause-serves g c =
     let h = c.in-Err.ensures in
     record {
       serves = record {
-      taken = h.taken;
-      drew = h.drew;
-      ok = tt;
-      err = stops_so g.P.Party.me c.args.hello.now (g.L.Links.state c.args.links.now) (g.L.Links.state c.exchange.new.links) (held c.args.miner) (held c.exchange.new.miner)
-          (g.T.TapeSource.state c.args.tapes.now) (g.T.TapeSource.state c.exchange.new.tapes) h.taken c.in-Err.e c.stopped.result c.stopped.ensures
-          (λ tape of. (h.holds tape of).err) h.cause;
-      still = h.still;
+        taken = h.taken;
+        drew = h.drew;
+        ok = tt;
+        err = stops_so g.P.Party.me c.args.hello.now (g.L.Links.state c.args.links.now) (g.L.Links.state c.exchange.new.links) (held c.args.miner) (held c.exchange.new.miner)
+            (g.T.TapeSource.state c.args.tapes.now) (g.T.TapeSource.state c.exchange.new.tapes) h.taken c.in-Err.e c.stopped.result c.stopped.ensures
+            (λ tape of. (h.holds tape of).err) h.cause;
+        still = h.still;
       };
       order = λ tape of. (h.holds tape of).order;
     }
