@@ -2,9 +2,8 @@ pub mod Answered
 pub mod Asked
 pub mod Delivered
 pub mod Fit
-pub mod Joined
 pub mod LastLines
-pub mod Needs
+pub mod NeedCounts
 pub mod Nothing
 pub mod Padded
 pub mod Passed
@@ -12,6 +11,7 @@ pub mod Ready
 pub mod Refuted
 pub mod Right
 pub mod Shown
+pub mod ShownRuns
 pub mod Undealt
 pub mod Whole
 pub mod Zeros

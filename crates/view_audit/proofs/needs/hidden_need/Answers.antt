@@ -4,7 +4,7 @@ use Rattle.value_file.specs.PublicFile.{public_count}
 use Rattle.value_file.specs.declared.public.PublicEntry.{PublicEntry}
 use Rattle.clear_eval.proofs.PublicParts.{each_public_short}
 use Rattle.program_views.specs.Views.{hidden_need}
-use Rattle.view_audit.proofs.Needs.{need_more}
+use Rattle.view_audit.proofs.NeedCounts.{need_more}
 use Rattle.view_audit.proofs.needs.hidden_need.Goals as goal
 
 pub words_for-requires : goal.words_for-requires
