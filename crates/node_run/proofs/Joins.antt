@@ -1,6 +1,8 @@
 -- A node that joins its peers before it serves its links.
-use Rattle.std.proofs.Common.{◌≡◌, ℕ, List, [], ◌++◌, true, Option, Some, None, Result, Ok, Err, IfOk, IfErr, IfNone, sym, ap, ◌∙◌, subst, inl}
-use Rattle.outside.specs.Causes.{Rose}
+use Rattle.std.proofs.Common.{◌≡◌, ℕ, List, [], ◌++◌, true, Option, Some, None, Result, Ok, Err, IfOk, IfErr, IfNone, refl, sym, ap, ◌∙◌, subst, inl}
+use Rattle.outside.specs.declared.error.FileErr.{FileErr}
+use Rattle.outside.specs.declared.error.FileErr.TheVariants as file_err
+use Rattle.outside.specs.Causes.{HasCause, IsSteady, Rose}
 use Rattle.outside.specs.Links.{LinksState, SameBytes, SameLinks, OneMore, joined}
 use Rattle.outside.proofs.Moves.{did_join}
 use Rattle.outside.specs.Tapes.{TapesState}
@@ -16,7 +18,7 @@ use Rattle.miner_node.specs.declared.node_err.NodeErr.{NodeErr}
 use Rattle.miner_node.specs.declared.node_err.NodeErr.TheVariants as stop
 use Rattle.miner_node.specs.declared.node_err.ServeErr.{ServeErr}
 use Rattle.miner_node.specs.declared.node_err.ServeErr.TheVariants.{Node, TapeFault}
-use Rattle.miner_node.specs.Faults.{IsLater}
+use Rattle.miner_node.specs.Faults.{IsLater, unsent}
 use Rattle.miner_node.specs.Peers.{Sends, SendsFronts}
 use Rattle.miner_node.specs.Serving.{Outcome, serving, bytes_to_next, bytes_to_previous}
 use Rattle.miner_node.specs.Answers.{IsStop}
@@ -150,6 +152,15 @@ module _ (i : Number) (port : ℕ) (a b : LinksState) (same : SameBytes a b) (la
             };
         joins = λ tape of told. inl none;
       }
+
+  -- either
+  pub unjoined_by :
+      {A : Type 0} (miner : A → StreamState) (ending : A → Ending) (e : FileErr) → HasCause {T = Unit {0}} a.faults b.faults (Err e)
+      → (a.steady ≡ true → IsSteady {T = Unit {0}} a.faults b.faults (Err e) ⊥) → SameLinks a b
+      → JoinsAndServes i port hello a b t t m {A = A} (Err (Node (unsent e))) miner ending
+  unjoined_by miner ending file_err.Failed cause steady none =
+      unjoined_from miner ending (cause.failed refl) (λ st. (steady st).failed refl) none
+  unjoined_by miner ending file_err.Memory cause steady none = unjoined_without_memory miner ending none
 
   module _ (c : LinksState) (u : TapesState) where
     stops_on : (taken : List ℕ) (e : ServeErr) → StopsSo i hello b c t u m taken e → StopsSo i hello a c t u m taken e

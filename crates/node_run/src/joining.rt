@@ -2,7 +2,8 @@
 ghost use Rattle.std.specs.Prelude.{◌≡◌, ◌≤◌};
 ghost use Rattle.proto_core.specs.Parties.{count_of};
 ghost use Rattle.miner_core.specs.Miners.{held};
-ghost use Rattle.miner_node.specs.Faults.{IsLater};
+ghost use Rattle.miner_node.specs.declared.node_err.ServeErr.TheVariants.{Node};
+ghost use Rattle.miner_node.specs.Faults.{IsLater, unsent};
 ghost use Rattle.miner_node.specs.Tapes.{IsReady};
 ghost use Rattle.node_run.specs.Nodes.{JoinsAndServes};
 
@@ -12,6 +13,16 @@ use outside::{FileErr, Links, TapeSource};
 use proto_core::Party;
 use std::alloc::Global;
 use wire::Hello;
+
+// Why a node has no text whose peers could not be joined.
+fn unjoined(e: FileErr) -> ServeErr
+    ensures { result ≡ Node (unsent e) }
+{
+    match e {
+        FileErr::Failed => ServeErr::Node(NodeErr::LinkFault),
+        FileErr::Memory => ServeErr::Node(NodeErr::Memory),
+    }
+}
 
 /// Joins the other two at three ports, of which this is the first, and serves the links to them until the miner's run has ended. A peer that
 /// can't be joined is a fault of the links.
@@ -33,7 +44,6 @@ pub(crate) fn serve_joined<P: Party, L: Links, T: TapeSource>(
 {
     match links.connect(P::number().as_u8(), port) {
         Ok(()) => serve_from(alloc, miner, hello, links, tapes),
-        Err(FileErr::Failed) => Err(ServeErr::Node(NodeErr::LinkFault)),
-        Err(FileErr::Memory) => Err(ServeErr::Node(NodeErr::Memory)),
+        Err(e) => Err(unjoined(e)),
     }
 }

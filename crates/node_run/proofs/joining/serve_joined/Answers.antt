@@ -1,9 +1,8 @@
 use Rattle.std.proofs.Common.{◌≡◌, ◌∙◌, ap, subst}
-use Rattle.outside.specs.declared.error.FileErr.TheVariants as file_err
 use Rattle.outside.specs.Links.{OneMore, joined}
 use Rattle.proto_core.specs.Parties.{count_of}
 use Rattle.miner_core.specs.Miners.{held}
-use Rattle.node_run.proofs.Joins.{unjoined_from, unjoined_without_memory, joined_from}
+use Rattle.node_run.proofs.Joins.{unjoined_by, joined_from}
 use Rattle.node_run.proofs.joining.serve_joined.Goals as goal
 
 pub returns-in-Ok-clause-serves : goal.returns-in-Ok-clause-serves
@@ -16,19 +15,11 @@ returns-in-Ok-clause-serves g c =
     (g.T.TapeSource.state c.args.tapes.now) (state c.serve_from.new.links) (g.T.TapeSource.state c.serve_from.new.tapes) c.serve_from.result _ _
     (subst (λ n. OneMore (state c.args.links.now) (state c.connect.new.self) (joined n c.args.port)) me h.called) c.serve_from.ensures.serves
 
-pub returns-in-Err-Failed-clause-serves : goal.returns-in-Err-Failed-clause-serves
-returns-in-Err-Failed-clause-serves g c =
+pub returns-in-Err-clause-serves : goal.returns-in-Err-clause-serves
+returns-in-Err-clause-serves g c =
     let state = g.L.Links.state in
-    let h = c.in-Err-Failed.ensures in
-    let is : c.in-Err-Failed.field-0 ≡ file_err.Failed = cc in
-    unjoined_from g.P.Party.me c.args.port (state c.args.links.now) (state c.connect.new.self) h.moves_none
+    let h = c.in-Err.ensures in
+    rw c.unjoined.ensures
+    (unjoined_by g.P.Party.me c.args.port (state c.args.links.now) (state c.connect.new.self) h.moves_none
     (record { told = h.moves_none.told; faults = h.cause.later; still = h.still }) c.args.hello.now (held c.args.miner)
-    (g.T.TapeSource.state c.args.tapes.now) _ _ (h.cause.failed is) (λ st. (h.steady st).failed is) h.err
-
-pub returns-in-Err-Memory-clause-serves : goal.returns-in-Err-Memory-clause-serves
-returns-in-Err-Memory-clause-serves g c =
-    let state = g.L.Links.state in
-    let h = c.in-Err-Memory.ensures in
-    unjoined_without_memory g.P.Party.me c.args.port (state c.args.links.now) (state c.connect.new.self) h.moves_none
-    (record { told = h.moves_none.told; faults = h.cause.later; still = h.still }) c.args.hello.now (held c.args.miner)
-    (g.T.TapeSource.state c.args.tapes.now) _ _ h.err
+    (g.T.TapeSource.state c.args.tapes.now) _ _ c.in-Err.e h.cause h.steady h.err)
