@@ -76,6 +76,7 @@ deal_to_hosts() {
 ready() {
   "$secrec" compile "$2" --code program.code >/dev/null
   [ "${#owners[@]}" -eq 0 ] || "$secrec" gather --me "$1" --to "share.$1" "${owners[@]/%/.$1}"
+  [ -e "share.$1" ] || { say "share.$1 isn't here yet: the owner deals it"; exit 1; }
   "$secrec_sum" program.code "share.$1" --budget "$budget"
 }
 

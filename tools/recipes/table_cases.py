@@ -163,8 +163,8 @@ FETCHED = (
         "line", "hs_grad murder most:10000 --scale hs_grad=10 --scale murder=10 --name hs_grad=x --name murder=y"
     ), line("hs_grad", "murder", 10, 10)),
     Case(f"{STATSMODELS}modechoice/modechoice.csv", by(
-        "four_counts", "choice hinc --bool choice --divide hinc=40 --bool hinc --name choice=first --name hinc=second"
-    ), four(lambda row: row["choice"] == "1", lambda row: int(row["hinc"]) >= 40), ";"),
+        "four_counts", "choice gc --bool choice --divide gc=140 --bool gc --name choice=first --name gc=second"
+    ), four(lambda row: row["choice"] == "1", lambda row: int(row["gc"]) >= 140), ";"),
     Case(f"{STATSMODELS}heart/heart.csv", by(
         "log_rank", "survival censors age times:60 --divide survival=30 --bool censors --scale age=10 --divide age=500 --bool age "
         "--name survival=time --name censors=event --name age=first"
