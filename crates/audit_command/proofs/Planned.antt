@@ -1,6 +1,6 @@
 -- What `audit` plans is what is decided of the files.
 use Rattle.std.proofs.Common.{◌≡◌, ℕ, List, true, Some, None, Ok, refl, sym, ◌∙◌, ap}
-use Rattle.outside.specs.Files.{FilesState}
+use Rattle.outside.specs.Files.{Contents, FilesState}
 use Rattle.command_frame.specs.Answer.{Effect}
 use Rattle.command_words.specs.Ask.{AuditAsk, four_lengths}
 use Rattle.proto_core.specs.declared.link.Link.{Link}
@@ -16,6 +16,7 @@ use Rattle.program_commands.specs.Judging.{Finding}
 use Rattle.program_commands.specs.Programs.{program_at}
 use Rattle.program_commands.specs.Reading.{public_at}
 use Rattle.audit_command.specs.Audit.{audit_effect, audit_of, verdict_effect, view_at, views_at, yes_effect}
+use Rattle.program_commands.proofs.Still.{IsStill}
 use Rattle.audit_command.specs.inner.Held.{answer_effect}
 
 pub audited_so : (found : Finding) (ask : AuditAsk) (f : FilesState) (p : TypedProgramTree) (part : List PublicEntry) (views : Number → View) (effect : Effect)
@@ -36,3 +37,13 @@ pub views_so : (ask : AuditAsk) (f : FilesState) (one two three : View) → view
     → view_at f.contents ask.third ≡ Ok three → views_at f.contents ask ≡ Ok (of_three one two three)
 unfolding views_at
 views_so ask f one two three a b c = rw (a, b, c) refl
+
+-- views that are read after other files are those of the beginning
+pub views_still : (f g : FilesState) → IsStill f g → (ask : AuditAsk) (views : Number → View)
+    → (g.told ≡ true → views_at g.contents ask ≡ Ok views) → f.told ≡ true → views_at f.contents ask ≡ Ok views
+views_still f g kept ask views given t = ap (λ (c : Contents). views_at c ask) (sym kept.contents) ∙ given (kept.told ∙ t)
+
+-- a view that is read first
+pub one_read : (f : FilesState) (path other : List ℕ) → path ≡ other → (view : View)
+    → (f.told ≡ true → view_at f.contents path ≡ Ok view) → f.told ≡ true → view_at f.contents other ≡ Ok view
+one_read f path other same view given t = ap (view_at f.contents) (sym same) ∙ given t
