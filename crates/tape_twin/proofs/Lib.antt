@@ -1,9 +1,8 @@
 mod DealerWords
 pub mod Whole
-pub mod Differences
+mod Differences
 pub mod FirstDifferences
-pub mod Runs
+mod Runs
 mod Blocks
-mod Looks
 pub mod Passing
 mod Walking
