@@ -18,7 +18,9 @@ use Rattle.program_views.specs.Views.{lengths_of, run_on, told_run}
 use Rattle.handed_shares.specs.Handed.{all_of}
 use Rattle.client_model.specs.Given.{Given, made_from}
 use Rattle.client_model.specs.Laws.{given}
-pub use Rattle.client_text.specs.Seen.{Sighting, Opened, Said, Got, ClientView}
+pub use Rattle.client_text.specs.declared.seen.Sighting.{Sighting}
+pub use Rattle.client_text.specs.declared.seen.Sighting.TheVariants.{Opened, Said, Got}
+pub use Rattle.client_text.specs.Seen.{ClientView}
 
 -- ---- A VIEW
 

@@ -38,8 +38,6 @@ pub enum Status {
     OpenedShort,
     /// Standard output failed.
     Write,
-    /// Three views are of no run.
-    NotOneRun,
     /// Memory ran out.
     Memory,
 }
@@ -67,7 +65,6 @@ impl Status {
             Status::NotAlike => 14,
             Status::OpenedShort => 15,
             Status::Write => 16,
-            Status::NotOneRun => 19,
             Status::Memory => 20,
         }
     }

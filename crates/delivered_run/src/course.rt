@@ -83,8 +83,10 @@ fn dealer_words<T: TapeSource>(
 {
     let count = drawn_count(need(inputs.entries()), tapes.left(0));
     let mut words = vec![in alloc; 0u64; count as usize]?;
-    tapes.take(0, words.as_mut_slice())?;
-    Ok(words)
+    match tapes.take(0, words.as_mut_slice()) {
+        Ok(()) => Ok(words),
+        Err(_) => Err(Lost::TapeFault),
+    }
 }
 
 /// What a run begins with: its code, how many words the four tapes have, and the words of the dealer's tape for the inputs.

@@ -1,17 +1,11 @@
-pub mod Answered
 pub mod Asked
-pub mod Delivered
 pub mod Fit
 pub mod LastLines
-pub mod NeedCounts
 pub mod Nothing
 pub mod Padded
 pub mod Passed
-pub mod Ready
 pub mod Refuted
-pub mod Right
 pub mod Shown
-pub mod ShownRuns
 pub mod Undealt
 pub mod Whole
 pub mod Zeros

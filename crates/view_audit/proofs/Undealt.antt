@@ -1,15 +1,15 @@
 -- Where dealing ended the run there is nothing but its end: in views of such a run the steps find nothing wrong, and only in such.
-use Rattle.std.proofs.Common.{◌≡◌, ℕ, zero, suc, ◌+◌, ◌&&◌, ◌==◌, Bool, true, false, if◌then◌else◌, List, []}
-use Rattle.std.proofs.Common.{◌∷◌, ◌++◌, length, get_or, Option, Some, None, refl, sym, ◌∙◌, ap, subst, arith}
+use Rattle.std.proofs.Common.{◌≡◌, ℕ, ◌+◌, ◌&&◌, ◌==◌, Bool, true, false, if◌then◌else◌, List, []}
+use Rattle.std.proofs.Common.{◌∷◌, ◌++◌, length, get_or, Some, None, refl, sym, ◌∙◌, ap, subst, arith}
 use Rattle.std.proofs.lemmas.Bool.{eqb-true, eq-eqb}
-use Rattle.std.specs.Prelude.{nat_le, nat_lt, option_map}
+use Rattle.std.specs.Prelude.{nat_le, option_map}
 use Rattle.sc_text.specs.declared.end.Ending.TheVariants as ending
 use Rattle.sc_text.specs.declared.end.TapeOwner.TheVariants.{Dealer}
 use Rattle.proto_core.specs.declared.link.Link.{Link}
 use Rattle.proto_core.specs.declared.party.Number.{Number}
 use Rattle.proto_core.specs.declared.party.Number.TheVariants.{One, Two, Three}
 use Rattle.proto_core.specs.Parties.{from_next, from_previous, is_same, receiver_of}
-use Rattle.proto_core.specs.Strand.{Mail, rest_of, same_link}
+use Rattle.proto_core.specs.Strand.{rest_of, same_link}
 use Rattle.proto_core.proofs.Numbers.{same_is, same_itself}
 use Rattle.protocol_model.specs.Network.{Accepted, Listed, net}
 use Rattle.protocol_model.specs.Runs.{run_messages}
@@ -43,16 +43,14 @@ use Rattle.merged_orders.specs.Merging.{links_to, Orders, Stuck}
 use Rattle.merged_views.specs.Brought.{links_of}
 use Rattle.gate_audit.specs.Shown.{AreShareWords, HaveShareWords}
 use Rattle.gate_audit.proofs.Steps.{truths_are}
-use Rattle.view_audit.specs.Audit.{by_draws, by_ends, by_messages, by_sums, first_of_five, left_line, order_found, orders, wanted}
+use Rattle.view_audit.specs.Audit.{orders, wanted}
 use Rattle.view_audit.specs.Found.{entries_found, lines, messages, report, scripts, shows, suffices, tapes_found, zero_lines}
 use Rattle.view_audit.specs.Laws.{IsAuditable, IsFound}
 use Rattle.view_audit.specs.OneRun.{OneRun}
-use Rattle.view_audit.specs.Places.{Place, lowest, then_ask, third_line}
-use Rattle.view_audit.specs.Steps.{draws_line, drew_line, ends_line, first_got, inputs_line, messages_line, stop_line}
-use Rattle.furthest_order.specs.Merged.{merged}
-use Rattle.view_audit.proofs.Asked.{none_before, none_named, some_is_none, tested, three_none}
+use Rattle.view_audit.specs.Steps.{drew_line, first_got, stop_line}
+use Rattle.view_audit.proofs.Asked.{none_before, none_named, some_is_none, tested}
 use Rattle.view_audit.proofs.Fit.{long, sound_found, tapes}
-use Rattle.view_audit.proofs.Nothing.{FindNothing, find_nothing, nothing_found}
+use Rattle.view_audit.proofs.Nothing.{FindNothing, nothing_found}
 use Rattle.view_audit.proofs.Passed.{view_here}
 use Rattle.view_audit.proofs.Shown.{IsViewOf, view_parts}
 use Rattle.view_audit.proofs.Zeros.{zeros_are, zeros_have_words, zeros_right}
@@ -120,10 +118,6 @@ no_links (l ∷ ls) h =
     let rest : List Link = links_to (receiver_of l) ls in
     let here : l ∷ rest ≡ [] = sym (ap (λ b. if b then l ∷ rest else rest) (same_itself (receiver_of l))) ∙ h (receiver_of l) in
     cons_is_none l rest here
-
-never_below : (n : ℕ) → nat_lt n 0 ≡ false
-never_below zero = refl
-never_below (suc n) = refl
 
 no_words : (m : Miner) → drawn_by (words_each 0) m ≡ 0
 no_words Miner1 = refl
@@ -293,59 +287,3 @@ module _
 
       pub undealt_found : IsFound p part lengths budget views
       undealt_found = record { steps = nothing_found p part lengths budget views find_none; leaves_none = left_none }
-
-    -- ---- the five steps, by what is known before
-
-    abbrev known_steps : Option Place
-    known_steps =
-        then_ask (lowest (λ i. inputs_line [] i (views i)))
-        (then_ask (lowest (λ i. draws_line (drawn_by u.drawn (miner_of i)) (views i)))
-        (then_ask (lowest (λ i. messages_line (λ l. []) i (views i))) (lowest (λ i. ends_line u (views i)))))
-
-    no_mail : messages part lengths views p budget ≡ (λ l. [])
-    no_mail = λ d. λ l. no_messages l d
-
-    pub steps_known : first_of_five p part lengths budget views ≡ known_steps
-    steps_known =
-        ap (λ (ps : List PublicEntry). then_ask (lowest (λ i. inputs_line ps i (views i)))
-        (then_ask (by_sums p part lengths budget views)
-        (then_ask (by_draws p part lengths budget views)
-        (then_ask (by_messages p part lengths budget views) (by_ends p part lengths budget views))))) wanted_none
-        ∙ ap (λ (o : Option ℕ). then_ask (lowest (λ i. inputs_line [] i (views i)))
-        (then_ask (third_line (option_map (λ k. 2 + k) o))
-        (then_ask (by_draws p part lengths budget views)
-        (then_ask (by_messages p part lengths budget views) (by_ends p part lengths budget views))))) sums_right
-        ∙ ap (λ (x : Report). then_ask (lowest (λ i. inputs_line [] i (views i)))
-        (then_ask (lowest (λ i. draws_line (drawn_by x.drawn (miner_of i)) (views i)))
-        (then_ask (by_messages p part lengths budget views) (lowest (λ i. ends_line x (views i)))))) found_report
-        ∙ ap (λ (m : Mail). then_ask (lowest (λ i. inputs_line [] i (views i)))
-        (then_ask (lowest (λ i. draws_line (drawn_by u.drawn (miner_of i)) (views i)))
-        (then_ask (lowest (λ i. messages_line m i (views i))) (lowest (λ i. ends_line u (views i)))))) no_mail
-
-    -- where they find nothing wrong no message is left, since none came
-    module _ (none : first_of_five p part lengths budget views ≡ None) where
-      find_none_here : FindNothing p part lengths budget views
-      find_none_here = find_nothing p part lengths budget views none
-
-      no_order_there : (i : Number) → orders p part lengths budget views i ≡ []
-      no_order_there i = ap links_of (no_got find_none_here i)
-
-      pub record NothingLeft : Type 0 where
-        pub order : order_found p part lengths budget views ≡ []
-        pub none : lowest (left_line p part lengths budget views) ≡ None
-
-      pub nothing_is_left : NothingLeft
-      unfolding merged
-      nothing_is_left =
-          let none_there : orders p part lengths budget views ≡ (λ i. []) = λ k. λ i. no_order_there i k in
-          let order : order_found p part lengths budget views ≡ [] = ap (λ os. merged (scripts part lengths views p budget) os) none_there in
-          record {
-            order = order;
-            none =
-                three_none (left_line p part lengths budget views)
-                (λ i.
-                ap (λ (rs : List Received). if nat_lt (length (links_to i (order_found p part lengths budget views))) (length rs)
-                then Some (first_got (views i) + length (links_to i (order_found p part lengths budget views))) else None) (no_got find_none_here i)
-                ∙ ap (λ b. if b then Some (first_got (views i) + length (links_to i (order_found p part lengths budget views))) else None)
-                (never_below (length (links_to i (order_found p part lengths budget views)))));
-          }

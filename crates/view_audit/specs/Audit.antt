@@ -1,6 +1,5 @@
 -- What an audit answers.
-use Rattle.std.specs.Prelude.{◌≡◌, ◌⊎◌, ℕ, ◌+◌, nat_lt, if◌then◌else◌, List, [], length, Option, Some, None}
-use Rattle.proto_core.specs.declared.link.Link.{Link}
+use Rattle.std.specs.Prelude.{◌≡◌, ◌⊎◌, ℕ, ◌+◌, if◌then◌else◌, List, [], Option, Some, None, option_map}
 use Rattle.proto_core.specs.declared.party.Number.{Number}
 use Rattle.proto_core.specs.declared.party.Number.TheVariants.{One, Two, Three}
 use Rattle.shared_gates.specs.Model.{miner_of}
@@ -9,15 +8,14 @@ use Rattle.program_trees.specs.TypedPrograms.{TypedProgramTree}
 use Rattle.language_model.specs.Reports.{Report}
 use Rattle.gate_laws.specs.Dealt.{drawn_by}
 use Rattle.view_text.specs.View.{View}
-use Rattle.merged_orders.specs.Merging.{Orders, links_to}
-use Rattle.furthest_order.specs.Merged.{merged}
+use Rattle.merged_orders.specs.Merging.{Orders}
 use Rattle.merged_views.specs.Brought.{links_of}
 use Rattle.merged_views.specs.Unreached.{IsFirstUnreached}
 use Rattle.view_audit.specs.declared.answer.Audit.{Audit}
 use Rattle.view_audit.specs.declared.answer.Audit.TheVariants.{Yes, No}
 use Rattle.view_audit.specs.Found.{lines, messages, report, scripts, suffices}
 use Rattle.view_audit.specs.OneRun.{AreOneRun, OneRun}
-use Rattle.view_audit.specs.Places.{Place, lowest, place_in, then_ask, third_line}
+use Rattle.view_audit.specs.Places.{Place, lowest, place_in, then_ask}
 use Rattle.view_audit.specs.Steps.{draws_line, ends_line, first_got, inputs_line, messages_line, sums_line}
 
 module _ (p : TypedProgramTree) (part : List PublicEntry) (lengths : List ℕ) (budget : ℕ) (views : Number → View) where
@@ -29,38 +27,17 @@ module _ (p : TypedProgramTree) (part : List PublicEntry) (lengths : List ℕ) (
   wanted = if suffices part lengths then part else []
 
   -- STEPS 1 TO 5: each asks the views of all three miners, the lowest first; a sum that isn't of its type is named in the third view
-  abbrev pub by_inputs : Option Place
-  by_inputs = lowest (λ i. inputs_line wanted i (views i))
-
-  abbrev pub by_sums : Option Place
-  by_sums = third_line (sums_line part (lines part lengths views One) (lines part lengths views Two) (lines part lengths views Three))
-
-  abbrev pub by_draws : Option Place
-  by_draws = lowest (λ i. draws_line (drawn_by shown.drawn (miner_of i)) (views i))
-
-  abbrev pub by_messages : Option Place
-  by_messages = lowest (λ i. messages_line (messages part lengths views p budget) i (views i))
-
-  abbrev pub by_ends : Option Place
-  by_ends = lowest (λ i. ends_line shown (views i))
-
   abbrev pub first_of_five : Option Place
-  first_of_five = then_ask by_inputs (then_ask by_sums (then_ask by_draws (then_ask by_messages by_ends)))
+  first_of_five =
+      then_ask (lowest (λ i. inputs_line wanted i (views i)))
+      (then_ask (option_map (place_in Three) (sums_line part (lines part lengths views One) (lines part lengths views Two) (lines part lengths views Three)))
+      (then_ask (lowest (λ i. draws_line (drawn_by shown.drawn (miner_of i)) (views i)))
+      (then_ask (lowest (λ i. messages_line (messages part lengths views p budget) i (views i)))
+      (lowest (λ i. ends_line shown (views i))))))
 
   -- STEP 6: the first `got` line that no schedule within the three orders reaches
   abbrev pub orders : Orders
   orders i = links_of (views i).got
-
-  -- the deliveries go as far as they can, the lowest miner's first; a miner's first message that is left then is named
-  abbrev pub order_found : List Link
-  order_found = merged (scripts part lengths views p budget) orders
-
-  abbrev pub left_line : Number → Option ℕ
-  left_line i =
-      if nat_lt (length (links_to i order_found)) (length (views i).got) then Some (first_got (views i) + length (links_to i order_found)) else None
-
-  abbrev pub first_failure : Option Place
-  first_failure = then_ask first_of_five (lowest left_line)
 
   abbrev pub IsUnreachedLine : Number → ℕ → Type 0
   IsUnreachedLine i line = (place : ℕ) × (line ≡ first_got (views i) + place) × IsFirstUnreached (scripts part lengths views p budget) orders i place
@@ -76,8 +53,3 @@ module _ (p : TypedProgramTree) (part : List PublicEntry) (lengths : List ℕ) (
   abbrev pub IsAudit : Audit → Type 0
   IsAudit (Yes order) = OneRun p part lengths budget views order.items
   IsAudit (No miner line) = IsRefuted miner line
-
-  -- the same as what is found
-  abbrev pub IsFoundAnswer : Audit → Type 0
-  IsFoundAnswer (Yes order) = (first_failure ≡ None) × (order.items ≡ order_found)
-  IsFoundAnswer (No miner line) = first_failure ≡ Some (place_in miner line)

@@ -1,5 +1,5 @@
 -- What is promised of an audit's steps.
-use Rattle.std.specs.Prelude.{◌≡◌, ℕ, List, [], ◌∷◌, length, Some, None}
+use Rattle.std.specs.Prelude.{◌≡◌, ℕ, List, [], ◌∷◌, length, None}
 use Rattle.program_trees.specs.Programs.{ProgramTree}
 use Rattle.program_trees.specs.TypedPrograms.{TypedProgramTree}
 use Rattle.reached_instances.specs.Instances.{Instance}
@@ -13,10 +13,9 @@ use Rattle.input_share.specs.Values.{elements_of}
 use Rattle.view_text.specs.View.{IsView, View, Words}
 use Rattle.code_inputs.specs.Laws.{IsAccepted}
 use Rattle.merged_orders.specs.Merging.{Orders, Stuck}
-use Rattle.view_audit.specs.Audit.{IsRefuted, first_failure, first_of_five, order_found, orders}
+use Rattle.view_audit.specs.Audit.{first_of_five, orders}
 use Rattle.view_audit.specs.Found.{scripts}
-use Rattle.view_audit.specs.OneRun.{AreOneRun, OneRun}
-use Rattle.view_audit.specs.Places.{place_in}
+use Rattle.view_audit.specs.OneRun.{OneRun}
 
 -- ---- WHAT IS AUDITED: an accepted program, a public part that may stand in a file and has words of 64 bits, four lengths, and three views that may stand
 -- in files
@@ -58,17 +57,3 @@ abbrev pub ViewsOfOneRunPass :
     (source : ProgramTree) (p : TypedProgramTree) → List PublicEntry → (lengths : List ℕ) → (budget : ℕ) → (Number → View) → List Link → Type 0
 ViewsOfOneRunPass source p part lengths budget views order =
     (is : List Instance) → IsAuditable source p is part lengths views → OneRun p part lengths budget views order → IsFound p part lengths budget views
-
--- ---- what is found is right: where no failure is found, the order that is found is one of one run; a failure that is found refutes
-
-pub record IsRightlyFound (p : TypedProgramTree) (part : List PublicEntry) (lengths : List ℕ) (budget : ℕ) (views : Number → View) : Type 0 where
-  pub whole :
-      first_failure p part lengths budget views ≡ None → OneRun p part lengths budget views (order_found p part lengths budget views)
-  pub refuted :
-      (i : Number) (line : ℕ) → first_failure p part lengths budget views ≡ Some (place_in i line) → IsRefuted p part lengths budget views i line
-  pub only_if : AreOneRun p part lengths budget views → first_failure p part lengths budget views ≡ None
-
-abbrev pub FoundAnswersAreRight :
-    (source : ProgramTree) (p : TypedProgramTree) → List PublicEntry → (lengths : List ℕ) → (budget : ℕ) → (Number → View) → Type 0
-FoundAnswersAreRight source p part lengths budget views =
-    (is : List Instance) → IsAuditable source p is part lengths views → IsRightlyFound p part lengths budget views

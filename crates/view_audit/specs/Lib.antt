@@ -4,6 +4,4 @@ pub mod Laws
 pub mod OneRun
 pub mod Places
 pub mod Steps
-pub mod Told
 pub mod Vectors
-pub mod inner

@@ -3,13 +3,14 @@ use Rattle.std.specs.Prelude.{ℕ, Option, Some, None, option_map}
 use Rattle.std.specs.Option.{option_map_or}
 use Rattle.proto_core.specs.declared.party.Number.{Number}
 use Rattle.proto_core.specs.declared.party.Number.TheVariants.{One, Two, Three}
-pub use Rattle.view_audit.specs.declared.places.Place.{Place}
+
+-- lines count from 1
+pub record Place : Type 0 where
+  pub miner : Number
+  pub line : ℕ
 
 abbrev pub place_in : Number → ℕ → Place
 place_in i line = record { miner = i; line = line }
-
-abbrev pub third_line : Option ℕ → Option Place
-third_line line = option_map (place_in Three) line
 
 -- the lowest miner's
 abbrev pub lowest : (Number → Option ℕ) → Option Place

@@ -11,7 +11,7 @@ ghost use Rattle.merged_orders.specs.Merging.{Orders, Stuck, links_to};
 ghost use Rattle.merged_views.specs.Unreached.{NoneIsLeftBelow};
 ghost use Rattle.view_audit.specs.Audit.{IsRefuted, first_of_five, orders};
 ghost use Rattle.view_audit.specs.Found.{scripts};
-ghost use Rattle.view_audit.specs.Laws.{FoundAnswersAreRight, IsAuditable, PassedViewsAreOneRun, ViewsOfOneRunPass};
+ghost use Rattle.view_audit.specs.Laws.{IsAuditable, PassedViewsAreOneRun, ViewsOfOneRunPass};
 ghost use Rattle.view_audit.specs.Places.{place_in};
 ghost use Rattle.view_audit.specs.Steps.{first_got};
 
@@ -40,11 +40,4 @@ pub fn failures_refute()
         IsAuditable source p is part lengths views → first_of_five p part lengths budget views ≡ None →
         Stuck (scripts part lengths views p budget) (orders p part lengths budget views) ls left → NoneIsLeftBelow left i → left i ≢ [] →
         IsRefuted p part lengths budget views i (first_got (views i) + length (links_to i ls)) }
-{}
-
-/// Law: of what may be audited, the order that is found is one of one run where no failure is found; a failure that is found is the first one, and
-/// the views are of no run. So a failure is found exactly where they are of none.
-pub fn found_answers_are_right()
-    ensures { (source : ProgramTree) (p : TypedProgramTree) (part : List PublicEntry) (lengths : List ℕ) (budget : ℕ) (views : Number → View) →
-        FoundAnswersAreRight source p part lengths budget views }
 {}
