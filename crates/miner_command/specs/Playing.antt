@@ -25,7 +25,7 @@ use Rattle.tape_sources.specs.FileTapes.{file_in, words_in, TapeFaulted}
 use Rattle.command_frame.specs.declared.object.Object.TheVariants as objects
 use Rattle.miner_command.specs.declared.files.MinerFiles.{MinerFiles}
 use Rattle.miner_command.specs.declared.opened_file.TapeFile.{TapeFile}
-use Rattle.miner_command.specs.Files.{Given}
+use Rattle.miner_command.specs.Files.{Given, given_at}
 use Rattle.miner_command.specs.Views.{given_with}
 use Rattle.miner_command.specs.Miner.{bad_peer, hello_field, message_fault, node_answer, nothing_sent, own_of}
 
