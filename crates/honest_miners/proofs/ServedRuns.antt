@@ -46,7 +46,7 @@ use Rattle.joined_nodes.specs.Runs.{gates_to_run, messages}
 use Rattle.joined_nodes.specs.Stories.{IsStoryOf}
 use Rattle.joined_nodes.proofs.Stories.{does_its_part}
 use Rattle.miner_text.specs.Lines.{text_of}
-use Rattle.miner_text.specs.Texts.{IsEnd}
+use Rattle.miner_text.specs.Texts.{IsEnd as IsTextEnd}
 use Rattle.trio.specs.Answers.{join_of}
 use Rattle.node_run.specs.Told.{lines_told}
 use Rattle.miner_node.specs.Serving.{CutOff, Finished, Serving, hello_to, serving}
@@ -270,7 +270,7 @@ module _ (p : TypedProgramTree) (entries : List Entry) (t : FourTapes) (budget :
   named : AreNamed report.events
   named = events_named p offer budget h.accepted
 
-  fits : AreCounted entries t budget → IsEnd end
+  fits : AreCounted entries t budget → IsTextEnd end
   fits counted =
       let can : CanBeRun p entries t budget =
       record {
