@@ -4,10 +4,10 @@
 
 Counted by hand, from what is said of the commands: of files one call for each that is read and for each that is written, of a view two, one for its first
 line and one for what comes after it, which is short here; of a tape that is drawn from its file, which is a miner's own and that of `run`, one for its
-size, and of its lengths, of the words that the dealer needs and of those of each gate for which a miner draws some one for each 7 bytes and for the rest; of
-a stream one for each 7 bytes of its text and for the rest; of links one that connects, and of each hello, of each frame that is sent, and of the head and
-the words of each that is read one for each 7 bytes and for the rest; of children six. With each call that fails the error stream has the line that tells it,
-unless it is the one that fails.
+size, and of its lengths and of what is read ahead for the dealer and each miner (all of it, where a tape has at most 512 words) one for each 7 bytes and for
+the rest; of a stream one for each 7 bytes of its text and for the rest; of links one that connects, and of each hello, of each frame that is sent, and of the
+head and the words of each that is read one for each 7 bytes and for the rest; of children six. With each call that fails the error stream has the line that
+tells it, unless it is the one that fails.
 """
 from __future__ import annotations
 
@@ -94,9 +94,21 @@ class FaultRows(Rows):
         self.counted(title, counted, f"call {words}", *found_files(caller.paths, found), *answered(answer))
 
 
-def drawn_calls(lengths: int, counts: list[int]) -> int:
-    """The calls of a tape file whose words are drawn where they are wanted: its size, its lengths, and each time so many words."""
-    return 1 + sum(calls_for(8 * count) for count in (lengths, *counts))
+def drawn_calls(lengths: int, parties: list[tuple[int, list[int]]]) -> int:
+    """The calls of a tape file whose words are drawn where they are wanted: its size, its lengths, and what is read ahead for each party, which has so many
+    words and draws so many each time."""
+    return 1 + calls_for(8 * lengths) + sum(ahead_calls(words, draws) for words, draws in parties)
+
+
+def ahead_calls(left: int, draws: list[int]) -> int:
+    """The calls that read a party's words, of draws of fewer than 256: where fewer are ready than are drawn, up to 512 are read from the next one on."""
+    calls = ready = 0
+    for wanted in draws:
+        if wanted > ready:
+            ready = min(left, 512)
+            calls += calls_for(8 * ready)
+        ready, left = ready - wanted, left - wanted
+    return calls
 
 
 def run_calls(caller: Watched, path: str, inputs: bytes) -> int:
@@ -104,8 +116,10 @@ def run_calls(caller: Watched, path: str, inputs: bytes) -> int:
     miner for each gate."""
     if not caller.reports:
         return drawn_calls(4, []) if len(caller.found[path]) >= 32 else 1
-    dealers = min(dealer_need(read_inputs(inputs)), len(read_tapes(caller.found[path])[0]))
-    return drawn_calls(4, [dealers, *(count for gate in caller.reports[-1].gates for count in gate.drawn())])
+    tapes, gates = read_tapes(caller.found[path]), caller.reports[-1].gates
+    dealers = min(dealer_need(read_inputs(inputs)), len(tapes[0]))
+    draws = [[dealers], *([gate.drawn()[party] for gate in gates] for party in range(3))]
+    return drawn_calls(4, [(len(words), counts) for words, counts in zip(tapes, draws)])
 
 
 def drawn_of(caller: Watched, words: list[str]) -> dict[str, int]:
@@ -201,7 +215,8 @@ def link_calls(setting: Setting, miner: int) -> int:
 
 def tape_calls(setting: Setting, miner: int) -> list[str]:
     """The path of a miner's own tape, once a call."""
-    return [f"p.t{miner}"] * drawn_calls(1, [gate.drawn()[miner - 1] for gate in setting.report.gates])
+    words = len(setting.tapes[miner])
+    return [f"p.t{miner}"] * drawn_calls(1, [(words, [gate.drawn()[miner - 1] for gate in setting.report.gates])])
 
 
 def process_rows() -> FaultRows:

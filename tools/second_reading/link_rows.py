@@ -313,16 +313,15 @@ def hellos_in_turn(rows: MinerRows, setting: Setting, me: int):
 
 
 def tape_fault_rows(rows: MinerRows):
-    """An own tape that can't be read. Of files the code is the first call, then the share file, the tape's size and its length, and then the words of each
-    gate that draws: those before the first wait are drawn before the peers are joined."""
+    """An own tape that can't be read. Of files the code is the first call, then the share file, the tape's size and its length, and then, where a gate draws
+    first, all words of so short a tape, which are read ahead: before the peers are joined, since that gate begins before the first wait."""
     setting, me = PRODUCT.setting(SIX_SEVEN, ZEROS), 2
     rows.setting("miner 2 of a product, whose tape cannot be read", setting, me, None, *honest(setting, me))
     for number, what in ((2, "its size"), (3, "its length"), (5, "the words of the product")):
         rows.refused(f"{what} cannot be read", 9, "file p.t2", me, f"fail files {number}")
-    sent = was_sent(setting, me, {12: 1})
-    rows.refused("the words of the opening cannot be read", 9, "file p.t2", me, "fail files 9", *sent)
-    rows.refused("the same, one byte a call", 9, "file p.t2", me, "slow", "fail files 9", *sent)
-    rows.refused("the text cannot be written", 9, "file p.o2", me, "fail files 11", *was_sent(setting, me))
+    rows.refused("the words of the opening, which are read with them, cannot be read", 9, "file p.t2", me, "fail files 9")
+    rows.refused("the same, one byte a call", 9, "file p.t2", me, "slow", "fail files 9")
+    rows.refused("the text cannot be written", 9, "file p.o2", me, "fail files 10", *was_sent(setting, me))
     short = PRODUCT.setting(SIX_SEVEN, [[0] * 3, *ZEROS[1:]])
     rows.setting("miner 2, whose dealer's tape is too short, and whose own cannot be read", short, me, None, *honest(short, me))
     rows.refused("its length cannot be read", 9, "file p.t2", me, "fail files 3")
