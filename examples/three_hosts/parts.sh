@@ -53,7 +53,7 @@ let_go() {
   trap '' INT TERM HUP
   rm -f own.tape
   for one in $miner "${tunnels[@]}"; do
-    if goes_on "$one"; then kill "$one" || true; fi
+    if goes_on "$one"; then kill "$one" 2>/dev/null || true; fi
   done
   wait || true
   exit "$status"
