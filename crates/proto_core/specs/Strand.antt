@@ -48,8 +48,8 @@ pub data Notice : Type 0 where
   Shown : (form : Form) (words : List ℕ) → Notice
   -- a public value, under the name under which it is published
   Published : (name : List ℕ) (form : Form) (words : List ℕ) → Notice
-  -- its own share of a private one
-  Handed : (name : List ℕ) (form : Form) (words : List ℕ) → Notice
+  -- its own share of a private one, of so many elements: a number has a word each, 64 truth values have one
+  Handed : (name : List ℕ) (form : Form) (count : ℕ) (words : List ℕ) → Notice
 
 -- a message that it sends, words that it learns, something that it tells
 pub data Act : Type 0 where

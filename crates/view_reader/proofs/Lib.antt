@@ -1,6 +1,6 @@
 mod Collected
 mod Texts
-mod LinesRead
+pub mod LinesRead
 pub mod OpenedRead
 mod PublishedRead
 mod OpenedLaws
