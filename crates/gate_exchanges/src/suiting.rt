@@ -109,7 +109,6 @@ pub fn suits(gate: &Gate, dealt: &Values, values: &Values) -> bool
         | Gate::Shl { operand, .. }
         | Gate::Shr { operand, .. }
         | Gate::Low { operand }
-        | Gate::Spread { operand }
         | Gate::Pack { operand }
         | Gate::Sum { operand }
         | Gate::Stretch { operand, .. }

@@ -14,7 +14,7 @@ use Rattle.share_convert.specs.Converting.{conv_protocol}
 use Rattle.split_share.specs.Splitting.{split_protocol}
 use Rattle.gate_exchanges.specs.Blocked.{blocked}
 use Rattle.gates.specs.declared.gate.Gate.{Gate}
-use Rattle.gates.specs.declared.gate.Gate.TheVariants.{Input, Const, Add, Sub, MulPub, Mul, Xor, And, Not, Shl, Shr, Low, Cat, Part, Put, Rep, Spread}
+use Rattle.gates.specs.declared.gate.Gate.TheVariants.{Input, Const, Add, Sub, MulPub, Mul, Xor, And, Not, Shl, Shr, Low, Cat, Part, Put, Rep}
 use Rattle.gates.specs.declared.gate.Gate.TheVariants.{Pack, Unpack, RepBit, PartBit, PutBit, CatBit}
 use Rattle.gates.specs.declared.gate.Gate.TheVariants.{Sum, Stretch, Tile, SumEach, Split, Conv, Open, Result}
 use Rattle.gates.specs.Bits.{words_for}
@@ -70,7 +70,6 @@ module _ (i : Number) (dealt values held : Values) (as_many : length held ≡ le
   same_suits (Part u from count) h = λ d. there u d && nat_le (from + count) (size u h.0 d)
   same_suits (Put u index v) h = λ d. there u d && (there v d && (nat_lt index (size u h.0 d) && (size v h.1.0 d == 1)))
   same_suits (Rep u count) h = λ d. there u d && (size u h.0 d == 1)
-  same_suits (Spread u) h = there u
   same_suits (Pack u) h = there u
   same_suits (Unpack u count) h = λ d. there u d && (size u h.0 d == words_for count)
   same_suits (RepBit u count) h = λ d. there u d && (size u h.0 d == 1)
@@ -145,7 +144,6 @@ module _ (i : Number) (dealt values held : Values) (as_many : length held ≡ le
     same_made (Part u from count) h = one (Part 0 from count) u h.0
     same_made (Put u index v) h = two (Put 0 index 1) u v h.0 h.1.0
     same_made (Rep u count) h = one (Rep 0 count) u h.0
-    same_made (Spread u) h = one (Spread 0) u h.0
     same_made (Pack u) h = one (Pack 0) u h.0
     same_made (Unpack u count) h = one (Unpack 0 count) u h.0
     same_made (RepBit u count) h = one (RepBit 0 count) u h.0

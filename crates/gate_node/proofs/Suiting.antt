@@ -2,7 +2,7 @@
 use Rattle.std.proofs.Common.{◌≡◌, ℕ, ◌+◌, ◌/◌, ◌<◌, ◌≤◌, Bool, true, false, ◌==◌, ◌&&◌, nat_lt, nat_le, IsTrue, ◌↔◌, List, length, refl, ◌*◌}
 use Rattle.std.proofs.lemmas.Bool.{lt-ltb, ltb-true, le-leb, leb-true, eqb-true, eq-eqb}
 use Rattle.gates.specs.declared.gate.Gate.{Gate}
-use Rattle.gates.specs.declared.gate.Gate.TheVariants.{Input, Const, Add, Sub, MulPub, Mul, Xor, And, Not, Shl, Shr, Low, Cat, Part, Put, Rep, Spread}
+use Rattle.gates.specs.declared.gate.Gate.TheVariants.{Input, Const, Add, Sub, MulPub, Mul, Xor, And, Not, Shl, Shr, Low, Cat, Part, Put, Rep}
 use Rattle.gates.specs.declared.gate.Gate.TheVariants.{Pack, Unpack, RepBit, PartBit, PutBit, CatBit}
 use Rattle.gates.specs.declared.gate.Gate.TheVariants.{Sum, Stretch, Tile, SumEach, Split, Conv, Open, Result}
 use Rattle.gates.specs.Bits.{words_for}
@@ -79,7 +79,6 @@ test-is dealt sizes (Cat u v) = both _ _ (there sizes u) (there sizes v)
 test-is dealt sizes (Part u from count) = both _ _ (there sizes u) (at_most (from + count) (size_of sizes u))
 test-is dealt sizes (Put u index v) = put sizes u index v
 test-is dealt sizes (Rep u count) = both _ _ (there sizes u) (same (size_of sizes u) 1)
-test-is dealt sizes (Spread u) = there sizes u
 test-is dealt sizes (Pack u) = there sizes u
 test-is dealt sizes (Unpack u count) = both _ _ (there sizes u) (same (size_of sizes u) (words_for count))
 test-is dealt sizes (RepBit u count) = both _ _ (there sizes u) (same (size_of sizes u) 1)

@@ -1,7 +1,7 @@
 -- Whether a gate suits the sizes of the values before it, as a test.
 use Rattle.std.specs.Prelude.{ℕ, ◌+◌, ◌/◌, Bool, true, ◌==◌, ◌&&◌, nat_lt, nat_le, List, length, ◌*◌}
 use Rattle.gates.specs.declared.gate.Gate.{Gate}
-use Rattle.gates.specs.declared.gate.Gate.TheVariants.{Input, Const, Add, Sub, MulPub, Mul, Xor, And, Not, Shl, Shr, Low, Cat, Part, Put, Rep, Spread}
+use Rattle.gates.specs.declared.gate.Gate.TheVariants.{Input, Const, Add, Sub, MulPub, Mul, Xor, And, Not, Shl, Shr, Low, Cat, Part, Put, Rep}
 use Rattle.gates.specs.declared.gate.Gate.TheVariants.{Pack, Unpack, RepBit, PartBit, PutBit, CatBit}
 use Rattle.gates.specs.declared.gate.Gate.TheVariants.{Sum, Stretch, Tile, SumEach, Split, Conv, Open, Result}
 use Rattle.gates.specs.Bits.{words_for}
@@ -33,7 +33,6 @@ suits dealt sizes (Cat u v) = is_there sizes u && is_there sizes v
 suits dealt sizes (Part u from count) = is_there sizes u && nat_le (from + count) (size_of sizes u)
 suits dealt sizes (Put u index v) = is_there sizes u && (is_there sizes v && (nat_lt index (size_of sizes u) && (size_of sizes v == 1)))
 suits dealt sizes (Rep u count) = is_there sizes u && (size_of sizes u == 1)
-suits dealt sizes (Spread u) = is_there sizes u
 suits dealt sizes (Pack u) = is_there sizes u
 suits dealt sizes (Unpack u count) = is_there sizes u && (size_of sizes u == words_for count)
 suits dealt sizes (RepBit u count) = is_there sizes u && (size_of sizes u == 1)

@@ -7,7 +7,7 @@ use Rattle.std.proofs.lemmas.Bool.{cases_lt}
 use Rattle.std.proofs.lemmas.Nat.{mod_below, pow_pos}
 use Rattle.proto_core.specs.Rings.{add_ring}
 use Rattle.gates.specs.declared.gate.Gate.{Gate}
-use Rattle.gates.specs.declared.gate.Gate.TheVariants.{Input, Const, Add, Sub, MulPub, Mul, Xor, And, Not, Shl, Shr, Low, Cat, Part, Put, Rep, Spread}
+use Rattle.gates.specs.declared.gate.Gate.TheVariants.{Input, Const, Add, Sub, MulPub, Mul, Xor, And, Not, Shl, Shr, Low, Cat, Part, Put, Rep}
 use Rattle.gates.specs.declared.gate.Gate.TheVariants.{Pack, Unpack, RepBit, PartBit, PutBit, CatBit}
 use Rattle.gates.specs.declared.gate.Gate.TheVariants.{Sum, Stretch, Tile, SumEach, Split, Conv, Open, Result}
 use Rattle.gates.specs.Counts.{made_by, made_by_all}
@@ -75,7 +75,6 @@ module _ (values more : Values) where
   Suits-grown inputs next (Shl u count) le s = s
   Suits-grown inputs next (Shr u count) le s = s
   Suits-grown inputs next (Low u) le s = s
-  Suits-grown inputs next (Spread u) le s = s
   Suits-grown inputs next (Pack u) le s = s
   Suits-grown inputs next (Unpack u count) le s = (s.0, one-grown length next u le s.0 ∙ s.1)
   Suits-grown inputs next (RepBit u count) le s = (s.0, one-grown length next u le s.0 ∙ s.1)
@@ -114,7 +113,6 @@ module _ (values more : Values) where
   clear_value-grown inputs next (Shl u count) le s = one-grown (λ xs. clear_value inputs (xs ∷ []) (Shl 0 count)) next u le s
   clear_value-grown inputs next (Shr u count) le s = one-grown (λ xs. clear_value inputs (xs ∷ []) (Shr 0 count)) next u le s
   clear_value-grown inputs next (Low u) le s = one-grown (λ xs. clear_value inputs (xs ∷ []) (Low 0)) next u le s
-  clear_value-grown inputs next (Spread u) le s = one-grown (λ xs. clear_value inputs (xs ∷ []) (Spread 0)) next u le s
   clear_value-grown inputs next (Pack u) le s = one-grown (λ xs. clear_value inputs (xs ∷ []) (Pack 0)) next u le s
   clear_value-grown inputs next (Unpack u count) le s = one-grown (λ xs. clear_value inputs (xs ∷ []) (Unpack 0 count)) next u le s.0
   clear_value-grown inputs next (RepBit u count) le s = one-grown (λ xs. clear_value inputs (xs ∷ []) (RepBit 0 count)) next u le s.0

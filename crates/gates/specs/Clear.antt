@@ -11,7 +11,7 @@ use Rattle.proto_core.specs.Words.{AreWords}
 use Rattle.gates.specs.declared.ring_kind.RingKind.{RingKind}
 use Rattle.gates.specs.declared.ring_kind.RingKind.TheVariants.{Arithmetic, Boolean}
 use Rattle.gates.specs.declared.gate.Gate.{Gate}
-use Rattle.gates.specs.declared.gate.Gate.TheVariants.{Input, Const, Add, Sub, MulPub, Mul, Xor, And, Not, Shl, Shr, Low, Cat, Part, Put, Rep, Spread}
+use Rattle.gates.specs.declared.gate.Gate.TheVariants.{Input, Const, Add, Sub, MulPub, Mul, Xor, And, Not, Shl, Shr, Low, Cat, Part, Put, Rep}
 use Rattle.gates.specs.declared.gate.Gate.TheVariants.{Pack, Unpack, RepBit, PartBit, PutBit, CatBit}
 use Rattle.gates.specs.declared.gate.Gate.TheVariants.{Sum, Stretch, Tile, SumEach, Split, Conv, Open, Result}
 use Rattle.bit_words.specs.Bits.{words_for}
@@ -58,7 +58,6 @@ clear_value inputs values (Cat u v) = value values u ++ value values v
 clear_value inputs values (Part u from count) = take count (drop from (value values u))
 clear_value inputs values (Put u index v) = set (value values u) index (first_word (value values v))
 clear_value inputs values (Rep u count) = replicate count (first_word (value values u))
-clear_value inputs values (Spread u) = flat_map bits_of (value values u)
 clear_value inputs values (Pack u) = packed (value values u)
 clear_value inputs values (Unpack u count) = unpacked (value values u) count
 clear_value inputs values (RepBit u count) = bits_repeated (value values u) count
@@ -112,7 +111,6 @@ Suits inputs values next (Not u) = IsOperand next u
 Suits inputs values next (Shl u count) = IsOperand next u
 Suits inputs values next (Shr u count) = IsOperand next u
 Suits inputs values next (Low u) = IsOperand next u
-Suits inputs values next (Spread u) = IsOperand next u
 Suits inputs values next (Pack u) = IsOperand next u
 Suits inputs values next (Unpack u count) = IsOperand next u × (length (value values u) ≡ words_for count)
 Suits inputs values next (RepBit u count) = IsOperand next u × (length (value values u) ≡ 1)

@@ -1,7 +1,7 @@
 -- The numbers of the values that gates take.
 use Rattle.std.specs.Prelude.{◌≡◌, ◌≤◌, ◌⊎◌, ◌||◌, ℕ, Bool, false, nat_eq, List, [], ◌∷◌, length}
 use Rattle.gates.specs.declared.gate.Gate.{Gate}
-use Rattle.gates.specs.declared.gate.Gate.TheVariants.{Input, Const, Add, Sub, MulPub, Mul, Xor, And, Not, Shl, Shr, Low, Cat, Part, Put, Rep, Spread}
+use Rattle.gates.specs.declared.gate.Gate.TheVariants.{Input, Const, Add, Sub, MulPub, Mul, Xor, And, Not, Shl, Shr, Low, Cat, Part, Put, Rep}
 use Rattle.gates.specs.declared.gate.Gate.TheVariants.{Pack, Unpack, RepBit, PartBit, PutBit, CatBit}
 use Rattle.gates.specs.declared.gate.Gate.TheVariants.{Sum, Stretch, Tile, SumEach, Split, Conv, Open, Result}
 use Rattle.gates.specs.declared.operands.Operands.{Operands}
@@ -26,7 +26,6 @@ operands (Cat u v) = u ∷ v ∷ []
 operands (Part u from count) = u ∷ []
 operands (Put u index v) = u ∷ v ∷ []
 operands (Rep u count) = u ∷ []
-operands (Spread u) = u ∷ []
 operands (Pack u) = u ∷ []
 operands (Unpack u count) = u ∷ []
 operands (RepBit u count) = u ∷ []

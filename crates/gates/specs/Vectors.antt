@@ -1,12 +1,12 @@
 -- Worked values of single gates, on the values (1, 2^64 - 1) and (3, 5).
 use Rattle.std.specs.Prelude.{◌≡◌, [], ◌∷◌, refl, length, take, drop}
 use Rattle.gates.specs.declared.ring_kind.RingKind.TheVariants.{Arithmetic, Boolean}
-use Rattle.gates.specs.declared.gate.Gate.TheVariants.{Add, Sub, MulPub, Mul, Xor, And, Not, Shl, Shr, Low, Cat, Part, Put, Rep, Sum, Spread, Stretch, Tile}
+use Rattle.gates.specs.declared.gate.Gate.TheVariants.{Add, Sub, MulPub, Mul, Xor, And, Not, Shl, Shr, Low, Cat, Part, Put, Rep, Sum, Stretch, Tile}
 use Rattle.gates.specs.declared.gate.Gate.TheVariants.{SumEach}
 use Rattle.gates.specs.declared.gate.Gate.TheVariants.{Pack, Unpack, RepBit, PartBit, PutBit, CatBit}
 use Rattle.bit_words.specs.Bits.{words_with, number_with}
 use Rattle.bit_words.specs.Gathered.{packed, unpacked, bits_repeated, bit_taken, bit_put, bits_joined}
-use Rattle.gates.specs.Clear.{Values, clear_value, bits_of}
+use Rattle.gates.specs.Clear.{Values, clear_value}
 use Rattle.gates.specs.Blocks.{block_sizes}
 
 two : Values
@@ -89,18 +89,6 @@ part_by_part = refl
 
 no_words_in_a_part : clear_value [] ([] ∷ []) (SumEach 0 0 2) ≡ 0 ∷ 0 ∷ []
 no_words_in_a_part = refl
-
-spread_out : length (clear_value [] two (Spread 1)) ≡ 128
-unfolding two bits_of
-spread_out = refl
-
-bits_of_the_first : take 4 (clear_value [] two (Spread 1)) ≡ 1 ∷ 1 ∷ 0 ∷ 0 ∷ []
-unfolding two bits_of
-bits_of_the_first = refl
-
-bits_of_the_next : take 3 (drop 64 (clear_value [] two (Spread 1))) ≡ 1 ∷ 0 ∷ 1 ∷ []
-unfolding two bits_of
-bits_of_the_next = refl
 
 -- both words of the second value are odd
 packed_bits : clear_value [] two (Pack 1) ≡ 3 ∷ []

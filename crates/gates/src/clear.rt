@@ -6,7 +6,7 @@ ghost use Rattle.gates.specs.Evaluated.{evaluated, made};
 use crate::bits::{bit_again, bit_at, bits_followed, one_bit_given, packed_bits, single_bits};
 use crate::clear_words::{
     complements, differences, each_repeated, first_word, joined, low_bits, part, products,
-    repeated, shifted_down, shifted_up, spread, sums, tiled, total, totals, with_word,
+    repeated, shifted_down, shifted_up, sums, tiled, total, totals, with_word,
 };
 use crate::gate::Gate;
 use crate::ring_kind::RingKind;
@@ -86,7 +86,6 @@ impl Gate {
                 first_word(values.value(*operand)),
                 *count as usize,
             ),
-            Gate::Spread { operand } => spread(alloc, values.value(*operand)),
             Gate::Pack { operand } => packed_bits(alloc, values.value(*operand)),
             Gate::Unpack { operand, count } => {
                 single_bits(alloc, values.value(*operand), *count)

@@ -2,7 +2,7 @@
 ghost use Rattle.std.specs.Prelude.{◌≡◌, ◌+◌, ◌*◌, ◌/◌, ◌^◌, ◌%◌, ◌<◌, ◌≤◌, [], ◌∷◌, ◌++◌, length, map, take, drop, set, sum, replicate, OnOk, IfOk};
 ghost use Rattle.std.specs.List.{flat_map, range_with_len};
 ghost use Rattle.std.specs.Int.{w64, bit_not};
-ghost use Rattle.gates.specs.Clear.{bits_of, each_two, first_word};
+ghost use Rattle.gates.specs.Clear.{each_two, first_word};
 
 use crate::words::Words;
 use lane_kernel::LaneRing;
@@ -150,29 +150,6 @@ pub(crate) fn repeated(alloc: Global, word: u64, count: usize) -> Result<Words, 
     ensures { IfOk result (λ words. words ≡ replicate count word) }
 {
     Ok(Words::new(vec![in alloc; word; count]?))
-}
-
-/// The 64 bits of a word after what is there, bit 0 first.
-#[tactic(auto, using(crate::proofs::WordSteps::bit_steps))]
-fn push_bits(words: &mut Vec<u64>, x: u64) -> Result<(), AllocError>
-    ensures { OnOk result (words.new.items ≡ words.old.items ++ bits_of x) }
-{
-    for place in 0..64u64 {
-        words.push((x >> place) % 2)?;
-    }
-    Ok(())
-}
-
-/// The 64 bits of each word.
-#[tactic(auto, using(crate::proofs::WordSteps::spread_more))]
-pub(crate) fn spread(alloc: Global, xs: &[u64]) -> Result<Words, AllocError>
-    ensures { IfOk result (λ words. words ≡ flat_map bits_of xs.now) }
-{
-    let mut words = Vec::with_capacity(alloc, xs.len().saturating_mul(64))?;
-    for x in xs {
-        push_bits(&mut words, *x)?;
-    }
-    Ok(Words::new(words))
 }
 
 /// The sum of all words modulo 2^64.

@@ -88,10 +88,6 @@ pub enum Gate {
         operand: u64,
         count: u64,
     },
-    /// The 64 bits of each word, bit 0 first, each as a word of its own.
-    Spread {
-        operand: u64,
-    },
     /// Bit 0 of each word, 64 of them in a word.
     Pack {
         operand: u64,
@@ -250,7 +246,6 @@ impl Gate {
                 operand: *operand,
                 count: *count,
             },
-            Gate::Spread { operand } => Gate::Spread { operand: *operand },
             Gate::Pack { operand } => Gate::Pack { operand: *operand },
             Gate::Unpack { operand, count } => Gate::Unpack {
                 operand: *operand,

@@ -71,7 +71,6 @@ impl Gate {
             | Gate::Low { operand }
             | Gate::Part { operand, .. }
             | Gate::Rep { operand, .. }
-            | Gate::Spread { operand }
             | Gate::Pack { operand }
             | Gate::Unpack { operand, .. }
             | Gate::RepBit { operand, .. }

@@ -3,7 +3,7 @@ use Rattle.std.proofs.Common.{◌≡◌, ℕ, zero, suc, ◌+◌, ◌/◌, ◌<�
 use Rattle.std.specs.Prelude.{slice_get}
 use Rattle.std.proofs.lemmas.Option.{none-some, same_Some}
 use Rattle.gates.specs.declared.gate.Gate.{Gate}
-use Rattle.gates.specs.declared.gate.Gate.TheVariants.{Input, Const, Add, Sub, MulPub, Mul, Xor, And, Not, Shl, Shr, Low, Cat, Part, Put, Rep, Spread}
+use Rattle.gates.specs.declared.gate.Gate.TheVariants.{Input, Const, Add, Sub, MulPub, Mul, Xor, And, Not, Shl, Shr, Low, Cat, Part, Put, Rep}
 use Rattle.gates.specs.declared.gate.Gate.TheVariants.{Pack, Unpack, RepBit, PartBit, PutBit, CatBit}
 use Rattle.gates.specs.declared.gate.Gate.TheVariants.{Sum, Stretch, Tile, SumEach, Split, Conv, Open, Result}
 use Rattle.gates.specs.Clear.{Values, value, clear_value, IsSplit, AreOperands, Suits, Makes}
@@ -39,7 +39,6 @@ module _ (inputs xs ys : Values) where
   clear_same (Part u from count) h = let e = h.0 in cc
   clear_same (Put u index v) h = let e = h.0 in let f = h.1.0 in cc
   clear_same (Rep u count) h = let e = h.0 in cc
-  clear_same (Spread u) h = let e = h.0 in cc
   clear_same (Pack u) h = let e = h.0 in cc
   clear_same (Unpack u count) h = let e = h.0 in cc
   clear_same (RepBit u count) h = let e = h.0 in cc
@@ -75,7 +74,6 @@ module _ (inputs xs ys : Values) where
   suits_same next (Shl u count) h a = a
   suits_same next (Shr u count) h a = a
   suits_same next (Low u) h a = a
-  suits_same next (Spread u) h a = a
   suits_same next (Pack u) h a = a
   suits_same next (Unpack u count) h a = (a.0, ap length (sym h.0) ∙ a.1)
   suits_same next (RepBit u count) h a = (a.0, ap length (sym h.0) ∙ a.1)

@@ -5,7 +5,6 @@ use Rattle.std.specs.List.{flat_map, range_with_len}
 use Rattle.std.specs.Int.{w64, bit_at, bit_not}
 use Rattle.std.proofs.lemmas.Nat.{mod_below, pow_pos}
 use Rattle.std.proofs.lemmas.List.FromFn.{length-map-range_with_len, get_or-map-range_with_len}
-use Rattle.std.proofs.lemmas.List.Concat.{flat_map-cons}
 use Rattle.std.proofs.lemmas.List.Sums.{sum_by-cons}
 use Rattle.proto_core.specs.Ring.{Ring, RingLaws}
 use Rattle.proto_core.specs.Rings.{add_ring, xor_ring}
@@ -16,10 +15,10 @@ use Rattle.proto_core.specs.Lists.{at, AreWords}
 use Rattle.gates.specs.declared.ring_kind.RingKind.{RingKind}
 use Rattle.gates.specs.declared.ring_kind.RingKind.TheVariants.{Arithmetic, Boolean}
 use Rattle.gates.specs.declared.gate.Gate.{Gate}
-use Rattle.gates.specs.declared.gate.Gate.TheVariants.{Input, Const, Add, Sub, MulPub, Mul, Xor, And, Not, Shl, Shr, Low, Cat, Part, Put, Rep, Spread}
+use Rattle.gates.specs.declared.gate.Gate.TheVariants.{Input, Const, Add, Sub, MulPub, Mul, Xor, And, Not, Shl, Shr, Low, Cat, Part, Put, Rep}
 use Rattle.gates.specs.declared.gate.Gate.TheVariants.{Pack, Unpack, RepBit, PartBit, PutBit, CatBit}
 use Rattle.gates.specs.declared.gate.Gate.TheVariants.{Sum, Stretch, Tile, SumEach, Split, Conv, Open, Result}
-use Rattle.gates.specs.Clear.{Values, value, ring_of, bits_of, first_word, clear_value, Suits}
+use Rattle.gates.specs.Clear.{Values, value, ring_of, first_word, clear_value, Suits}
 use Rattle.gates.proofs.Columns.{Column, Column-of, Column-map}
 use Rattle.gates.specs.Gathered.{packed, unpacked, bits_repeated, bit_taken, bit_put, bits_joined}
 use Rattle.gates.specs.Laws.{AddUp}
@@ -89,24 +88,7 @@ shares-not xs s h =
     small Two k lt = h.words Two k
     small Three k lt = h.words Three k
 
--- ---- all bits of words
-
-pub bits-column : (x : ℕ) → Column 64 (bit_at x) (bits_of x)
-unfolding bits_of
-bits-column x =
-    record {
-      size = length-map-range_with_len (bit_at x) 0 64;
-      words = λ k lt. get_or-map-range_with_len (bit_at x) 0 64 k k 0 lt (omega arith);
-    }
-
-shares-bits : (x : ℕ) (t : Number → ℕ) → ((i : Number) → t i < 2 ^ 64) → sum_of xor_ring (t One) (t Two) (t Three) ≡ x
-    → AreShares xor_ring (bits_of x) (λ i. bits_of (t i))
-shares-bits x t words sums =
-    shares-by xor_ring 64 (bits_of x) (λ i. bits_of (t i)) (bit_at x) (λ i k. bit_at (t i) k)
-    (bits-column x) (λ i. bits-column (t i)) (λ i k lt. bit-word k (t i) (words i))
-    (λ k lt.
-    sum-xors (λ y. bit_at y k) (bit-word k) (bit-through k) (t One) (t Two) (t Three) (words One) (words Two) (words Three)
-    ∙ ap (λ y. bit_at y k) sums)
+-- ---- words repeated
 
 never_longer : {P : Type 0} (n : ℕ) → 0 ≡ suc n → P
 never_longer n e = absurd (no_successor n e)
@@ -130,26 +112,6 @@ shares-rest r x xs s h =
   where
     shorter : (m n : ℕ) → suc m ≡ suc n → m ≡ n
     shorter m n e = omega arith
-
-shares-spread : (xs : List ℕ) (s : Number → List ℕ) → AreShares xor_ring xs s → AreShares xor_ring (flat_map bits_of xs) (λ i. flat_map bits_of (s i))
-shares-spread [] s h =
-    subst (λ t. AreShares xor_ring [] (λ i. flat_map bits_of (t i))) (same_words (λ i. []) s (λ i. no_words (s i) (h.sizes i)))
-    (record { sizes = λ i. refl; words = λ i k. past_end k; sum = λ k lt. absurd (below_none k lt) })
-  where
-    below_none : (k : ℕ) → k < 0 → ⊥
-    below_none k lt = omega arith
-shares-spread (x ∷ xs) s h =
-    subst (λ ys. AreShares xor_ring ys (λ i. flat_map bits_of (s i))) (sym (flat_map-cons bits_of x xs))
-    (subst (λ t. AreShares xor_ring (bits_of x ++ flat_map bits_of xs) t)
-    (same_words (λ i. bits_of (at (s i) 0) ++ flat_map bits_of (drop 1 (s i))) (λ i. flat_map bits_of (s i)) whole)
-    (shares-append xor_ring (bits_of x) (flat_map bits_of xs) (λ i. bits_of (at (s i) 0)) (λ i. flat_map bits_of (drop 1 (s i)))
-    (shares-bits x (λ i. at (s i) 0) (λ i. h.words i 0) (h.sum 0 (omega arith)))
-    (shares-spread xs (λ i. drop 1 (s i)) (shares-rest xor_ring x xs s h))))
-  where
-    whole : (i : Number) → bits_of (at (s i) 0) ++ flat_map bits_of (drop 1 (s i)) ≡ flat_map bits_of (s i)
-    whole i =
-        sym (flat_map-cons bits_of (at (s i) 0) (drop 1 (s i)))
-        ∙ ap (λ t. flat_map bits_of t) (first_and_rest (s i) (length xs) (h.sizes i))
 
 -- ---- packed bits
 
@@ -353,8 +315,6 @@ module _ (dealt_kinds kinds : List Kind) (inputs values : Values) (dealt shares 
       makes ring _ _ kinded.1.1.0
       (shares-replicate (ring_of ring) count (first_word (value values u)) (λ i. first_word (share_at shares u i))
       (λ i. element.words i 0) (element.sum 0 some))
-  local-held (Spread u) local kinded suits =
-      makes Boolean _ _ kinded.1.0 (shares-spread (value values u) (share_at shares u) (of_ring Boolean u suits kinded.0))
   local-held (Pack u) local kinded suits =
       makes Boolean _ _ kinded.1.0
       (shares-adding _ (λ i. packed (share_at shares u i)) (packed-sum (adding _ _ (of_ring Boolean u suits kinded.0))))

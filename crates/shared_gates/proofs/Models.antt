@@ -6,17 +6,16 @@ use Rattle.std.specs.List.{flat_map, range_with_len}
 use Rattle.std.proofs.lemmas.List.FromFn.{length-map-range_with_len}
 use Rattle.std.specs.Int.{w64, bit_not}
 use Rattle.std.proofs.lemmas.List.{length-map, length-take-le, length-set, length-replicate}
-use Rattle.std.proofs.lemmas.List.Concat.{flat_map-cons}
 use Rattle.proto_core.specs.RingsKeepLaws.{add_ring_laws, xor_ring_laws}
 use Rattle.proto_core.specs.declared.party.Number.{Number}
 use Rattle.proto_core.specs.declared.party.Number.TheVariants.{One, Two, Three}
 use Rattle.protocol_model.specs.Gates.{nth_value, sizes_of, Sized, AreSound, ArePrivate}
 use Rattle.gates.specs.Blocks.{block_sizes}
 use Rattle.gates.specs.declared.gate.Gate.{Gate}
-use Rattle.gates.specs.declared.gate.Gate.TheVariants.{Input, Const, Add, Sub, MulPub, Mul, Xor, And, Not, Shl, Shr, Low, Cat, Part, Put, Rep, Spread}
+use Rattle.gates.specs.declared.gate.Gate.TheVariants.{Input, Const, Add, Sub, MulPub, Mul, Xor, And, Not, Shl, Shr, Low, Cat, Part, Put, Rep}
 use Rattle.gates.specs.declared.gate.Gate.TheVariants.{Pack, Unpack, RepBit, PartBit, PutBit, CatBit}
 use Rattle.gates.specs.declared.gate.Gate.TheVariants.{Sum, Stretch, Tile, SumEach, Split, Conv, Open, Result}
-use Rattle.gates.specs.Clear.{Values, value, each_two, bits_of, Suits}
+use Rattle.gates.specs.Clear.{Values, value, each_two, Suits}
 use Rattle.gates.specs.Bits.{words_for}
 use Rattle.gates.specs.Counts.{size_of}
 use Rattle.gates.proofs.Packing.{length-packed, length-unpacked}
@@ -26,7 +25,7 @@ use Rattle.blocked_protocol.proofs.Sizes.{block_sizes-cut}
 use Rattle.blocked_protocol.proofs.WholeGates.{mul_whole, open_whole, reshare_whole, conv_whole, split_whole}
 use Rattle.shared_gates.specs.LocalGates.{local_share, const_share, not_share, IsLocal}
 use Rattle.shared_gates.specs.Model.{size_made, sizes_made, PairOf, SizesSuit, AllSizesSuit, run_gates}
-use Rattle.shared_gates.proofs.LocalGates.{laws_of, bits-column}
+use Rattle.shared_gates.proofs.LocalGates.{laws_of}
 
 -- ---- sizes of values
 
@@ -98,15 +97,6 @@ gates-private dealt ds sizes gates = (sound-and-private dealt ds sizes gates).1
 pub length-each_two : (f : ℕ → ℕ → ℕ) (xs ys : List ℕ) → length xs ≡ length ys → length (each_two f xs ys) ≡ length xs
 length-each_two f xs ys e = (Column-each_two f (Column-of (length xs) xs refl) (Column-of (length xs) ys (sym e))).size
 
-length-spread : (xs : List ℕ) → length (flat_map bits_of xs) ≡ length xs * 64
-length-spread [] = refl
-length-spread (x ∷ xs) =
-    ap length (flat_map-cons bits_of x xs)
-    ∙ length-append (bits_of x) (flat_map bits_of xs)
-    ∙ ap (λ n. n + length (flat_map bits_of xs)) (bits-column x).size
-    ∙ ap (λ n. 64 + n) (length-spread xs)
-    ∙ omega arith
-
 length-stretch : (count : ℕ) (xs : List ℕ) → length (flat_map (λ x. replicate count x) xs) ≡ length xs * count
 length-stretch count [] = omega arith
 length-stretch count (x ∷ xs) =
@@ -163,7 +153,6 @@ module _ (ds sizes : List ℕ) (dealt own : Values) (dealt_sizes : sizes_of deal
       length-take-le count _ (omega arith)
   local-size i (Put u index v) local suit = length-set (value own u) index _ ∙ size_here u
   local-size i (Rep u count) local suit = length-replicate count _
-  local-size i (Spread u) local suit = length-spread (value own u) ∙ ap (λ n. n * 64) (size_here u)
   local-size i (Pack u) local suit = length-packed (value own u) ∙ ap words_for (size_here u)
   local-size i (Unpack u count) local suit = length-unpacked (value own u) count
   local-size i (RepBit u count) local suit = length-repeated (value own u) count
@@ -244,7 +233,6 @@ module _ (ds sizes : List ℕ) (inputs values : Values) (inputs_sizes : sizes_of
   suits-sizes (Put u index v) suit =
       (there u suit.0, there v suit.1, subst (λ n. index < n) (sym (size_there u)) suit.2, size_there v ∙ suit.3)
   suits-sizes (Rep u count) suit = (there u suit.0, size_there u ∙ suit.1)
-  suits-sizes (Spread u) suit = there u suit
   suits-sizes (Pack u) suit = there u suit
   suits-sizes (Unpack u count) suit = (there u suit.0, size_there u ∙ suit.1)
   suits-sizes (RepBit u count) suit = (there u suit.0, size_there u ∙ suit.1)

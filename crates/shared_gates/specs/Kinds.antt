@@ -3,7 +3,7 @@ use Rattle.std.specs.Prelude.{◌≡◌, ℕ, ◌+◌, List, [], ◌∷◌}
 use Rattle.gates.specs.declared.ring_kind.RingKind.{RingKind}
 use Rattle.gates.specs.declared.ring_kind.RingKind.TheVariants.{Arithmetic, Boolean}
 use Rattle.gates.specs.declared.gate.Gate.{Gate}
-use Rattle.gates.specs.declared.gate.Gate.TheVariants.{Input, Const, Add, Sub, MulPub, Mul, Xor, And, Not, Shl, Shr, Low, Cat, Part, Put, Rep, Spread}
+use Rattle.gates.specs.declared.gate.Gate.TheVariants.{Input, Const, Add, Sub, MulPub, Mul, Xor, And, Not, Shl, Shr, Low, Cat, Part, Put, Rep}
 use Rattle.gates.specs.declared.gate.Gate.TheVariants.{Pack, Unpack, RepBit, PartBit, PutBit, CatBit}
 use Rattle.gates.specs.declared.gate.Gate.TheVariants.{Sum, Stretch, Tile, SumEach, Split, Conv, Open, Result}
 use Rattle.gates.specs.Counts.{made_by}
@@ -37,7 +37,6 @@ Kinded dealt kinds next (Cat u v) = SharedAlike kinds (u ∷ v ∷ next ∷ [])
 Kinded dealt kinds next (Part u from count) = SharedAlike kinds (u ∷ next ∷ [])
 Kinded dealt kinds next (Put u index v) = SharedAlike kinds (u ∷ v ∷ next ∷ [])
 Kinded dealt kinds next (Rep u count) = SharedAlike kinds (u ∷ next ∷ [])
-Kinded dealt kinds next (Spread u) = AllShared Boolean kinds (u ∷ next ∷ [])
 Kinded dealt kinds next (Pack u) = AllShared Boolean kinds (u ∷ next ∷ [])
 Kinded dealt kinds next (Unpack u count) = AllShared Boolean kinds (u ∷ next ∷ [])
 Kinded dealt kinds next (RepBit u count) = AllShared Boolean kinds (u ∷ next ∷ [])

@@ -13,7 +13,7 @@ use Rattle.blocked_protocol.specs.Converting.{conv_protocol}
 use Rattle.blocked_protocol.specs.Splitting.{split_protocol}
 use Rattle.blocked_protocol.specs.Blocked.{blocked}
 use Rattle.gates.specs.declared.gate.Gate.{Gate}
-use Rattle.gates.specs.declared.gate.Gate.TheVariants.{Input, Const, Add, Sub, MulPub, Mul, Xor, And, Not, Shl, Shr, Low, Cat, Part, Put, Rep, Spread}
+use Rattle.gates.specs.declared.gate.Gate.TheVariants.{Input, Const, Add, Sub, MulPub, Mul, Xor, And, Not, Shl, Shr, Low, Cat, Part, Put, Rep}
 use Rattle.gates.specs.declared.gate.Gate.TheVariants.{Pack, Unpack, RepBit, PartBit, PutBit, CatBit}
 use Rattle.gates.specs.declared.gate.Gate.TheVariants.{Sum, Stretch, Tile, SumEach, Split, Conv, Open, Result}
 use Rattle.gates.specs.Bits.{words_for}
@@ -41,7 +41,6 @@ size_made dealt sizes (Cat u v) = size_of sizes u + size_of sizes v
 size_made dealt sizes (Part u from count) = count
 size_made dealt sizes (Put u index v) = size_of sizes u
 size_made dealt sizes (Rep u count) = count
-size_made dealt sizes (Spread u) = size_of sizes u * 64
 size_made dealt sizes (Pack u) = words_for (size_of sizes u)
 size_made dealt sizes (Unpack u count) = count
 size_made dealt sizes (RepBit u count) = words_for count
@@ -85,7 +84,6 @@ SizesSuit dealt sizes (Cat u v) = (u < length sizes) × (v < length sizes)
 SizesSuit dealt sizes (Part u from count) = (u < length sizes) × (from + count ≤ size_of sizes u)
 SizesSuit dealt sizes (Put u index v) = (u < length sizes) × (v < length sizes) × (index < size_of sizes u) × (size_of sizes v ≡ 1)
 SizesSuit dealt sizes (Rep u count) = (u < length sizes) × (size_of sizes u ≡ 1)
-SizesSuit dealt sizes (Spread u) = u < length sizes
 SizesSuit dealt sizes (Pack u) = u < length sizes
 SizesSuit dealt sizes (Unpack u count) = (u < length sizes) × (size_of sizes u ≡ words_for count)
 SizesSuit dealt sizes (RepBit u count) = (u < length sizes) × (size_of sizes u ≡ 1)

@@ -2,7 +2,7 @@
 use Rattle.std.proofs.Common.{◌≡◌, ℕ, zero, suc, ◌+◌, ◌<◌, ◌≤◌, List, [], ◌∷◌, ◌++◌, length, refl, ◌∙◌, arith, length-append}
 use Rattle.gates.specs.declared.ring_kind.RingKind.{RingKind}
 use Rattle.gates.specs.declared.gate.Gate.{Gate}
-use Rattle.gates.specs.declared.gate.Gate.TheVariants.{Input, Const, Add, Sub, MulPub, Mul, Xor, And, Not, Shl, Shr, Low, Cat, Part, Put, Rep, Spread}
+use Rattle.gates.specs.declared.gate.Gate.TheVariants.{Input, Const, Add, Sub, MulPub, Mul, Xor, And, Not, Shl, Shr, Low, Cat, Part, Put, Rep}
 use Rattle.gates.specs.declared.gate.Gate.TheVariants.{Pack, Unpack, RepBit, PartBit, PutBit, CatBit}
 use Rattle.gates.specs.declared.gate.Gate.TheVariants.{Sum, Stretch, Tile, SumEach, Split, Conv, Open, Result}
 use Rattle.gates.specs.Counts.{made_by, made_by_all}
@@ -55,7 +55,6 @@ module _ (dealt kinds more : List Kind) where
   kinded-still next (Part u from count) lt h = (h.0, shared-still h.0 kinds more (u ∷ next ∷ []) h.1)
   kinded-still next (Put u index v) lt h = (h.0, shared-still h.0 kinds more (u ∷ v ∷ next ∷ []) h.1)
   kinded-still next (Rep u count) lt h = (h.0, shared-still h.0 kinds more (u ∷ next ∷ []) h.1)
-  kinded-still next (Spread u) lt h = shared-still _ kinds more (u ∷ next ∷ []) h
   kinded-still next (Pack u) lt h = shared-still _ kinds more (u ∷ next ∷ []) h
   kinded-still next (Unpack u count) lt h = shared-still _ kinds more (u ∷ next ∷ []) h
   kinded-still next (RepBit u count) lt h = shared-still _ kinds more (u ∷ next ∷ []) h
