@@ -11,13 +11,14 @@ use Rattle.language_model.specs.Evaluation.{behind, input_from, input_named, is_
 use Rattle.language_model.specs.Reports.{words_dealt, dealing, Offered, public_input}
 use Rattle.blind_evaluation.proofs.Alike.{Alike, Never, same_bind, any_bind, never_bind, end_alike, charge_alike, test_alike, gate_alike}
 use Rattle.blind_evaluation.proofs.AlikeValues.{LikeValues}
+use Rattle.language_model.specs.Values.{gate_size}
 use Rattle.blind_evaluation.proofs.Lengths.{zeros_for, zeros_length}
 use Rattle.blind_evaluation.proofs.Rows.{clear, unseen, charged_alike, result_alike, plain_alike}
 
 -- ---- DEALING
 
 words_same : (x : GivenInput) → words_dealt (public_input x) ≡ words_dealt x
-words_same x = ap (λ n. either x.secret (2 * n) 0) (zeros_length x.secret x.words)
+words_same x = ap (λ n. either x.secret (2 * gate_size x.shape.element n) 0) (zeros_length x.secret x.words)
 
 all_words_same : (xs : List GivenInput) → map words_dealt (map public_input xs) ≡ map words_dealt xs
 all_words_same [] = refl

@@ -8,10 +8,9 @@ use Rattle.std.proofs.Math.Seq.{take-append_seam, drop-append_seam}
 use Rattle.sc_text.specs.declared.end.TrapKind.TheVariants as trap
 use Rattle.sc_text.specs.declared.event.Event.{Event}
 use Rattle.sc_text.specs.declared.event.Event.TheVariants as event
-use Rattle.program_trees.specs.declared.expression.DataType.{DataType}
 use Rattle.program_trees.specs.declared.expression.DataType.TheVariants.{Uint64}
 use Rattle.program_trees.specs.declared.expression.DataType.TheVariants as datatype
-use Rattle.gates.specs.declared.gate.Gate.TheVariants.{Const, MulPub, Cat, Part, Put, Rep, Spread, Sum, Open}
+use Rattle.gates.specs.declared.gate.Gate.TheVariants.{Const, MulPub, Sum, Open}
 use Rattle.gates.specs.declared.gate.Gate.TheVariants as gates
 use Rattle.gates.specs.Clear.{bits_of, first_word}
 use Rattle.language_model.specs.BitExtract.{bits_plan}
@@ -23,9 +22,10 @@ use Rattle.program_trees.specs.declared.operators.Cast.TheVariants.{WordToWord, 
 use Rattle.program_trees.specs.Shapes.{shape_of}
 use Rattle.language_model.specs.Effects.{Words, words_each, Clear, Answers, World, Stage, Short, Effect, ◌>>=◌, carry, done, test, gate, draw}
 use Rattle.language_model.specs.Effects.{planned, emit, next_answers, show}
-use Rattle.language_model.specs.Values.{Secrecy, Private, Value, plain, is_secret, size, visible_words, is_true, ring_for, element_of, elements_of}
+use Rattle.language_model.specs.Values.{Secrecy, Private, Value, plain, is_secret, size, visible_words, is_true, ring_for, gate_words, gate_size, element_of, elements_of}
 use Rattle.language_model.specs.Words as W
 use Rattle.language_model.specs.Operations.{charged, no_traps, largest, not_too_large, number_of, made_private, classified, wanted, read_answer}
+use Rattle.language_model.specs.Operations.{repeated_gate, element_gate, stored_gate, joined_gate}
 use Rattle.language_model.specs.Operations.{revealed, opened_from, declassified, stretched, is_scalar_left, is_scalar_right, flip, words_of_operator}
 use Rattle.language_model.specs.Operations.{operator_gates, is_product, result_shape, private_result, product_with, combined_from, operator_traps}
 use Rattle.language_model.specs.Operations.{operated, is_classified, operation, negated_from, negated, words_of_cast, cast_shape, cast_gates, changed}
@@ -68,7 +68,7 @@ plain_alike shape words = alike_done (plains shape words)
 
 pub classified_alike : {v v' : Value} → LikeValues v v' → Alike LikeValues (classified v) (classified v')
 classified_alike (plains shape words) =
-    any_bind (sized_alike (plains shape words)) (λ _ _. same_bind (gate_alike (Const words)) (λ k. result_alike refl refl k))
+    any_bind (sized_alike (plains shape words)) (λ _ _. same_bind (gate_alike (Const (gate_words shape.element words))) (λ k. result_alike refl refl k))
 classified_alike (unmade shape words) = alike_done (unmade shape words)
 classified_alike (made shape k words words' e) = alike_done (made shape k words words' e)
 
@@ -111,10 +111,12 @@ summed_alike l = any_bind (charge_alike 1) (λ _ _. summed_from_alike l)
 
 -- two arrays, of which one is private
 cat_alike : {x x' y y' : Value} → LikeValues x x' → LikeValues y y'
-    → Alike LikeValues (number_of x >>= λ u. number_of y >>= λ v. gate (Cat u v) >>= λ r. made_private x.shape (x.words ++ y.words) r)
-    (number_of x' >>= λ u. number_of y' >>= λ v. gate (Cat u v) >>= λ r. made_private x'.shape (x'.words ++ y'.words) r)
+    → Alike LikeValues (number_of x >>= λ u. number_of y >>= λ v. gate (joined_gate x.shape.element u (size x) v (size y)) >>= λ r.
+    made_private x.shape (x.words ++ y.words) r)
+    (number_of x' >>= λ u. number_of y' >>= λ v. gate (joined_gate x'.shape.element u (size x') v (size y')) >>= λ r. made_private x'.shape (x'.words ++ y'.words) r)
 cat_alike {x = x} {x' = x'} {y = y} {y' = y'} l m =
-    same_bind (value_number_alike l) (λ u. same_bind (value_number_alike m) (λ v. same_bind (gate_alike (Cat u v)) (λ r.
+    same_bind (value_number_alike l) (λ u. same_bind (value_number_alike m) (λ v.
+    same_bind (gate_equal (λ d. joined_gate (like_shape l d).element u (like_size l d) v (like_size m d))) (λ r.
     result_alike (like_shape l) (joined_length x.words x'.words y.words y'.words (like_size l) (like_size m)) r)))
 
 concatenated_from_alike : {x x' y y' : Value} → LikeValues x x' → LikeValues y y'
@@ -147,7 +149,7 @@ inside_alike line {v = v} {i' = i'} l m =
 element_private : (k : Option ℕ) (i : ℕ) {v v' : Value} → LikeValues v v' → Alike LikeValues (element_from (Private k) v i) (element_from (Private k) v' i)
 element_private k i l =
     same_bind (value_number_alike l)
-    (λ u. same_bind (gate_alike (Part u i 1)) (λ r. result_alike (ap (λ (s : Shape). shape_of s.element false) (like_shape l)) refl r))
+    (λ u. same_bind (gate_equal (ap (λ (s : Shape). element_gate s.element u i) (like_shape l))) (λ r. result_alike (ap (λ (s : Shape). shape_of s.element false) (like_shape l)) refl r))
 
 element_from_alike : (i : ℕ) {v v' : Value} → LikeValues v v' → Alike LikeValues (element_from v.secrecy v i) (element_from v'.secrecy v' i)
 element_from_alike i (plains shape words) = plain_alike (shape_of shape.element false) (get_or words i 0 ∷ [])
@@ -163,7 +165,8 @@ element_alike line {v' = v'} {i = i} l m =
 with_element_private : (k : Option ℕ) (i : ℕ) {v v' x x' : Value} → LikeValues v v' → LikeValues x x'
     → Alike LikeValues (with_element_from (Private k) v i x) (with_element_from (Private k) v' i x')
 with_element_private k i {v = v} {v' = v'} {x = x} {x' = x'} l m =
-    same_bind (value_number_alike l) (λ u. same_bind (value_number_alike m) (λ e. same_bind (gate_alike (Put u i e)) (λ r.
+    same_bind (value_number_alike l) (λ u. same_bind (value_number_alike m) (λ e. 
+    same_bind (gate_equal (ap (λ (s : Shape). stored_gate s.element u i e) (like_shape l))) (λ r.
     result_alike (like_shape l) (set_length i (first_word x.words) (first_word x'.words) v.words v'.words (like_size l)) r)))
 
 with_element_from_alike : (i : ℕ) {v v' x x' : Value} → LikeValues v v' → LikeValues x x'
@@ -181,7 +184,7 @@ with_element_alike line {v' = v'} {i = i} {x' = x'} l m h =
 
 filled_private : (k : Option ℕ) (n : ℕ) {x x' : Value} → LikeValues x x' → Alike LikeValues (filled_from (Private k) n x) (filled_from (Private k) n x')
 filled_private k n {x = x} {x' = x'} l =
-    same_bind (value_number_alike l) (λ u. same_bind (gate_alike (Rep u n)) (λ r.
+    same_bind (value_number_alike l) (λ u. same_bind (gate_equal (ap (λ (s : Shape). repeated_gate s.element u n) (like_shape l))) (λ r.
     result_alike (ap (λ (s : Shape). shape_of s.element true) (like_shape l)) (replicated_length n n (first_word x.words) (first_word x'.words) refl) r))
 
 filled_from_alike : (n : ℕ) {x x' : Value} → LikeValues x x' → Alike LikeValues (filled_from x.secrecy n x) (filled_from x'.secrecy n x')
@@ -205,14 +208,21 @@ tested_alike l = any_bind (charge_alike 1) (λ _ _. alike_done (same_truth_of l)
 pub asserted_alike : (line : ℕ) {v v' : Value} → LikeValues v v' → Alike (Any {A = Unit {0}} {B = Unit {0}}) (asserted line v) (asserted line v')
 asserted_alike line l = any_bind (charge_alike 1) (λ _ _. test_equal trap.Assert line (same_truth_of l))
 
+both_equal : (scalar : Bool) (j : ℕ) {s s' : Shape} {n n' : ℕ} → s ≡ s' → n ≡ n'
+    → Alike (Same {A = ℕ}) (stretched s.element scalar n j) (stretched s'.element scalar n' j)
+both_equal scalar j {s = s} {s' = s'} {n = n} d e =
+    to_equal (λ m. stretched s'.element scalar m j) e
+    (to_equal (λ (t : Shape). stretched t.element scalar n j) d (stretched_alike s.element scalar n j))
+
 -- ---- PRODUCTS WITH KNOWN WORDS
 
 product_alike : (op : BinaryOperator) (ds : Operands) (scalar : Bool) {x x' : Value} {known known' : List ℕ} (words words' : List ℕ) → LikeValues x x'
     → known ≡ known' → length words ≡ length words' → Alike LikeValues (product_with op ds scalar x known words) (product_with op ds scalar x' known' words')
-product_alike op ds scalar {x' = x'} {known = known} words words' l g e =
+product_alike op ds scalar {x = x} {x' = x'} {known = known} words words' l g e =
     to_equal (λ ks. product_with op ds scalar x' ks words') g
-    (same_bind (value_number_alike l) (λ j. same_bind (stretched_alike scalar (length known) j) (λ u.
-    same_bind (gate_equal (ap (λ (s : Shape). MulPub (ring_for s.element) u known) (like_shape l))) (λ r. result_alike refl e r))))
+    (same_bind (value_number_alike l) (λ j. same_bind (to_equal (λ (s : Shape). stretched s.element scalar (length known) j) (like_shape l)
+    (stretched_alike x.shape.element scalar (length known) j)) (λ u.
+    same_bind (gate_equal (ap (λ (s : Shape). MulPub (ring_for s.element) u (gate_words s.element known)) (like_shape l))) (λ r. result_alike refl e r))))
 
 -- ---- WHAT OPENS, DRAWS OR IS PUBLISHED
 
@@ -318,7 +328,7 @@ module _ (o : Offered) where
       → Alike LikeValues (opened_from clear (Private k) (record { secrecy = Private k; shape = shape; words = words }))
       (opened_from unseen (Private k) (record { secrecy = Private k; shape = shape; words = words' }))
   opened_private k shape words words' l =
-      any_bind (draws (ap words_each (like_size l))) (λ _ _. same_bind (value_number_alike l) (λ u.
+      any_bind (draws (ap (λ n. words_each (gate_size shape.element n)) (like_size l))) (λ _ _. same_bind (value_number_alike l) (λ u.
       same_bind (gate_alike (Open (ring_for shape.element) u)) (λ _. revealed_alike (Private k) shape words words' (like_size l))))
 
   opened_from_alike : {v v' : Value} → LikeValues v v' → Alike LikeValues (opened_from clear v.secrecy v) (opened_from unseen v'.secrecy v')
@@ -335,8 +345,8 @@ module _ (o : Offered) where
       let n = W.result_size ds x y in
       let e = same_result_size ds l m in
       any_bind (draws (ap (words_of_operator op) e)) (λ _ _. same_bind (value_number_alike l) (λ j. same_bind (value_number_alike m) (λ k.
-      same_bind (to_equal (λ n. stretched (is_scalar_left ds) n j) e (stretched_alike (is_scalar_left ds) n j)) (λ u.
-      same_bind (to_equal (λ n. stretched (is_scalar_right ds) n k) e (stretched_alike (is_scalar_right ds) n k)) (λ v.
+      same_bind (both_equal (is_scalar_left ds) j (like_shape l) e) (λ u.
+      same_bind (both_equal (is_scalar_right ds) k (like_shape m) e) (λ v.
       same_bind (to_equal (λ n. operator_gates op n u v) e (operator_alike op n u v)) (λ r.
       result_alike refl (result_length op ds l m) r))))))
 
@@ -398,7 +408,7 @@ module _ (o : Offered) where
   bits_private k {v = v} {v' = v'} l =
       any_bind (draws (ap words_for_bits (like_size l))) (λ _ _. same_bind (value_number_alike l) (λ u.
       same_bind (to_equal (λ n. planned (λ first. bits_plan first u n)) (like_size l) (planned_alike (λ first. bits_plan first u (size v)))) (λ b.
-      same_bind (gate_alike (Spread b)) (λ r. result_alike {shape = shape_of datatype.Bool true} refl (bits_lengths v.words v'.words (like_size l)) r))))
+      result_alike {shape = shape_of datatype.Bool true} refl (bits_lengths v.words v'.words (like_size l)) b)))
 
   bits_from_alike : {v v' : Value} → LikeValues v v' → Alike LikeValues (bits_from clear v.secrecy v) (bits_from unseen v'.secrecy v')
   bits_from_alike (plains shape words) = plain_alike (shape_of datatype.Bool true) (flat_map bits_of words)
@@ -413,7 +423,7 @@ module _ (o : Offered) where
   handed_private : (k : Option ℕ) {v v' : Value} → LikeValues v v'
       → Alike (Any {A = Unit {0}} {B = Unit {0}}) (handed_over clear (Private k) v) (handed_over unseen (Private k) v')
   handed_private k l =
-      any_bind (draws (ap words_each (like_size l))) (λ _ _. same_bind (value_number_alike l) (λ u.
+      any_bind (draws (λ d. words_each (gate_size (like_shape l d).element (like_size l d)))) (λ _ _. same_bind (value_number_alike l) (λ u.
       same_bind (gate_equal (ap (λ (s : Shape). gates.Result (ring_for s.element) u) (like_shape l))) (λ _. alike_done tt)))
 
   handed_alike : {v v' : Value} → LikeValues v v' → Alike (Any {A = Unit {0}} {B = Unit {0}}) (handed_over clear v.secrecy v) (handed_over unseen v'.secrecy v')

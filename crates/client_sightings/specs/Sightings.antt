@@ -33,8 +33,8 @@ use Rattle.client_view.specs.Views.{Sighting, Opened, Said, Got, client_view_of}
 abbrev pub seen_of_three : Notice → (second third : List ℕ) → Sighting
 seen_of_three (Shown form words) ys zs = Opened (elements_told form words)
 seen_of_three (Published text form words) ys zs = Said text (elements_told form words)
-seen_of_three (Handed text form words) ys zs =
-    Got text (record { first = words; second = ys; third = zs }) (elements_told form (all_added_up form.element words ys zs))
+seen_of_three (Handed text form count words) ys zs =
+    Got text (record { first = words; second = ys; third = zs }) (elements_told form (all_added_up form.element count words ys zs))
 
 abbrev pub seen_beside : (first second third : List Notice) → List Sighting
 seen_beside [] ms ks = []

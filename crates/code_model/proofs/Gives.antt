@@ -134,15 +134,15 @@ module _ (w : World) where
       let n = W.result_size ds x y in
       gives_after w (onward_draw w (words_of_operator op n)) (λ _. gives_after w (walk.number_holds w w (is_onward w) law x)
       (λ j. gives_after w (walk.number_holds w w (is_onward w) law y) (λ k.
-      gives_after w (walk.stretched_holds w w (is_onward w) law (is_scalar_left ds) n j)
-      (λ u. gives_after w (walk.stretched_holds w w (is_onward w) law (is_scalar_right ds) n k) (λ v.
+      gives_after w (walk.stretched_holds w w (is_onward w) law x.shape.element (is_scalar_left ds) n j)
+      (λ u. gives_after w (walk.stretched_holds w w (is_onward w) law y.shape.element (is_scalar_right ds) n k) (λ v.
       gives_after w (walk.operator_gates_hold w w (is_onward w) law op n u v) (λ r. made_gives (result_shape op ds) (W.result_words op ds x y) r))))))
 
   product_gives : (op : BinaryOperator) (ds : Operands) (scalar : Bool) (x : Value) (known words : List ℕ) → Gives (product_with op ds scalar x known words)
       (IsSecret true)
   unfolding is_onward
   product_gives op ds scalar x known words =
-      gives_after w (walk.number_holds w w (is_onward w) law x) (λ j. gives_after w (walk.stretched_holds w w (is_onward w) law _ _ j)
+      gives_after w (walk.number_holds w w (is_onward w) law x) (λ j. gives_after w (walk.stretched_holds w w (is_onward w) law _ _ _ j)
       (λ u. gives_after w (onward_gate _) (λ r. made_gives _ _ r)))
 
   combined_gives : (a b : Secrecy) (op : BinaryOperator) (ds : Operands) (x y : Value) → Gives (combined_from a b w op ds x y)
@@ -215,7 +215,7 @@ module _ (w : World) where
   bits_from_gives (Private k) x =
       gives_after w (onward_draw w (words_for_bits (size x))) (λ _. gives_after w (walk.number_holds w w (is_onward w) law x)
       (λ u. gives_after w (walk.planned_holds w w (is_onward w) law (λ first. bits_plan first u (size x)))
-      (λ b. gives_after w (onward_gate (Spread b)) (λ r. made_gives (shape_of datatype.Bool true) (flat_map bits_of x.words) r))))
+      (λ b. made_gives (shape_of datatype.Bool true) (flat_map bits_of x.words) b)))
 
   pub bits_gives : (line : ℕ) (x : Value) → Gives (bits_extracted w line x) (IsSecret (is_secret x.secrecy))
   unfolding is_onward

@@ -25,7 +25,7 @@ use Rattle.program_trees.specs.declared.operators.Cast.TheVariants.{WordToWord, 
 use Rattle.program_trees.specs.Shapes.{shape_of}
 use Rattle.blind_evaluation.specs.Effects.{World, GivenInput, Source, Clear, Answers, Stage, Short, done, test, charge, draw, gate}
 use Rattle.blind_evaluation.specs.Effects.{planned, show, emit, words_each, answer}
-use Rattle.blind_evaluation.specs.Values.{Secrecy, Plain, Private, Value, plain, size, elements_of, ring_for}
+use Rattle.blind_evaluation.specs.Values.{Secrecy, Plain, Private, Value, plain, size, elements_of, ring_for, gate_words, gate_size}
 use Rattle.blind_evaluation.specs.Words as W
 use Rattle.blind_evaluation.specs.Operations as row
 use Rattle.blind_evaluation.specs.Evaluation.{same_type, same_truth, same_shape, is_as_declared, behind, input_from, given_value, asked_for}
@@ -64,15 +64,16 @@ module _ (w : World) where
   combined_makes (Private j) (Private k) op ds x y h =
       let n = W.result_size ds x y in
       makes_after (draw w (row.words_of_operator op n)) _ (λ _. makes_after (row.number_of x) _ (λ j. makes_after (row.number_of y) _ (λ k.
-      makes_after (row.stretched (row.is_scalar_left ds) n j) _ (λ u. makes_after (row.stretched (row.is_scalar_right ds) n k) _ (λ v.
+      makes_after (row.stretched x.shape.element (row.is_scalar_left ds) n j) _ (λ u.
+      makes_after (row.stretched y.shape.element (row.is_scalar_right ds) n k) _ (λ v.
       makes_after (row.operator_gates op n u v) _ (λ r. made (row.result_shape op ds) (W.result_words op ds x y) r h))))))
   combined_makes (Private j) Plain op ds x y h =
-      makes_after (row.number_of x) _ (λ j. makes_after (row.stretched (row.is_scalar_left ds) (length (W.right_words ds x y)) j) _ (λ u.
-      makes_after (gate (gates.MulPub (ring_for x.shape.element) u (W.right_words ds x y))) _ (λ r. made (row.result_shape op ds) (W.result_words op ds x y)
+      makes_after (row.number_of x) _ (λ j. makes_after (row.stretched x.shape.element (row.is_scalar_left ds) (length (W.right_words ds x y)) j) _ (λ u.
+      makes_after (gate (gates.MulPub (ring_for x.shape.element) u (gate_words x.shape.element (W.right_words ds x y)))) _ (λ r. made (row.result_shape op ds) (W.result_words op ds x y)
       r h)))
   combined_makes Plain (Private k) op ds x y h =
-      makes_after (row.number_of y) _ (λ j. makes_after (row.stretched (row.is_scalar_right ds) (length (W.left_words ds x y)) j) _ (λ u.
-      makes_after (gate (gates.MulPub (ring_for y.shape.element) u (W.left_words ds x y))) _ (λ r. made (row.result_shape op ds) (W.result_words op ds x y) r
+      makes_after (row.number_of y) _ (λ j. makes_after (row.stretched y.shape.element (row.is_scalar_right ds) (length (W.left_words ds x y)) j) _ (λ u.
+      makes_after (gate (gates.MulPub (ring_for y.shape.element) u (gate_words y.shape.element (W.left_words ds x y)))) _ (λ r. made (row.result_shape op ds) (W.result_words op ds x y) r
       h)))
 
   result_single : (op : BinaryOperator) (ds : Operands) (x y : Value) → (left_array ds ≡ false → length x.words ≡ 1)
@@ -129,14 +130,14 @@ module _ (w : World) where
     where
       go : (a : Secrecy) → Makes (row.classified_from a x) (IsShaped x.shape)
       go (Private k) = itself x h
-      go Plain = makes_after (row.charged row.no_traps (size x)) _ (λ _. makes_after (gate (gates.Const x.words)) _ (λ k. made x.shape x.words k h))
+      go Plain = makes_after (row.charged row.no_traps (size x)) _ (λ _. makes_after (gate (gates.Const (gate_words x.shape.element x.words))) _ (λ k. made x.shape x.words k h))
 
   pub filled_makes : (line : ℕ) (n x : Value) → Makes (row.filled line n x) (IsShaped (shape_of x.shape.element true))
   filled_makes line n x = makes_after (row.charged (row.not_too_large line (row.position n)) (row.position n)) _ (λ _. go x.secrecy)
     where
       go : (a : Secrecy) → Makes (row.filled_from a (row.position n) x) (IsShaped (shape_of x.shape.element true))
       go Plain = shown (shape_of x.shape.element true) (replicate (row.position n) (first_word x.words)) (λ e. absurd (clash e))
-      go (Private k) = makes_after (row.number_of x) _ (λ u. makes_after (gate (gates.Rep u (row.position n))) _
+      go (Private k) = makes_after (row.number_of x) _ (λ u. makes_after (gate (row.repeated_gate x.shape.element u (row.position n))) _
           (λ r. made (shape_of x.shape.element true) (replicate (row.position n) (first_word x.words)) r (λ e. absurd (clash e))))
 
   pub element_makes : (line : ℕ) (x i : Value) → Makes (row.element_of_array line x i) (IsShaped (shape_of x.shape.element false))
@@ -147,7 +148,7 @@ module _ (w : World) where
 
       go : (a : Secrecy) → Makes (row.element_from a x (row.position i)) (IsShaped (shape_of x.shape.element false))
       go Plain = shown (shape_of x.shape.element false) words (λ e. refl)
-      go (Private k) = makes_after (row.number_of x) _ (λ u. makes_after (gate (gates.Part u (row.position i) 1)) _
+      go (Private k) = makes_after (row.number_of x) _ (λ u. makes_after (gate (row.element_gate x.shape.element u (row.position i))) _
           (λ r. made (shape_of x.shape.element false) words r (λ e. refl)))
 
   pub with_element_makes : (line : ℕ) (x i y : Value) → x.shape.array ≡ true → Makes (row.with_element line x i y) (IsShaped x.shape)
@@ -158,7 +159,7 @@ module _ (w : World) where
 
       go : (a : Secrecy) → Makes (row.with_element_from a x (row.position i) y) (IsShaped x.shape)
       go Plain = shown x.shape _ never
-      go (Private k) = makes_after (row.number_of x) _ (λ u. makes_after (row.number_of y) _ (λ e. makes_after (gate (gates.Put u (row.position i) e)) _
+      go (Private k) = makes_after (row.number_of x) _ (λ u. makes_after (row.number_of y) _ (λ e. makes_after (gate (row.stored_gate x.shape.element u (row.position i) e)) _
           (λ r. made x.shape (set x.words (row.position i) (first_word y.words)) r never)))
 
   pub size_makes : (x : Value) → Makes (row.size_told x) (IsShaped (shape_of Uint64 false))
@@ -180,8 +181,7 @@ module _ (w : World) where
       go (Private k) =
           makes_after (draw w (row.words_for_bits (size x))) _
           (λ _. makes_after (row.number_of x) _ (λ u. makes_after (planned (λ first. bits_plan first u (size x))) _
-          (λ b. makes_after (gate (gates.Spread b)) _ (λ r.
-          made (shape_of datatype.Bool true) (flat_map bits_of x.words) r (λ e. absurd (clash e))))))
+          (λ b. made (shape_of datatype.Bool true) (flat_map bits_of x.words) b (λ e. absurd (clash e)))))
 
   pub concatenated_makes : (line : ℕ) (x y : Value) → x.shape.array ≡ true → Makes (row.concatenated line x y) (IsShaped x.shape)
   concatenated_makes line x y h = makes_after (row.charged (row.not_too_large line (size x + size y)) (size x + size y)) _ (λ _. go x.secrecy y.secrecy)
@@ -191,7 +191,7 @@ module _ (w : World) where
 
       put_together : Makes (row.concatenated_from (Private None) Plain x y) (IsShaped x.shape)
       put_together = makes_after (row.number_of x) _ (λ u. makes_after (row.number_of y) _
-          (λ v. makes_after (gate (gates.Cat u v)) _ (λ r. made x.shape (x.words ++ y.words) r never)))
+          (λ v. makes_after (gate (row.joined_gate x.shape.element u (size x) v (size y))) _ (λ r. made x.shape (x.words ++ y.words) r never)))
 
       go : (a b : Secrecy) → Makes (row.concatenated_from a b x y) (IsShaped x.shape)
       go Plain Plain = shown x.shape (x.words ++ y.words) never
@@ -226,7 +226,7 @@ module _ (w : World) where
     where
       go : (a : Secrecy) → Makes (row.opened_from w a x) (IsShaped x.shape)
       go Plain = itself x h
-      go (Private k) = makes_after (draw w (words_each (size x))) _
+      go (Private k) = makes_after (draw w (words_each (gate_size x.shape.element (size x)))) _
           (λ _. makes_after (row.number_of x) _ (λ u. makes_after (gate (gates.Open (ring_for x.shape.element) u)) _ (λ _. revealed_makes x h)))
 
   -- ---- INPUTS

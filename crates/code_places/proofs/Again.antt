@@ -6,7 +6,7 @@ use Rattle.gates.specs.declared.gate.Gate.TheVariants.{Open}
 use Rattle.language_model.specs.Beginnings.{Begins}
 use Rattle.language_model.specs.Effects.{World, Source, Clear, Answers, Stage, RunStop, Ended, Short, Run, Effect, ◌>>=◌, carry, done, words_each}
 use Rattle.language_model.specs.Effects.{answer, emit, show}
-use Rattle.language_model.specs.Values.{Secrecy, Plain, Private, Value, plain, size, ring_for, elements_of}
+use Rattle.language_model.specs.Values.{Secrecy, Plain, Private, Value, plain, size, ring_for, gate_size, elements_of}
 use Rattle.language_model.specs.Operations.{read_answer, revealed, opened_from, declassified}
 use Rattle.language_model.proofs.Onward.{Onward, onward_bind, onward_done, is_onward, onward_law, stage_of, begins_none, begins_then}
 use Rattle.language_model.proofs.Walk.{declassified_holds}
@@ -92,7 +92,7 @@ module _ (w : World) (v : Value) where
   opened_redone : (x : Secrecy) → Redone (opened_from w x v)
   opened_redone Plain = record { from = λ s. tt }
   opened_redone (Private k) =
-      redone_behind (quiet_draw false w (words_each (size v))) (λ _. redone_behind (number_quiet false v) (λ u.
+      redone_behind (quiet_draw false w (words_each (gate_size v.shape.element (size v)))) (λ _. redone_behind (number_quiet false v) (λ u.
       redone_behind (quiet_gate false (Open (ring_for v.shape.element) u)) (λ _. revealed_redone)))
 
   declassified_redone : Redone (declassified w v)

@@ -12,7 +12,7 @@ use Rattle.gates.specs.declared.gate.Gate.{Gate}
 use Rattle.gates.specs.declared.gate.Gate.TheVariants.{Open}
 use Rattle.program_trees.specs.declared.kinds.Shape.{Shape}
 use Rattle.language_model.specs.Effects.{Stage, Short, Run, Effect, ◌>>=◌, carry, done, gate, words_each, emit, show}
-use Rattle.language_model.specs.Values.{Private, Value, plain, size, ring_for, elements_of}
+use Rattle.language_model.specs.Values.{Private, Value, plain, size, ring_for, gate_size, elements_of}
 use Rattle.language_model.specs.Operations.{read_answer, revealed, opened_from, declassified}
 use Rattle.language_model.specs.Reports.{Offered}
 use Rattle.blind_evaluation.specs.Courses.{LikeEvent, LikeEvents}
@@ -185,7 +185,8 @@ module _ (o : Offered) where
       (k : Option ℕ) (shape : Shape) (words words' : List ℕ) → LikeValues (private k shape words) (private k shape words') →
       Asks (opened_from (clear o) (Private k) (private k shape words)) (opened_from (unseen o) (Private k) (private k shape words'))
   private_asks k shape words words' l =
-      asks_behind (still (quiet_draw true (clear o) (words_each (length words))) (draw_equal (clear o) (ap words_each (like_size l)))) (λ _ _ _.
+      asks_behind (still (quiet_draw true (clear o) (words_each (gate_size shape.element (length words))))
+      (draw_equal (clear o) (ap (λ n. words_each (gate_size shape.element n)) (like_size l)))) (λ _ _ _.
       asks_behind (still (number_quiet true (private k shape words)) (value_number_alike l)) (λ u u' same.
       gate_asks k shape words words' (like_size l) u u' same))
 

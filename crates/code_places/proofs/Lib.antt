@@ -1,5 +1,6 @@
 pub mod Quiet
 pub mod QuietRows
+pub mod Opened
 pub mod QuietSteps
 pub mod Asks
 pub mod AlikeSteps

@@ -5,9 +5,10 @@ use Rattle.std.specs.List.{flat_map}
 use Rattle.sc_text.specs.declared.end.Ending.TheVariants as ending
 use Rattle.sc_text.specs.declared.end.TrapKind.TheVariants as trap
 use Rattle.sc_text.specs.declared.event.Event.TheVariants as event
+use Rattle.program_trees.specs.declared.expression.DataType.{DataType}
 use Rattle.program_trees.specs.declared.expression.DataType.TheVariants.{Uint64}
 use Rattle.program_trees.specs.declared.expression.DataType.TheVariants as datatype
-use Rattle.gates.specs.declared.gate.Gate.TheVariants.{Const, Add, Sub, MulPub, Mul, Xor, And, Cat, Part, Put, Rep, Spread, Sum, Conv, Input, Result}
+use Rattle.gates.specs.declared.gate.Gate.TheVariants.{Const, Add, Sub, MulPub, Mul, Xor, And, Sum, Conv, Input, Result, Pack, Unpack}
 use Rattle.gates.specs.Clear.{bits_of, first_word}
 use Rattle.plans.specs.Equality.{eq_plan}
 use Rattle.plans.specs.BitExtract.{bits_plan}
@@ -24,11 +25,11 @@ use Rattle.program_trees.specs.declared.operators.Cast.{Cast}
 use Rattle.program_trees.specs.declared.operators.Cast.TheVariants.{WordToWord, WordToBool, BoolToWord, BoolToBool}
 use Rattle.program_trees.specs.Shapes.{shape_of}
 use Rattle.language_model.specs.Effects.{World, GivenInput, Effect, ◌>>=◌, words_each}
-use Rattle.language_model.specs.Values.{Secrecy, Plain, Private, Value, plain, hidden, size, visible_words, is_true, ring_for, elements_of}
+use Rattle.language_model.specs.Values.{Secrecy, Plain, Private, Value, plain, hidden, size, visible_words, is_true, ring_for, gate_words, gate_size, elements_of}
 use Rattle.language_model.specs.Words as W
 use Rattle.language_model.specs.Operations.{charged, no_traps, not_too_large, number_from, number_of, made_private, classified_from}
-use Rattle.language_model.specs.Operations.{classified, stretched, is_scalar_left}
-use Rattle.language_model.specs.Operations.{is_scalar_right, flip, words_of_operator, equal_gates, less_gates, or_gates}
+use Rattle.language_model.specs.Operations.{classified, repeated_gate, element_gate, stored_gate, joined_gate, stretched, is_scalar_left}
+use Rattle.language_model.specs.Operations.{is_scalar_right, flip, words_of_operator, zero_gates, equal_gates, less_gates, or_gates}
 use Rattle.language_model.specs.Operations.{operator_gates}
 use Rattle.language_model.specs.Operations.{result_shape, private_result, product_with, combined_from, operator_traps, operated, negated_from}
 use Rattle.language_model.specs.Operations.{negated, words_of_cast}
@@ -62,7 +63,7 @@ module _ (told : Bool) where
   number_from_quiet Plain words = quiet_gate told (Const words)
 
   pub number_quiet : (v : Value) → Quiet told (number_of v)
-  number_quiet v = number_from_quiet v.secrecy v.words
+  number_quiet v = number_from_quiet v.secrecy (gate_words v.shape.element v.words)
 
   made_quiet : (shape : Shape) (words : List ℕ) (k : ℕ) → Quiet told (made_private shape words k)
   made_quiet shape words k = quiet_done told (hidden shape k words)
@@ -70,25 +71,28 @@ module _ (told : Bool) where
   classified_from_quiet : (x : Secrecy) (v : Value) → Quiet told (classified_from x v)
   classified_from_quiet (Private k) v = quiet_done told v
   classified_from_quiet Plain v =
-      bind (untrapped_quiet (size v)) (λ _. bind (quiet_gate told (Const v.words)) (λ k. made_quiet v.shape v.words k))
+      bind (untrapped_quiet (size v)) (λ _. bind (quiet_gate told (Const (gate_words v.shape.element v.words))) (λ k. made_quiet v.shape v.words k))
 
   pub classified_quiet : (v : Value) → Quiet told (classified v)
   classified_quiet v = classified_from_quiet v.secrecy v
 
   -- ---- OPERATORS
 
-  stretched_quiet : (scalar : Bool) (n u : ℕ) → Quiet told (stretched scalar n u)
-  stretched_quiet true n u = quiet_gate told (Rep u n)
-  stretched_quiet false n u = quiet_done told u
+  stretched_quiet : (e : DataType) (scalar : Bool) (n u : ℕ) → Quiet told (stretched e scalar n u)
+  stretched_quiet e true n u = quiet_gate told (repeated_gate e u n)
+  stretched_quiet e false n u = quiet_done told u
 
   flip_quiet : (n u : ℕ) → Quiet told (flip n u)
-  flip_quiet n u = bind (quiet_gate told (Const (replicate n 1))) (λ ones. quiet_gate told (Xor u ones))
+  flip_quiet n u = bind (quiet_gate told (Const (gate_words datatype.Bool (replicate n 1)))) (λ ones. quiet_gate told (Xor u ones))
+
+  zero_quiet : (d : ℕ) → Quiet told (zero_gates d)
+  zero_quiet d = bind (quiet_planned told (λ first. eq_plan first d)) (λ z. quiet_gate told (Pack z))
 
   equal_quiet : (u v : ℕ) → Quiet told (equal_gates u v)
-  equal_quiet u v = bind (quiet_gate told (Sub u v)) (λ d. quiet_planned told (λ first. eq_plan first d))
+  equal_quiet u v = bind (quiet_gate told (Sub u v)) zero_quiet
 
   less_quiet : (n u v : ℕ) → Quiet told (less_gates n u v)
-  less_quiet n u v = quiet_planned told (λ first. less_plan first u v n)
+  less_quiet n u v = bind (quiet_planned told (λ first. less_plan first u v n)) (λ z. quiet_gate told (Pack z))
 
   word_quiet : (op : OperatorSign) (n u v : ℕ) → Quiet told (operator_gates (binary.Words op) n u v)
   word_quiet word.Add n u v = quiet_gate told (Add u v)
@@ -121,14 +125,14 @@ module _ (told : Bool) where
   private_quiet w op ds x y =
       let n = W.result_size ds x y in
       bind (quiet_draw told w (words_of_operator op n)) (λ _. bind (number_quiet x) (λ j. bind (number_quiet y) (λ k.
-      bind (stretched_quiet (is_scalar_left ds) n j) (λ u. bind (stretched_quiet (is_scalar_right ds) n k) (λ v.
+      bind (stretched_quiet x.shape.element (is_scalar_left ds) n j) (λ u. bind (stretched_quiet y.shape.element (is_scalar_right ds) n k) (λ v.
       bind (operator_quiet op n u v) (λ r. made_quiet (result_shape op ds) (W.result_words op ds x y) r))))))
 
   product_quiet : (op : BinaryOperator) (ds : Operands) (scalar : Bool) (x : Value) (known words : List ℕ)
       → Quiet told (product_with op ds scalar x known words)
   product_quiet op ds scalar x known words =
-      bind (number_quiet x) (λ j. bind (stretched_quiet scalar (length known) j) (λ u.
-      bind (quiet_gate told (MulPub (ring_for x.shape.element) u known)) (λ r. made_quiet (result_shape op ds) words r)))
+      bind (number_quiet x) (λ j. bind (stretched_quiet x.shape.element scalar (length known) j) (λ u.
+      bind (quiet_gate told (MulPub (ring_for x.shape.element) u (gate_words x.shape.element known))) (λ r. made_quiet (result_shape op ds) words r)))
 
   combined_quiet : (a b : Secrecy) (w : World) (op : BinaryOperator) (ds : Operands) (x y : Value) → Quiet told (combined_from a b w op ds x y)
   combined_quiet Plain Plain w op ds x y = quiet_done told (plain (result_shape op ds) (W.result_words op ds x y))
@@ -155,8 +159,8 @@ module _ (told : Bool) where
   negated_quiet v = bind (untrapped_quiet (size v)) (λ _. negated_from_quiet v.secrecy v)
 
   cast_gates_quiet : (c : Cast) (n u : ℕ) → Quiet told (cast_gates c n u)
-  cast_gates_quiet WordToBool n u = bind (quiet_planned told (λ first. eq_plan first u)) (flip_quiet n)
-  cast_gates_quiet BoolToWord n u = quiet_gate told (Conv u)
+  cast_gates_quiet WordToBool n u = bind (zero_quiet u) (flip_quiet n)
+  cast_gates_quiet BoolToWord n u = bind (quiet_gate told (Unpack u n)) (λ z. quiet_gate told (Conv z))
   cast_gates_quiet WordToWord n u = quiet_done told u
   cast_gates_quiet BoolToBool n u = quiet_done told u
 
@@ -192,7 +196,7 @@ module _ (told : Bool) where
   bits_from_quiet w (Private k) v =
       bind (quiet_draw told w (words_for_bits (size v))) (λ _. bind (number_quiet v) (λ u.
       bind (quiet_planned told (λ first. bits_plan first u (size v))) (λ b.
-      bind (quiet_gate told (Spread b)) (λ r. made_quiet (shape_of datatype.Bool true) (flat_map bits_of v.words) r))))
+      made_quiet (shape_of datatype.Bool true) (flat_map bits_of v.words) b)))
 
   pub bits_quiet : (w : World) (line : ℕ) (v : Value) → Quiet told (bits_extracted w line v)
   bits_quiet w line v = bind (large_quiet line (64 * size v)) (λ _. bits_from_quiet w v.secrecy v)
@@ -201,7 +205,7 @@ module _ (told : Bool) where
 
   cat_quiet : (x y : Value) → Quiet told (concatenated_from (Private None) Plain x y)
   cat_quiet x y =
-      bind (number_quiet x) (λ u. bind (number_quiet y) (λ v. bind (quiet_gate told (Cat u v)) (λ r. made_quiet x.shape (x.words ++ y.words) r)))
+      bind (number_quiet x) (λ u. bind (number_quiet y) (λ v. bind (quiet_gate told (joined_gate x.shape.element u (size x) v (size y))) (λ r. made_quiet x.shape (x.words ++ y.words) r)))
 
   concatenated_from_quiet : (a b : Secrecy) (x y : Value) → Quiet told (concatenated_from a b x y)
   concatenated_from_quiet Plain Plain x y = quiet_done told (plain x.shape (x.words ++ y.words))
@@ -215,7 +219,7 @@ module _ (told : Bool) where
   element_from_quiet : (x : Secrecy) (v : Value) (i : ℕ) → Quiet told (element_from x v i)
   element_from_quiet Plain v i = quiet_done told (plain (shape_of v.shape.element false) (get_or v.words i 0 ∷ []))
   element_from_quiet (Private k) v i =
-      bind (number_quiet v) (λ u. bind (quiet_gate told (Part u i 1)) (λ r. made_quiet (shape_of v.shape.element false) (get_or v.words i 0 ∷ []) r))
+      bind (number_quiet v) (λ u. bind (quiet_gate told (element_gate v.shape.element u i)) (λ r. made_quiet (shape_of v.shape.element false) (get_or v.words i 0 ∷ []) r))
 
   pub element_quiet : (line : ℕ) (v i : Value) → Quiet told (element_of_array line v i)
   element_quiet line v i =
@@ -225,7 +229,7 @@ module _ (told : Bool) where
   with_element_from_quiet : (s : Secrecy) (v : Value) (i : ℕ) (x : Value) → Quiet told (with_element_from s v i x)
   with_element_from_quiet Plain v i x = quiet_done told _
   with_element_from_quiet (Private k) v i x =
-      bind (number_quiet v) (λ u. bind (number_quiet x) (λ e. bind (quiet_gate told (Put u i e)) (λ r. quiet_done told _)))
+      bind (number_quiet v) (λ u. bind (number_quiet x) (λ e. bind (quiet_gate told (stored_gate v.shape.element u i e)) (λ r. quiet_done told _)))
 
   pub with_element_quiet : (line : ℕ) (v i x : Value) → Quiet told (with_element line v i x)
   with_element_quiet line v i x =
@@ -235,7 +239,7 @@ module _ (told : Bool) where
   filled_from_quiet : (s : Secrecy) (n : ℕ) (x : Value) → Quiet told (filled_from s n x)
   filled_from_quiet Plain n x = quiet_done told (plain (shape_of x.shape.element true) (replicate n (first_word x.words)))
   filled_from_quiet (Private k) n x =
-      bind (number_quiet x) (λ u. bind (quiet_gate told (Rep u n)) (λ r.
+      bind (number_quiet x) (λ u. bind (quiet_gate told (repeated_gate x.shape.element u n)) (λ r.
       made_quiet (shape_of x.shape.element true) (replicate n (first_word x.words)) r))
 
   pub filled_quiet : (line : ℕ) (n x : Value) → Quiet told (filled line n x)
@@ -264,7 +268,7 @@ module _ (told : Bool) where
 handed_quiet : (w : World) (s : Secrecy) (v : Value) → Quiet true (handed_over w s v)
 handed_quiet w Plain v = quiet_done true tt
 handed_quiet w (Private k) v =
-    quiet_bind true (quiet_draw true w (words_each (size v))) (λ _. quiet_bind true (number_quiet true v) (λ u.
+    quiet_bind true (quiet_draw true w (words_each (gate_size v.shape.element (size v)))) (λ _. quiet_bind true (number_quiet true v) (λ u.
     quiet_bind true (quiet_gate true (Result (ring_for v.shape.element) u)) (λ _. quiet_done true tt)))
 
 pub published_quiet : (w : World) (text : List ℕ) (v : Value) → Quiet true (published w text v)

@@ -9,13 +9,22 @@ use Rattle.language_model.specs.Beginnings.{Begins}
 use Rattle.language_model.specs.Effects.{Stage, RunStop, Ended, Short, Run}
 use Rattle.language_model.specs.Reports.{Offered}
 use Rattle.language_model.proofs.Onward.{stage_of}
-use Rattle.verified_code.specs.Steps.{Step, Function}
+use Rattle.verified_code.specs.Steps.{Step, Declassify, Function}
 use Rattle.gate_laws.specs.Machine.{Machine, next, step}
 use Rattle.driven_nodes.specs.Steps.{On, gained}
 use Rattle.driven_nodes.specs.Twins.{Follows, untold, told, TwinBy}
 use Rattle.blind_evaluation.specs.Courses.{LikeEvents}
 use Rattle.blind_evaluation.proofs.Alike.{retold, Retold, SameOutcome, AlikeAt, opened_by}
 use Rattle.blind_evaluation.proofs.Rows.{clear, unseen}
+use Rattle.program_trees.specs.declared.expression.DataType.{DataType}
+use Rattle.program_trees.specs.declared.kinds.Shape.{Shape}
+use Rattle.language_model.specs.Values.{size, gate_words}
+use Rattle.language_model.specs.Operations.{read_answer}
+use Rattle.language_model.specs.Learned.{learned_of}
+use Rattle.blind_evaluation.proofs.AlikeValues.{like_size, like_shape}
+use Rattle.code_places.specs.Places.{answers_told}
+use Rattle.code_places.proofs.Opened.{OpensAs, IsOpened, opening_then, declassified_opens, told_again, some_gate_words}
+use Rattle.code_places.proofs.Asks.{opens_nothing}
 use Rattle.code_places.specs.Places.{Place, telling_stage, place, stopped, went, next_step}
 use Rattle.code_places.specs.Twins.{LikeMachine, LikeStage, GoAlike, EndAlike}
 use Rattle.code_places.specs.Laws.{in_the_clear, CodeHasTwins, BeginsAlike}
@@ -127,25 +136,69 @@ module _ (o : Offered) (c : List Function) where
       opened : (words : List ℕ) → opened_by seen_step ≡ s.opened ++ words → x.1.opened ≡ s.opened ++ words
       opened words e = ap opened_by (sym is) ∙ e
 
+      -- the words of the gates for these elements, of which one who is told them has the elements
+      record ShowsWords (elements : List ℕ) : Type 0 where
+        words : List ℕ
+        learned : learned_of x.1.events ≡ learned_of p.stage.events ++ words
+        some : words ≢ []
+        again : answers_told words (next_step m') m' ≡ elements
+
+      -- words that were opened were opened by an opening
+      opened_or : (el : DataType) (n : ℕ) → opened_by seen_step ≢ s.opened → IsOpened el n s (Ok x) → OpensAs el n s x.1
+      opened_or el n some (inl same) = absurd (some (ap opened_by is ∙ same))
+      opened_or el n some (inr h) = h
+
+      of_opening : (d r : ℕ) → next_step m ≡ Some (Declassify d r) → OpensAs (m.registers r).shape.element (size (m.registers r)) s x.1
+          → (w : ℕ) (ws : List ℕ) → opened_by seen_step ≡ s.opened ++ w ∷ ws → ShowsWords (w ∷ ws)
+      of_opening d r i h w ws e =
+          let el : DataType = (m.registers r).shape.element in
+          let elements : read_answer el h.words ≡ w ∷ ws =
+          append_cancel_left s.opened (read_answer el h.words) (w ∷ ws) (sym h.opened ∙ sym (ap opened_by is) ∙ e) in
+          let like = like_at alike.machine.registers r in
+          record {
+            words = gate_words el (read_answer el h.words);
+            learned = h.learned;
+            some = λ none. some_gate_words el w ws (ap (gate_words el) (sym elements) ∙ none);
+            again = told_again el h.words (size (m.registers r)) m' d r (next_step m') (sym same_next ∙ i)
+                (sym (ap (λ (z : Shape). z.element) (like_shape like))) (sym (like_size like)) h.many ∙ elements;
+          }
+
+      shows_words : (w : ℕ) (ws : List ℕ) → opened_by seen_step ≡ s.opened ++ w ∷ ws → ShowsWords (w ∷ ws)
+      shows_words w ws e = by (quiet_or_opening (clear o) c m (next_step m))
+        where
+          by : (Quiet true (step (clear o) c (next_step m) m) ⊎ IsOpening (next_step m)) → ShowsWords (w ∷ ws)
+          by (inl q) = absurd (some_words w ws e (opens_nothing q s))
+          by (inr i) = of i.0 i.1 i.2
+            where
+              of : (d r : ℕ) → next_step m ≡ Some (Declassify d r) → ShowsWords (w ∷ ws)
+              of d r i =
+                  of_opening d r i (opened_or (m.registers r).shape.element (size (m.registers r)) (some_words w ws e)
+                  (subst (λ z. IsOpened (m.registers r).shape.element (size (m.registers r)) s z)
+                  (sym (ap (λ k. step (clear o) c k m s) i) ∙ is)
+                  ((opening_then (λ v. next d v m) (declassified_opens o (m.registers r))).from s))) w ws e
+
       follows : (words : List ℕ) → opened_by seen_step ≡ s.opened ++ words → told_step words ≡ Ok y
           → Follows (in_the_clear o c) (when_told o c) GoAlike EndAlike p' p d q
       follows [] e went_on = untold (ap (went m') went_on)
       follows (w ∷ ws) e went_on = told (place None m' wanting.0) some (ap (went m') wanting.1) gates (ap (went m') goes)
         where
+          shows : ShowsWords (w ∷ ws)
+          shows = shows_words w ws e
+
           wanting : Wanting (gates_by seen_step) (told_step [])
           wanting = wants (some_words w ws e)
 
-          shown : gained p.stage.opened x.1.opened ≡ w ∷ ws
-          shown = gained_more p.stage.opened (w ∷ ws) x.1.opened (opened (w ∷ ws) e)
+          shown : gained (learned_of p.stage.events) (learned_of x.1.events) ≡ shows.words
+          shown = gained_more (learned_of p.stage.events) shows.words (learned_of x.1.events) shows.learned
 
-          some : gained p.stage.opened x.1.opened ≢ []
-          some none = some_words w ws e (e ∙ ap (λ ws. s.opened ++ ws) (sym shown ∙ none) ∙ append-nil s.opened)
+          some : gained (learned_of p.stage.events) (learned_of x.1.events) ≢ []
+          some none = shows.some (sym shown ∙ none)
 
           gates : wanting.0.gates ≡ y.1.gates
           gates = wanting.2 ∙ ap gates_by is ∙ ap (λ (z : Stage). z.gates) (sym stands.stage)
 
-          goes : told_step (gained p.stage.opened x.1.opened) ≡ Ok y
-          goes = ap told_step shown ∙ went_on
+          goes : told_step (answers_told (gained (learned_of p.stage.events) (learned_of x.1.events)) (next_step m') m') ≡ Ok y
+          goes = ap (λ ws. told_step (answers_told ws (next_step m') m')) shown ∙ ap told_step shows.again ∙ went_on
 
       goes_alike : told_step here.words ≡ Ok y → TwinBy (in_the_clear o c) (when_told o c) GoAlike EndAlike p p' (On d)
       goes_alike went_on = (

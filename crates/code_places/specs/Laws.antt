@@ -3,6 +3,7 @@ use Rattle.std.specs.Prelude.{◌≡◌, ◌≢◌, ℕ, List, ◌++◌, [], Som
 use Rattle.gates.specs.declared.gate.Gate.{Gate}
 use Rattle.language_model.specs.Beginnings.{Begins}
 use Rattle.language_model.specs.Effects.{World, Clear, Stage, Short, Run}
+use Rattle.language_model.specs.Learned.{learned_of}
 use Rattle.language_model.specs.Reports.{Offered, world_of}
 use Rattle.verified_code.specs.Steps.{Declassify, Function}
 use Rattle.gate_laws.specs.Machine.{Machine, step}
@@ -15,7 +16,7 @@ use Rattle.code_places.specs.Twins.{GoAlike, EndAlike}
 
 -- in the clear nothing has to be told
 abbrev pub code_course : World → List Function → Course Place Gate
-code_course w c = record { step = λ p. step_told w c p []; gates = λ p. p.stage.gates; opened = λ p. p.stage.opened }
+code_course w c = record { step = λ p. step_told w c p []; gates = λ p. p.stage.gates; opened = λ p. learned_of p.stage.events }
 
 -- the code's steps in the clear
 abbrev pub in_the_clear : Offered → List Function → Course Place Gate

@@ -1,6 +1,7 @@
 -- Code as turns of a run: where one who is told the opened words stands, what a step of the code comes to for him, and what a miner
 -- tells of it.
-use Rattle.std.specs.Prelude.{ℕ, List, [], ◌∷◌, Option, Some, None, Ok, Err}
+use Rattle.std.specs.Prelude.{ℕ, List, [], ◌∷◌, length, Option, Some, None, Ok, Err}
+use Rattle.gates.specs.Gathered.{unpacked}
 use Rattle.std.specs.List.{slice_get}
 use Rattle.program_trees.specs.declared.expression.DataType.{DataType}
 use Rattle.program_trees.specs.declared.expression.DataType.TheVariants.{Uint64}
@@ -46,9 +47,20 @@ went m (Err e) = stopped m e.1 e.0
 abbrev pub next_step : Machine → Option Step
 next_step m = slice_get m.steps m.pc
 
+-- the elements of a value of which the gates have opened these words
+abbrev pub elements_opened : DataType → ℕ → List ℕ → List ℕ
+elements_opened Uint64 n words = words
+elements_opened datatype.Bool n words = unpacked words n
+
+-- what a step is told of the words that the gates have opened: told nothing it has no answer, and so wants them
+abbrev pub answers_told : List ℕ → Option Step → Machine → List ℕ
+answers_told [] step m = []
+answers_told (x ∷ xs) (Some (Declassify d r)) m = elements_opened (m.registers r).shape.element (length (m.registers r).words) (x ∷ xs)
+answers_told (x ∷ xs) step m = x ∷ xs
+
 -- the next step, told these words
 abbrev pub step_told : World → List Function → Place → (told : List ℕ) → Went Place
-step_told w c p told = went p.machine (step w c (next_step p.machine) p.machine (record p.stage { answers = told }))
+step_told w c p told = went p.machine (step w c (next_step p.machine) p.machine (record p.stage { answers = answers_told told (next_step p.machine) p.machine }))
 
 abbrev pub first_place : List Function → (budget : ℕ) → Place
 first_place c budget = place None (start c) (beginning budget [])
@@ -65,7 +77,7 @@ form_of shape = record { element = field_of shape.element; array = shape.array }
 -- a public value, or its own share of a private one, which it has made last
 abbrev pub publishing : Secrecy → (text : List ℕ) → Form → (words last : List ℕ) → Notice
 publishing Plain text form words last = Published text form words
-publishing (Private k) text form words last = Handed text form last
+publishing (Private k) text form words last = Handed text form (length words) last
 
 abbrev pub told_by : Option Step → Machine → (opened last : List ℕ) → List Notice
 told_by (Some (Declassify d r)) m opened last = Shown (form_of (m.registers r).shape) opened ∷ []

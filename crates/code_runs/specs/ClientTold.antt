@@ -1,33 +1,36 @@
 -- What the client is told, by what the three miners tell.
-use Rattle.std.specs.Prelude.{ℕ, ◌%◌, List, [], ◌∷◌}
+use Rattle.std.specs.Prelude.{ℕ, List, [], ◌∷◌}
 use Rattle.sc_text.specs.declared.event.Event.{Event}
 use Rattle.sc_text.specs.declared.event.Event.TheVariants.{Open, Publish, Hand}
+use Rattle.proto_core.specs.Ring.{Ring}
 use Rattle.proto_core.specs.Rings.{add_ring, xor_ring}
 use Rattle.proto_core.specs.declared.party.Number.{Number}
 use Rattle.proto_core.specs.declared.party.Number.TheVariants.{One, Two, Three}
 use Rattle.proto_core.specs.Strand.{Field, Words, Bits, Notice, Shown, Published, Handed}
+use Rattle.gates.specs.Gathered.{unpacked}
 use Rattle.shared_gates.specs.Shares.{sum_of}
 use Rattle.code_runs.specs.Telling.{elements_told}
 
--- three shares of an element, added up: as numbers; or bit by bit, where bit 0 is the truth value
-abbrev pub added_up : Field → (x y z : ℕ) → ℕ
-added_up Words x y z = sum_of add_ring x y z
-added_up Bits x y z = sum_of xor_ring x y z % 2
+-- the words that three shares come to, word by word
+abbrev pub words_added_up : Ring → (xs ys zs : List ℕ) → List ℕ
+words_added_up r (x ∷ xs) (y ∷ ys) (z ∷ zs) = sum_of r x y z ∷ words_added_up r xs ys zs
+words_added_up r xs ys zs = []
 
-abbrev pub all_added_up : Field → (xs ys zs : List ℕ) → List ℕ
-all_added_up f (x ∷ xs) (y ∷ ys) (z ∷ zs) = added_up f x y z ∷ all_added_up f xs ys zs
-all_added_up f xs ys zs = []
+-- the elements of three shares of so many: the numbers that they come to, or the bits of the words that they come to
+abbrev pub all_added_up : Field → (count : ℕ) → (xs ys zs : List ℕ) → List ℕ
+all_added_up Words count xs ys zs = words_added_up add_ring xs ys zs
+all_added_up Bits count xs ys zs = unpacked (words_added_up xor_ring xs ys zs) count
 
 -- one event, by what the first miner tells and the words that the others tell beside it
 abbrev pub told_by_three : Notice → (second third : List ℕ) → Event
 told_by_three (Shown form words) ys zs = Open (elements_told form words)
 told_by_three (Published text form words) ys zs = Publish text (elements_told form words)
-told_by_three (Handed text form words) ys zs = Hand text (elements_told form (all_added_up form.element words ys zs))
+told_by_three (Handed text form count words) ys zs = Hand text (elements_told form (all_added_up form.element count words ys zs))
 
 abbrev pub words_of : Notice → List ℕ
 words_of (Shown form words) = words
 words_of (Published text form words) = words
-words_of (Handed text form words) = words
+words_of (Handed text form count words) = words
 
 -- the words of the notice that comes first, and the notices after it
 abbrev pub first_words : List Notice → List ℕ

@@ -9,7 +9,7 @@ use Rattle.gates.specs.Counts.{made_by}
 -- the share words that a miner hands over, in order
 abbrev pub handed_in : List Notice → Values
 handed_in [] = []
-handed_in (Handed text form words ∷ notices) = words ∷ handed_in notices
+handed_in (Handed text form count words ∷ notices) = words ∷ handed_in notices
 handed_in (Shown form words ∷ notices) = handed_in notices
 handed_in (Published text form words ∷ notices) = handed_in notices
 

@@ -11,6 +11,7 @@ use Rattle.protocol_model.specs.Gates as model
 use Rattle.protocol_model.specs.Runs.{Shares, Tapes, Ready, run_messages, run_values}
 use Rattle.protocol_model.specs.Network.{Accepted, Default, Delivery, Shuffled, net, order_of, walked}
 use Rattle.protocol_model.specs.Schedules.{AnyOrder}
+use Rattle.language_model.specs.Learned.{learned_of}
 use Rattle.language_model.specs.Effects.{Ended}
 use Rattle.language_model.specs.Reports.{Report, Offered}
 use Rattle.code_model.specs.Courses.{LikeEvents}
@@ -79,7 +80,7 @@ module _ (o : Offered) (d : Dealt) (c : List Function) (budget : ℕ) (tapes : T
   pub record RunAsReported (r : Report) : Type 0 where
     pub turns : TurnsComeTo r
     pub finishes : Finishes (miners o d c budget tapes) (messages d r tapes) (λ i. (Stopped turns.last, shares d r tapes i))
-    pub opened : (i : Number) → opened_by (miners o d c budget tapes) (messages d r tapes) i ≡ r.opened
+    pub opened : (i : Number) → opened_by (miners o d c budget tapes) (messages d r tapes) i ≡ learned_of r.events
     pub told : Tells r.events (λ i. told_in (run_of (miners o d c budget tapes) (messages d r tapes) i).acts)
     -- what each hands over are its own shares of the values that the gates make for that
     pub gave :

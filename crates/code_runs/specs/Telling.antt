@@ -1,5 +1,5 @@
 -- What three miners tell beside the events of the run in the clear.
-use Rattle.std.specs.Prelude.{ℕ, List, [], ◌∷◌, map}
+use Rattle.std.specs.Prelude.{ℕ, List, [], ◌∷◌, length, map}
 use Rattle.program_trees.specs.declared.expression.DataType.{DataType}
 use Rattle.program_trees.specs.declared.expression.DataType.TheVariants.{Uint64}
 use Rattle.program_trees.specs.declared.expression.DataType.TheVariants as datatype
@@ -11,7 +11,7 @@ use Rattle.proto_core.specs.declared.party.Number.{Number}
 use Rattle.proto_core.specs.Strand.{Field, Words, Bits, Form, Notice, Shown, Published, Handed}
 use Rattle.gates.specs.Clear.{ring_of}
 use Rattle.shared_gates.specs.Shares.{AreShares}
-use Rattle.language_model.specs.Values.{ring_for, element_of}
+use Rattle.language_model.specs.Values.{ring_for, gate_words, element_of}
 use Rattle.gate_laws.specs.Dealt.{InRange}
 
 abbrev pub type_of : Field → DataType
@@ -40,5 +40,5 @@ pub data Tells : List Event → (Number → List Notice) → Type 0 where
       → Tells (Publish text (elements_told form words) ∷ events) (λ i. Published text form words ∷ notices i)
   handed :
       {events : List Event} {notices : Number → List Notice} (text : List ℕ) (form : Form) (words : List ℕ) (shares : Number → List ℕ)
-      → AreOf form words → AreShares (ring_told form) words shares → Tells events notices
-      → Tells (Hand text (elements_told form words) ∷ events) (λ i. Handed text form (shares i) ∷ notices i)
+      → AreOf form words → AreShares (ring_told form) (gate_words (type_of form.element) words) shares → Tells events notices
+      → Tells (Hand text (elements_told form words) ∷ events) (λ i. Handed text form (length words) (shares i) ∷ notices i)

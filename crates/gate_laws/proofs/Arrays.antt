@@ -1,33 +1,26 @@
 -- Rows of arrays: joined, element by element, filled.
 use Rattle.std.proofs.Common.{◌≡◌, ℕ, zero, suc, ◌+◌, ◌<◌, ◌≤◌, ◌^◌, List, [], ◌∷◌, ◌++◌, length, true, false, refl, sym, ap, subst, arith, length-append}
-use Rattle.std.specs.Prelude.{get_or, nat_le, nat_lt, replicate, set, take, drop}
+use Rattle.std.specs.Prelude.{get_or, nat_le, nat_lt, replicate, set}
 use Rattle.std.proofs.lemmas.Bool.{leb-true, ltb-true}
 use Rattle.sc_text.specs.declared.end.TrapKind.TheVariants as trap
 use Rattle.program_trees.specs.declared.expression.DataType.{DataType}
 use Rattle.gates.specs.declared.ring_kind.RingKind.{RingKind}
-use Rattle.gates.specs.declared.gate.Gate.TheVariants as gates
 use Rattle.gates.specs.Clear.{first_word}
 use Rattle.program_trees.specs.Shapes.{shape_of}
 use Rattle.language_model.specs.Effects.{World, ◌>>=◌, test, gate}
-use Rattle.language_model.specs.Values.{Secrecy, Plain, Private, Value, size, visible_words, seen_of, ring_for}
+use Rattle.language_model.specs.Values.{Secrecy, Plain, Private, Value, size, visible_words, seen_of, ring_for, gate_words}
 use Rattle.language_model.specs.Operations.{charged, largest, not_too_large, number_of, made_private, concatenated_from, concatenated, position}
+use Rattle.language_model.specs.Operations.{repeated_gate, element_gate, stored_gate, joined_gate}
 use Rattle.language_model.specs.Operations.{element_from, element_of_array}
 use Rattle.language_model.specs.Operations.{with_element_from, with_element, filled_from, filled}
 use Rattle.gate_laws.specs.Facts.{IsProper, none_of, Fact, facts_of, Suits}
 use Rattle.gate_laws.specs.Dealt.{bound, InRange, Dealt}
 use Rattle.gate_laws.proofs.Effects.{NoFacts, suits_bind, charge_suits, test_suits, first_stand, second_stand}
 use Rattle.gate_laws.proofs.Gains.{fact, gate_suits}
-use Rattle.gate_laws.proofs.Singles.{rep_gain, part_gain, cat_gain, put_gain}
+use Rattle.gate_laws.proofs.Chosen.{one_repeated, one_element, one_stored, one_joined, repeated_gain, element_gain, stored_gain, joined_gain}
 use Rattle.gate_laws.proofs.Parts.{tell_same, tell_first, charged_suits, number_as, number_suits, given_suits, shown_suits}
 use Rattle.gate_laws.proofs.Ranges.{Below, below_head, below_tail, one_below, append_below, set_below, replicate_below, first_below, length_replicated}
 use Rattle.gate_laws.proofs.Meanings.{some_bound}
-use Rattle.gate_laws.proofs.Operators.{in_terms}
-
--- the element at an index as a part
-part_of_one : (xs : List ℕ) (i : ℕ) → i < length xs → take 1 (drop i xs) ≡ get_or xs i 0 ∷ []
-part_of_one [] i h = absurd (omega (arith, h))
-part_of_one (x ∷ xs) zero h = refl
-part_of_one (x ∷ xs) (suc i) h = part_of_one xs i (omega (arith, h))
 
 element_below : (b i : ℕ) (xs : List ℕ) → 0 < b → Below b xs → get_or xs i 0 < b
 element_below b i [] some h = some
@@ -71,17 +64,19 @@ module _ (w : World) (d : Dealt) where
     joined_small few = subst (λ n. n < 2 ^ 64) (sym (length-append x.words y.words)) (few_words (size x + size y) few)
 
     cat_suits : size x + size y ≤ largest
-        → Suits w d both none_of (number_of x >>= λ u. number_of y >>= λ v. gate (gates.Cat u v) >>= λ r. made_private x.shape (x.words ++ y.words) r)
+        → Suits w d both none_of (number_of x >>= λ u. number_of y >>= λ v. gate (joined_gate element u (size x) v (size y)) >>= λ r.
+        made_private x.shape (x.words ++ y.words) r)
         none_of facts_of IsProper
     cat_suits few =
         let ring = ring_for element in
         suits_bind w d (number_suits w d both none_of x (record { from = λ r k. first_stand r (facts_of x) (facts_of y) k }) p.range) (λ u _.
         suits_bind w d
-        (number_as w d (fact u ring x.words ∷ both) none_of element y same (record { from = λ r k. second_stand r (facts_of x) (facts_of y) k.1 })
+        (number_as w d (fact u ring (gate_words element x.words) ∷ both) none_of element y same (record { from = λ r k. second_stand r (facts_of x) (facts_of y) k.1 })
         right_range) (λ v _.
         suits_bind w d
-        (gate_suits w d (fact v ring y.words ∷ (fact u ring x.words ∷ both)) none_of none_of none_of (gates.Cat u v) ring (x.words ++ y.words) (λ m. refl) refl
-        (λ r good facts. cat_gain r good u v ring x.words y.words facts.1.0 facts.0)) (λ r _.
+        (gate_suits w d (fact v ring (gate_words element y.words) ∷ (fact u ring (gate_words element x.words) ∷ both)) none_of none_of none_of
+        (joined_gate element u (size x) v (size y)) ring (gate_words element (x.words ++ y.words)) (λ m. refl) (one_joined element u (size x) v (size y))
+        (λ r good facts. joined_gain r good element u v x.words y.words facts.1.0 facts.0)) (λ r _.
         given_suits w d _ x.shape (x.words ++ y.words) r (tell_first _ _) joined_range (joined_small few))))
 
     concatenated_from_suits : (a b : Secrecy) → size x + size y ≤ largest → Suits w d both none_of (concatenated_from a b x y) none_of facts_of IsProper
@@ -112,9 +107,9 @@ module _ (w : World) (d : Dealt) where
     element_from_suits (Private k) i inside =
         suits_bind w d (number_suits w d fs none_of v (tell_same fs) p.range) (λ u _.
         suits_bind w d
-        (in_terms w d (part_of_one v.words i inside)
-        (gate_suits w d (fact u ring v.words ∷ fs) none_of none_of none_of (gates.Part u i 1) ring (take 1 (drop i v.words)) (λ m. refl) refl
-        (λ r good facts. part_gain r good u ring v.words facts.0 i 1 (omega (arith, inside))))) (λ r _.
+        (gate_suits w d (fact u ring (gate_words v.shape.element v.words) ∷ fs) none_of none_of none_of (element_gate v.shape.element u i) ring
+        (gate_words v.shape.element (get_or v.words i 0 ∷ [])) (λ m. refl) (one_element v.shape.element u i)
+        (λ r good facts. element_gain r good v.shape.element u i v.words p.range facts.0 inside)) (λ r _.
         given_suits w d _ (shape_of v.shape.element false) (get_or v.words i 0 ∷ []) r (tell_first _ _) (element_range i) (omega arith)))
 
     pub element_suits : (line : ℕ) (i : Value) → Suits w d fs none_of (element_of_array line v i) none_of facts_of IsProper
@@ -137,8 +132,9 @@ module _ (w : World) (d : Dealt) where
     filled_from_suits (Private k) n single few =
         suits_bind w d (number_suits w d fs none_of v (tell_same fs) p.range) (λ u _.
         suits_bind w d
-        (gate_suits w d (fact u ring v.words ∷ fs) none_of none_of none_of (gates.Rep u n) ring (replicate n (first_word v.words)) (λ m. refl) refl
-        (λ r good facts. rep_gain r good u ring v.words facts.0 n single)) (λ r _.
+        (gate_suits w d (fact u ring (gate_words v.shape.element v.words) ∷ fs) none_of none_of none_of (repeated_gate v.shape.element u n) ring
+        (gate_words v.shape.element (replicate n (first_word v.words))) (λ m. refl) (one_repeated v.shape.element u n)
+        (λ r good facts. repeated_gain r good v.shape.element u n v.words facts.0 single)) (λ r _.
         given_suits w d _ (shape_of v.shape.element true) (replicate n (first_word v.words)) r (tell_first _ _) (filled_range n) (filled_small n few)))
 
     pub filled_suits : (line : ℕ) (n : Value) → length v.words ≡ 1 → Suits w d fs none_of (filled line n v) none_of facts_of IsProper
@@ -172,11 +168,12 @@ module _ (w : World) (d : Dealt) where
         let words = set v.words i (first_word x.words) in
         suits_bind w d (number_suits w d all none_of v (record { from = λ r k. first_stand r (facts_of v) (facts_of x) k }) p.range) (λ u _.
         suits_bind w d
-        (number_as w d (fact u ring v.words ∷ all) none_of v.shape.element x same (record { from = λ r k. second_stand r (facts_of v) (facts_of x) k.1 })
+        (number_as w d (fact u ring (gate_words v.shape.element v.words) ∷ all) none_of v.shape.element x same (record { from = λ r k. second_stand r (facts_of v) (facts_of x) k.1 })
         value_range) (λ e _.
         suits_bind w d
-        (gate_suits w d (fact e ring x.words ∷ (fact u ring v.words ∷ all)) none_of none_of none_of (gates.Put u i e) ring words (λ m. refl) refl
-        (λ r good facts. put_gain r good u e ring v.words x.words facts.1.0 facts.0 i inside single)) (λ r _.
+        (gate_suits w d (fact e ring (gate_words v.shape.element x.words) ∷ (fact u ring (gate_words v.shape.element v.words) ∷ all)) none_of none_of none_of
+        (stored_gate v.shape.element u i e) ring (gate_words v.shape.element words) (λ m. refl) (one_stored v.shape.element u i e)
+        (λ r good facts. stored_gain r good v.shape.element u i e v.words x.words facts.1.0 facts.0 inside single)) (λ r _.
         given_suits w d _ v.shape words r (tell_first _ _)
         (set_below bound_here i (first_word x.words) v.words (first_below bound_here x.words (some_bound v.shape.element) value_range) p.range)
         (set_small i (first_word x.words)))))

@@ -17,21 +17,26 @@ use Rattle.program_trees.specs.declared.operators.Operands.{Operands}
 use Rattle.program_trees.specs.declared.operators.Operands.TheVariants.{Scalars, ArrayAndScalar, ScalarAndArray, Arrays}
 use Rattle.program_trees.specs.Operators.{element_made}
 use Rattle.language_model.specs.Effects.{World}
-use Rattle.language_model.specs.Values.{Secrecy, Plain, Private, Value, is_secret, size, visible_words, ring_for}
+use Rattle.language_model.specs.Values.{Secrecy, Plain, Private, Value, is_secret, size, visible_words, ring_for, gate_words}
 use Rattle.language_model.specs.Words as W
-use Rattle.language_model.specs.Operations.{words_of_operator, is_scalar_left, is_scalar_right, is_product, result_shape, private_result, product_with}
+use Rattle.language_model.specs.Operations.{words_of_operator, is_scalar_left, is_scalar_right, is_product, result_shape, stretched, private_result, product_with}
 use Rattle.language_model.specs.Operations.{combined_from, operator_traps, operated}
 use Rattle.code_model.specs.Kinded.{left_array, right_array}
 use Rattle.gate_laws.specs.Facts.{HasRange, IsProper, none_of, Fact, facts_of, Suits}
 use Rattle.gate_laws.specs.Dealt.{bound, InRange, drawn_by, Dealt}
 use Rattle.gate_laws.specs.Rows.{element_taken, has_gates, secrecy_suits, OperandsSuit}
-use Rattle.gate_laws.proofs.Effects.{Tell, suits_bind, suits_with, test_suits, draw_suits, first_stand, second_stand}
+use Rattle.gate_laws.proofs.Effects.{Tell, Any, suits_bind, suits_with, test_suits, draw_suits, first_stand, second_stand}
 use Rattle.gate_laws.proofs.Gains.{fact, gate_suits}
 use Rattle.gate_laws.proofs.Singles.{mulpub_gain}
 use Rattle.gate_laws.proofs.Parts.{tell_same, tell_first, stretched_words, charged_suits, number_as, number_suits, stretched_suits, given_as, shown_suits}
 use Rattle.gate_laws.proofs.Ranges.{two_same, replicate_below, length_replicated, first_below}
 use Rattle.gate_laws.proofs.Meanings.{two_ext, two_swapped, and_bits, operator_range, some_bound}
-use Rattle.gate_laws.proofs.Operators.{in_terms, operator_suits}
+use Rattle.gate_laws.proofs.Operators.{Numbered, in_terms, operator_suits}
+use Rattle.gate_laws.proofs.GateWords.{same_gate_size}
+use Rattle.proto_core.specs.Lists.{at}
+use Rattle.proto_core.specs.Rings.{xor_ring}
+use Rattle.gates.proofs.Packing.{packed-and}
+use Rattle.gate_laws.proofs.Meanings.{and_parity}
 
 pub made_element : (op : BinaryOperator) (ds : Operands) → (result_shape op ds).element ≡ element_made op
 made_element op Scalars = refl
@@ -140,24 +145,35 @@ module _ (op : BinaryOperator) (ds : Operands) (x y : Value) (h : OperandsSuit o
         let vs = W.right_words ds x y in
         suits_bind w d (draw_suits w d both (words_of_operator op n)) (λ _ _.
         suits_bind w d (number_as w d both owed taken x h.left_element tell_left left_in) (λ j _.
-        suits_bind w d (number_as w d (fact j ring x.words ∷ both) owed taken y h.right_element (record { from = λ r k. tell_right.from r k.1 }) right_in)
+        suits_bind w d (number_as w d (fact j ring (gate_words taken x.words) ∷ both) owed taken y h.right_element (record { from = λ r k. tell_right.from r k.1 }) right_in)
         (λ k _.
         suits_bind w d
-        (in_terms w d (left_stretch ds)
-        (stretched_suits w d (fact k ring y.words ∷ (fact j ring x.words ∷ both)) owed (is_scalar_left ds) n j ring x.words
-        (record { from = λ r k. (k.1.0, tt) }) left_one)) (λ u _.
+        (subst (λ e. Suits w d (fact k ring (gate_words taken y.words) ∷ (fact j ring (gate_words taken x.words) ∷ both)) owed
+        (stretched e (is_scalar_left ds) n j) owed (Numbered ring (gate_words taken us)) (Any {A = ℕ})) (sym h.left_element)
+        (in_terms w d (ap (gate_words taken) (left_stretch ds))
+        (stretched_suits w d (fact k ring (gate_words taken y.words) ∷ (fact j ring (gate_words taken x.words) ∷ both)) owed taken (is_scalar_left ds) n j x.words
+        (record { from = λ r k. (k.1.0, tt) }) left_one))) (λ u _.
         suits_bind w d
-        (in_terms w d (right_stretch ds)
-        (stretched_suits w d (fact u ring us ∷ (fact k ring y.words ∷ (fact j ring x.words ∷ both))) owed (is_scalar_right ds) n k ring y.words
-        (record { from = λ r k. (k.1.0, tt) })
-        right_one)) (λ v _.
+        (subst (λ e. Suits w d (fact u ring (gate_words taken us) ∷ (fact k ring (gate_words taken y.words) ∷ (fact j ring (gate_words taken x.words) ∷ both))) owed
+        (stretched e (is_scalar_right ds) n k) owed (Numbered ring (gate_words taken vs)) (Any {A = ℕ})) (sym h.right_element)
+        (in_terms w d (ap (gate_words taken) (right_stretch ds))
+        (stretched_suits w d (fact u ring (gate_words taken us) ∷ (fact k ring (gate_words taken y.words) ∷ (fact j ring (gate_words taken x.words) ∷ both))) owed taken
+        (is_scalar_right ds) n k y.words
+        (record { from = λ r k. (k.1.0, tt) }) right_one))) (λ v _.
         suits_bind w d
-        (operator_suits w d (fact v ring vs ∷ (fact u ring us ∷ (fact k ring y.words ∷ (fact j ring x.words ∷ both)))) n u v us vs (left_size ds h.left_single)
+        (operator_suits w d (fact v ring (gate_words taken vs) ∷ (fact u ring (gate_words taken us) ∷ (fact k ring (gate_words taken y.words)
+        ∷ (fact j ring (gate_words taken x.words) ∷ both)))) n u v us vs (left_size ds h.left_single)
         (right_size ds h.right_single alike) op gates (record { from = λ r k. (k.1.0, (k.0, tt)) }) (left_low ds) (right_low ds)) (λ r _.
         given_as w d _ (element_made op) (result_shape op ds) (W.result_words op ds x y) r (made_element op ds) (tell_first _ _) result_low
         (result_small alike)))))))
 
 -- ---- a private operand and public words
+
+-- what the ring makes of the words is the words of what it makes of the elements
+product_words : (e : DataType) (us known : List ℕ) → length us ≡ length known → InRange e us → InRange e known
+    → each_two (ring_of (ring_for e)).mul (gate_words e us) (gate_words e known) ≡ gate_words e (each_two (ring_of (ring_for e)).mul us known)
+product_words Uint64 us known same p q = refl
+product_words datatype.Bool us known same p q = sym (packed-and xor_ring.mul us known same (λ k l. and_parity (at us k) (at known k) (p k) (q k)))
 
 -- the product of the ring is what the operator means
 product_meaning : (op : BinaryOperator) → is_product op ≡ true → (x y : ℕ) → x < bound (element_taken op) → y < bound (element_taken op)
@@ -207,20 +223,22 @@ module _ (w : World) (d : Dealt) (op : BinaryOperator) (ds : Operands) where
   product_suits :
       (fs : List Fact) (scalar : Bool) (x : Value) (known us words : List ℕ) → is_product op ≡ true → Tell fs (facts_of x) → HasRange x
       → x.shape.element ≡ element_taken op → (scalar ≡ true → length x.words ≡ 1) → stretched_words scalar (length known) x.words ≡ us
-      → length us ≡ length known
+      → length us ≡ length known → InRange x.shape.element us → InRange x.shape.element known
       → each_two (ring_of (ring_for (element_taken op))).mul us known ≡ words → InRange (element_made op) words → length words < 2 ^ 64
       → Suits w d fs none_of (product_with op ds scalar x known words) none_of facts_of IsProper
-  product_suits fs scalar x known us words product t range e single stretch same mean low small =
+  product_suits fs scalar x known us words product t range e single stretch same us_low known_low mean low small =
       let ring = ring_for x.shape.element in
+      let gw = gate_words x.shape.element in
       let made = made_element op ds ∙ product_element op product ∙ sym e in
       suits_bind w d (number_suits w d fs none_of x t range) (λ j _.
-      suits_bind w d (in_terms w d stretch (stretched_suits w d (fact j ring x.words ∷ fs) none_of scalar (length known) j ring x.words
+      suits_bind w d (in_terms w d (ap gw stretch) (stretched_suits w d (fact j ring (gw x.words) ∷ fs) none_of x.shape.element scalar (length known) j x.words
       (tell_first _ _) single)) (λ u _.
       suits_bind w d
-      (in_terms w d (subst (λ z. each_two (ring_of (ring_for z)).mul us known ≡ words) (sym e) mean)
-      (gate_suits w d (fact u ring us ∷ (fact j ring x.words ∷ fs)) none_of none_of none_of (MulPub ring u known) ring
-      (each_two (ring_of ring).mul us known) (λ m. refl) refl
-      (λ r good facts. mulpub_gain r good u ring us facts.0 known same))) (λ r _.
+      (in_terms w d (product_words x.shape.element us known same us_low known_low
+      ∙ ap gw (subst (λ z. each_two (ring_of (ring_for z)).mul us known ≡ words) (sym e) mean))
+      (gate_suits w d (fact u ring (gw us) ∷ (fact j ring (gw x.words) ∷ fs)) none_of none_of none_of (MulPub ring u (gw known)) ring
+      (each_two (ring_of ring).mul (gw us) (gw known)) (λ m. refl) refl
+      (λ r good facts. mulpub_gain r good u ring (gw us) facts.0 (gw known) (same_gate_size x.shape.element us known same)))) (λ r _.
       given_as w d _ x.shape.element (result_shape op ds) words r made (tell_first _ _)
       (subst (λ z. InRange z words) (product_element op product ∙ sym e) low) small)))
 
@@ -237,6 +255,7 @@ module _ (w : World) (d : Dealt) (op : BinaryOperator) (ds : Operands) (x y : Va
       product_suits w d op ds all (is_scalar_left ds) x vs us (W.result_words op ds x y) product (tell_left op ds x y h w d) h.left.range h.left_element
       (left_one op ds x y h) (ap (λ n. stretched_words (is_scalar_left ds) n x.words) size ∙ left_stretch op ds x y h ds)
       (left_size op ds x y h ds h.left_single ∙ sym size)
+      (subst (λ e. InRange e us) (sym h.left_element) (left_low op ds x y h ds)) (subst (λ e. InRange e vs) (sym h.left_element) (right_low op ds x y h ds))
       (two_same (bound (element_taken op)) (ring_of (ring_for (element_taken op))).mul (W.meaning op) us vs (product_meaning op product)
       (left_low op ds x y h ds) (right_low op ds x y h ds))
       (result_low op ds x y h) (result_small op ds x y h alike)
@@ -251,6 +270,7 @@ module _ (w : World) (d : Dealt) (op : BinaryOperator) (ds : Operands) (x y : Va
       product_suits w d op ds all (is_scalar_right ds) y us vs (W.result_words op ds x y) product (tell_right op ds x y h w d) h.right.range h.right_element
       (right_one op ds x y h) (ap (λ n. stretched_words (is_scalar_right ds) n y.words) size ∙ right_stretch op ds x y h ds)
       (right_size op ds x y h ds h.right_single alike ∙ sym size)
+      (subst (λ e. InRange e vs) (sym h.right_element) (right_low op ds x y h ds)) (subst (λ e. InRange e us) (sym h.right_element) (left_low op ds x y h ds))
       (two_swapped mul us vs ∙ two_ext (λ x y. mul y x) mul us vs (λ x y. product_swaps (element_taken op) y x)
       ∙ two_same (bound (element_taken op)) mul (W.meaning op) us vs (product_meaning op product) (left_low op ds x y h ds) (right_low op ds x y h ds))
       (result_low op ds x y h) (result_small op ds x y h alike)

@@ -1,8 +1,10 @@
 pub mod Effects
 pub mod Gains
 pub mod Singles
+pub mod Chosen
 pub mod Parts
 pub mod Ranges
+pub mod GateWords
 pub mod Plans
 pub mod Meanings
 pub mod Operators

@@ -1,5 +1,5 @@
 -- What gates make of words is what operators mean on them.
-use Rattle.std.proofs.Common.{◌≡◌, ℕ, zero, suc, ◌<◌, ◌^◌, ◌%◌, List, [], ◌∷◌, length, map, Bool, true, false, not, refl, ap, ◌∙◌, arith, inl, inr}
+use Rattle.std.proofs.Common.{◌≡◌, ℕ, zero, suc, ◌+◌, ◌<◌, ◌^◌, ◌%◌, min, List, [], ◌∷◌, length, map, Bool, true, false, not, refl, ap, ◌∙◌, arith, inl, inr}
 use Rattle.std.specs.Prelude.{nat_eq, nat_lt, nat_le, ◌==◌, replicate, bit_and, bit_or, bit_xor, if◌then◌else◌}
 use Rattle.std.proofs.lemmas.Bool.{cases_lt}
 use Rattle.std.proofs.lemmas.Bool.Decides.{nat_tests}
@@ -109,13 +109,37 @@ pub of_bits : (f g : ℕ → ℕ → ℕ) → f 0 0 ≡ g 0 0 → f 0 1 ≡ g 0 
 of_bits f g a b c e x y h k =
     of_bit (λ x. f x y ≡ g x y) (of_bit (λ y. f 0 y ≡ g 0 y) a b y k) (of_bit (λ y. f 1 y ≡ g 1 y) c e y k) x h
 
--- xor with ones turns truth values
-pub flips : (us : List ℕ) (n : ℕ) → length us ≡ n → Below 2 us → each_two xor_ring.add us (replicate n 1) ≡ map flipped us
-flips [] n h p = refl
-flips (u ∷ us) zero h p = absurd (omega (arith, h))
-flips (u ∷ us) (suc n) h p =
-    ap (λ z. z ∷ each_two xor_ring.add us (replicate n 1)) (of_bit (λ x. xor_ring.add x 1 ≡ flipped x) refl refl u (below_head 2 u us p))
-    ∙ ap (λ z. flipped u ∷ z) (flips us n (omega (arith, h)) (below_tail 2 u us p))
+-- ---- parities, by which what is done with elements is done with their packed words
+
+pub flip_parity : (x : ℕ) → x < 2 → flipped x % 2 ≡ (x + 1) % 2
+flip_parity = of_bit (λ x. flipped x % 2 ≡ (x + 1) % 2) refl refl
+
+pub xor_parity : (x y : ℕ) → x < 2 → y < 2 → bit_xor x y % 2 ≡ (x + y) % 2
+xor_parity = of_bits (λ x y. bit_xor x y % 2) (λ x y. (x + y) % 2) refl refl refl refl
+
+pub differ_parity : (x y : ℕ) → x < 2 → y < 2 → truth_word (not (nat_eq x y)) % 2 ≡ (x + y) % 2
+differ_parity = of_bits (λ x y. truth_word (not (nat_eq x y)) % 2) (λ x y. (x + y) % 2) refl refl refl refl
+
+pub and_parity : (x y : ℕ) → x < 2 → y < 2 → xor_ring.mul x y % 2 ≡ min (x % 2) (y % 2) % 2
+and_parity = of_bits (λ x y. xor_ring.mul x y % 2) (λ x y. min (x % 2) (y % 2) % 2) refl refl refl refl
+
+pub and_word_parity : (x y : ℕ) → x < 2 → y < 2 → bit_and x y % 2 ≡ min (x % 2) (y % 2) % 2
+and_word_parity = of_bits (λ x y. bit_and x y % 2) (λ x y. min (x % 2) (y % 2) % 2) refl refl refl refl
+
+-- either is true: the xor of one of them and both
+pub or_words : (x y : ℕ) → x < 2 → y < 2 → bit_xor (bit_xor x y) (bit_and x y) ≡ bit_or x y
+or_words = of_bits (λ x y. bit_xor (bit_xor x y) (bit_and x y)) bit_or refl refl refl refl
+
+pub equal_words : (x y : ℕ) → x < 2 → y < 2 → flipped (bit_xor x y) ≡ truth_word (nat_eq x y)
+equal_words = of_bits (λ x y. flipped (bit_xor x y)) (λ x y. truth_word (nat_eq x y)) refl refl refl refl
+
+pub xor_small : (x y : ℕ) → x < 2 → y < 2 → bit_xor x y < 2
+xor_small x y h k = of_bit (λ x. bit_xor x y < 2) (of_bit (λ y. bit_xor 0 y < 2) (omega arith) (omega arith) y k)
+    (of_bit (λ y. bit_xor 1 y < 2) (omega arith) (omega arith) y k) x h
+
+pub and_small : (x y : ℕ) → x < 2 → y < 2 → bit_and x y < 2
+and_small x y h k = of_bit (λ x. bit_and x y < 2) (of_bit (λ y. bit_and 0 y < 2) (omega arith) (omega arith) y k)
+    (of_bit (λ y. bit_and 1 y < 2) (omega arith) (omega arith) y k) x h
 
 pub xor_bits : (x y : ℕ) → x < 2 → y < 2 → xor_ring.add x y ≡ bit_xor x y
 xor_bits = of_bits xor_ring.add bit_xor refl refl refl refl

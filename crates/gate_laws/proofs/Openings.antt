@@ -30,7 +30,7 @@ use Rattle.shared_plans.proofs.GateLists.{all-kinded-still}
 use Rattle.shared_plans.proofs.GateRunLaws.{run-needs}
 use Rattle.shared_plans.proofs.PlanRuns.{made-then}
 use Rattle.language_model.specs.Effects.{World, Source, Clear, Answers, Stage, Short, Effect, ◌>>=◌, carry, done, gate, emit, answer, show, words_each}
-use Rattle.language_model.specs.Values.{Secrecy, Plain, Private, Value, plain, size, ring_for, elements_of}
+use Rattle.language_model.specs.Values.{Secrecy, Plain, Private, Value, plain, size, ring_for, gate_words, gate_size, elements_of}
 use Rattle.language_model.specs.Operations.{read_answer, revealed, opened_from, declassified}
 use Rattle.gate_laws.specs.Facts.{handed_values, Handed, and_opened, IsProper, none_of, Fact, Stands, facts_of, run_at, IsAt}
 use Rattle.gate_laws.specs.Dealt.{InRange, drawn_by, Dealt}
@@ -40,6 +40,7 @@ use Rattle.gate_laws.proofs.Gains.{fact, opened_split, handed_split}
 use Rattle.gate_laws.proofs.Singles.{stands_inside, stands_size}
 use Rattle.gate_laws.proofs.Parts.{tell_same, tell_first, range_words, plain_charge, number_suits, itself_suits}
 use Rattle.gate_laws.proofs.Operators.{same_each}
+use Rattle.gate_laws.proofs.GateWords.{gate_words_size, learned_opened}
 use Rattle.gate_laws.proofs.Ranges.{Below, below_cons, take_below, drop_below, take_length, map_itself}
 
 -- ---- the gate
@@ -117,6 +118,9 @@ module _ (w : World) (d : Dealt) (v : Value) (p : IsProper v) (u : ℕ) where
   abbrev ring : RingKind
   ring = ring_for element
 
+  abbrev own_words : List ℕ
+  own_words = gate_words element v.words
+
   -- after the gate
   abbrev behind : Stage → Stage
   behind s = record s { made = s.made + 1; gates = s.gates ++ Open ring u ∷ [] }
@@ -130,7 +134,7 @@ module _ (w : World) (d : Dealt) (v : Value) (p : IsProper v) (u : ℕ) where
       show (read_answer element words) >>= λ _. emit (event.Open (elements_of (plain v.shape (read_answer element words)))) >>= λ _.
       done (plain v.shape (read_answer element words))
 
-  module _ (kinds : List Kind) (s : Stage) (at : IsAt w d kinds (λ m. size v) s) (h : Stands (run_at w d kinds s) (fact u ring v.words)) where
+  module _ (kinds : List Kind) (s : Stage) (at : IsAt w d kinds (λ m. gate_size element (size v)) s) (h : Stands (run_at w d kinds s) (fact u ring own_words)) where
     abbrev run : GateRun
     run = run_at w d kinds s
 
@@ -149,7 +153,7 @@ module _ (w : World) (d : Dealt) (v : Value) (p : IsProper v) (u : ℕ) where
         subst (Handed s.events) (none_handed values) (at.handed values (FitFrom-append d.inputs values 0 s.gates (Open ring u ∷ []) fit).0)
 
     drawn_all : (i : Number) → drawn_by s.drawn (miner_of i) ≡ words_drawn (then_gates run (Open ring u ∷ []) (Known ∷ [])) i + none_of (miner_of i)
-    drawn_all i = let e = opening_words run at.formed u ring v.words h i in omega (arith, at.drawn i)
+    drawn_all i = let e = opening_words run at.formed u ring own_words h i in omega (arith, at.drawn i, gate_words_size element v.words)
 
     -- in the clear
     clear_told : w.source ≡ Clear → Comes w d s (told (read_answer element v.words) (behind s)) kinds none_of []
@@ -159,15 +163,16 @@ module _ (w : World) (d : Dealt) (v : Value) (p : IsProper v) (u : ℕ) where
           later = kinds ++ Known ∷ [];
           grown = grown (told (read_answer element v.words) (behind s)) refl;
           stage = record {
-            formed = opening_formed run at.formed u ring v.words h;
+            formed = opening_formed run at.formed u ring own_words h;
             made = made_one;
             drawn = drawn_all;
             answers = at.answers;
             handed = λ values fit. and_opened (elements_of (plain v.shape (read_answer element v.words))) (handed_yet values fit);
             opened = λ c values fit.
                 let before = (FitFrom-append d.inputs values 0 s.gates (Open ring u ∷ []) fit).0 in
-                ap (λ z. z ++ read_answer element v.words) (at.opened c values before)
-                ∙ ap (λ z. opened_values values s.gates ++ z) (read_same element v.words p.range ∙ sym (h.words values before)
+                learned_opened s.events element (read_answer element v.words) (read_low element v.words (range_words element v.words p.range))
+                ∙ ap (λ z. z ++ gate_words element (read_answer element v.words)) (at.opened c values before)
+                ∙ ap (λ z. opened_values values s.gates ++ z) (ap (gate_words element) (read_same element v.words p.range) ∙ sym (h.words values before)
                 ∙ sym (append-nil (value values u)))
                 ∙ sym (opened_split values s.gates (Open ring u ∷ []));
           };
@@ -188,7 +193,7 @@ module _ (w : World) (d : Dealt) (v : Value) (p : IsProper v) (u : ℕ) where
           later = kinds ++ Known ∷ [];
           grown = grown (told (read_answer element words) (record (behind s) { answers = drop (size v) s.answers })) refl;
           stage = record {
-            formed = opening_formed run at.formed u ring v.words h;
+            formed = opening_formed run at.formed u ring own_words h;
             made = made_one;
             drawn = drawn_all;
             answers = drop_below (2 ^ 64) (size v) s.answers at.answers;
@@ -206,7 +211,7 @@ module _ (w : World) (d : Dealt) (v : Value) (p : IsProper v) (u : ℕ) where
           later = kinds ++ Known ∷ [];
           grown = grown (behind s) refl;
           stage = record {
-            formed = opening_formed run at.formed u ring v.words h;
+            formed = opening_formed run at.formed u ring own_words h;
             made = made_one;
             drawn = drawn_all;
             answers = at.answers;
@@ -221,17 +226,18 @@ module _ (w : World) (d : Dealt) (v : Value) (p : IsProper v) (u : ℕ) where
     revealed_comes Clear e = clear_told e
     revealed_comes Answers e = answers_told e (nat_le (size v) (length s.answers))
 
-  pub opening_suits : (fs : List Fact) → Tell fs (fact u ring v.words ∷ [])
-      → Suits w d fs (λ m. size v) (gate (Open ring u) >>= λ _. revealed w v) none_of facts_of IsProper
+  pub opening_suits : (fs : List Fact) → Tell fs (fact u ring own_words ∷ [])
+      → Suits w d fs (λ m. gate_size element (size v)) (gate (Open ring u) >>= λ _. revealed w v) none_of facts_of IsProper
   opening_suits fs t = record { from = λ kinds s at facts. revealed_comes kinds s at (t.from (run_at w d kinds s) facts).0 w.source refl }
 
 module _ (w : World) (d : Dealt) (v : Value) (p : IsProper v) where
   opened_suits : (a : Secrecy) → Suits w d (facts_of v) none_of (opened_from w a v) none_of facts_of IsProper
   opened_suits Plain = itself_suits w d (facts_of v) v (tell_same (facts_of v)) p
   opened_suits (Private k) =
-      suits_bind w d (draw_suits w d (facts_of v) (words_each (size v))) (λ _ _.
-      suits_bind w d (number_suits w d (facts_of v) (drawn_by (words_each (size v))) v (tell_same (facts_of v)) p.range) (λ u _.
-      suits_owed w d (same_each (size v)) (opening_suits w d v p u (fact u (ring_for v.shape.element) v.words ∷ facts_of v) (tell_first _ _))))
+      suits_bind w d (draw_suits w d (facts_of v) (words_each (gate_size v.shape.element (size v)))) (λ _ _.
+      suits_bind w d (number_suits w d (facts_of v) (drawn_by (words_each (gate_size v.shape.element (size v)))) v (tell_same (facts_of v)) p.range) (λ u _.
+      suits_owed w d (same_each (gate_size v.shape.element (size v)))
+      (opening_suits w d v p u (fact u (ring_for v.shape.element) (gate_words v.shape.element v.words) ∷ facts_of v) (tell_first _ _))))
 
   pub declassified_suits : Suits w d (facts_of v) none_of (declassified w v) none_of facts_of IsProper
   declassified_suits = suits_bind w d (plain_charge w d (facts_of v) (size v)) (λ _ _. opened_suits v.secrecy)

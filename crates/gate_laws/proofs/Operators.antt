@@ -1,6 +1,6 @@
 -- The gates of operators between private operands.
 use Rattle.std.proofs.Common.{◌≡◌, ℕ, ◌*◌, ◌<◌, ◌^◌, List, [], ◌∷◌, length, map, true, false, refl, sym, ap, ◌∙◌, subst, arith}
-use Rattle.std.specs.Prelude.{nat_eq, nat_lt, replicate}
+use Rattle.std.specs.Prelude.{nat_eq, nat_lt, replicate, bit_and, bit_xor, ◌%◌, ◌+◌}
 use Rattle.shared_plans.proofs.Models.{length-each_two}
 use Rattle.proto_core.specs.Rings.{add_ring, xor_ring}
 use Rattle.gates.specs.declared.ring_kind.RingKind.{RingKind}
@@ -22,22 +22,28 @@ use Rattle.program_trees.specs.declared.operators.BinaryOperator.{BinaryOperator
 use Rattle.program_trees.specs.declared.operators.BinaryOperator.TheVariants.{Words, Bools}
 use Rattle.program_trees.specs.Operators.{element_made}
 use Rattle.language_model.specs.Effects.{World, Effect, ◌>>=◌, gate, words_each}
-use Rattle.language_model.specs.Values.{ring_for}
+use Rattle.language_model.specs.Values.{ring_for, gate_words}
 use Rattle.language_model.specs.Words.{flipped, meaning}
 use Rattle.language_model.specs.Operations.{flip, words_for_equality, words_for_order, words_of_operator}
-use Rattle.language_model.specs.Operations.{equal_gates, less_gates, or_gates, operator_gates}
+use Rattle.language_model.specs.Operations.{zero_gates, equal_gates, less_gates, or_gates, operator_gates}
 use Rattle.gate_laws.specs.Facts.{none_of, Fact, Suits}
 use Rattle.gate_laws.specs.Dealt.{InRange, drawn_by, Dealt}
 use Rattle.gate_laws.specs.Rows.{element_taken, has_gates}
 use Rattle.gate_laws.proofs.Effects.{Tell, Any, suits_bind}
 use Rattle.gate_laws.proofs.Gains.{fact, gate_suits, planned_suits}
-use Rattle.gate_laws.proofs.Singles.{add_gain, sub_gain, mul_gain, xor_gain, and_gain}
+use Rattle.gate_laws.proofs.Singles.{add_gain, sub_gain, mul_gain, xor_gain, and_gain, pack_gain}
+use Rattle.gates.specs.Bits.{words_for}
+use Rattle.gates.specs.Gathered.{packed}
+use Rattle.gates.proofs.Packing.{length-packed, packed-words, packed-flip, packed-xor, packed-and}
+use Rattle.proto_core.specs.Lists.{at}
 use Rattle.gate_laws.proofs.Plans.{zero_gain, less_gain}
 use Rattle.gate_laws.proofs.Parts.{tell_first, const_suits}
 use Rattle.gate_laws.proofs.Ranges.{Below, two_same, two_below, replicate_below, length_replicated, below_more, truth_below}
-use Rattle.gate_laws.proofs.Meanings.{map_two, two_of_two, two_ext, two_swapped, equal_word, less_word, flipped_truth, at_most_word, flips, xor_bits}
-use Rattle.gate_laws.proofs.Meanings.{and_bits, or_bits}
-use Rattle.gate_laws.proofs.Meanings.{differ_bits, equal_bits, xor_low}
+use Rattle.gate_laws.proofs.Meanings.{map_two, two_of_two, two_ext, two_swapped, equal_word, less_word, flipped_truth, at_most_word}
+use Rattle.gate_laws.proofs.Meanings.{flip_parity, xor_parity, differ_parity, and_word_parity, or_words, equal_words, xor_small, and_small}
+
+packed_alike : (xs ys : List ℕ) → length xs ≡ length ys → length (packed xs) ≡ length (packed ys)
+packed_alike xs ys e = length-packed xs ∙ ap words_for e ∙ sym (length-packed ys)
 
 false_true : false ≡ true → ⊥
 false_true h = cc
@@ -71,14 +77,26 @@ module _ (w : World) (d : Dealt) where
       → Suits w d fs before c after (Numbered ring ys) (Any {A = ℕ})
   in_terms {fs = fs} {before = before} {after = after} {c = c} {ring = ring} e h = subst (λ z. Suits w d fs before c after (Numbered ring z) (Any {A = ℕ})) e h
 
-  pub flip_suits : (fs : List Fact) (owed : Miner → ℕ) (n u : ℕ) (us : List ℕ) → Tell fs (fact u Boolean us ∷ []) → length us ≡ n → Below 2 us
-      → Suits w d fs owed (flip n u) owed (Numbered Boolean (map flipped us)) (Any {A = ℕ})
+  pub flip_suits : (fs : List Fact) (owed : Miner → ℕ) (n u : ℕ) (us : List ℕ) → Tell fs (fact u Boolean (packed us) ∷ []) → length us ≡ n → Below 2 us
+      → Suits w d fs owed (flip n u) owed (Numbered Boolean (packed (map flipped us))) (Any {A = ℕ})
   flip_suits fs owed n u us t size low =
       let ones = replicate n 1 in
-      suits_bind w d (const_suits w d fs owed Boolean ones (below_more 2 (2 ^ 64) ones (omega arith) (replicate_below 2 n 1 (omega arith)))) (λ k _.
-      in_terms (flips us n size low)
-      (gate_suits w d (fact k Boolean ones ∷ fs) owed (λ m. 0 * length us) owed (gates.Xor u k) Boolean (each_two xor_ring.add us ones) (λ m. omega arith) refl
-      (λ r good facts. xor_gain r good u k us ones (size ∙ sym (length_replicated n 1)) (t.from r facts.1).0 facts.0)))
+      suits_bind w d (const_suits w d fs owed Boolean (packed ones) (packed-words ones)) (λ k _.
+      in_terms (sym (packed-flip flipped us (λ k lt. flip_parity (at us k) (low k)) ∙ ap (λ n. each_two xor_ring.add (packed us) (packed (replicate n 1))) size))
+      (gate_suits w d (fact k Boolean (packed ones) ∷ fs) owed (λ m. 0 * length (packed us)) owed (gates.Xor u k) Boolean
+      (each_two xor_ring.add (packed us) (packed ones)) (λ m. omega arith) refl
+      (λ r good facts. xor_gain r good u k (packed us) (packed ones) (packed_alike us ones (size ∙ sym (length_replicated n 1))) (t.from r facts.1).0 facts.0)))
+
+  -- numbers are tested for 0
+  pub zero_suits : (fs : List Fact) (n u : ℕ) (us : List ℕ) → Tell fs (fact u Arithmetic us ∷ []) → length us ≡ n
+      → Suits w d fs (drawn_by (words_for_equality n)) (zero_gates u) none_of (Numbered Boolean (packed (map zero_test us))) (Any {A = ℕ})
+  zero_suits fs n u us t size =
+      suits_bind w d
+      (planned_suits w d fs (drawn_by (words_for_equality n)) (λ m. equality.words_taken m (length us)) none_of (λ first. eq_plan first u) zero_test_kinds
+      16 Boolean (map zero_test us) (λ m. let e = equality_words n m ∙ ap (equality.words_taken m) (sym size) in omega (arith, e)) (λ first. refl)
+      (λ r good facts. zero_gain r good u us (t.from r facts).0)) (λ z _.
+      gate_suits w d (fact z Boolean (map zero_test us) ∷ fs) none_of none_of none_of (gates.Pack z) Boolean (packed (map zero_test us)) (λ m. refl) refl
+      (λ r good facts. pack_gain r good z (map zero_test us) facts.0))
 
   module _ (fs : List Fact) (n u v : ℕ) (us vs : List ℕ) (left : length us ≡ n) (right : length vs ≡ n) where
     abbrev same : length us ≡ length vs
@@ -87,7 +105,7 @@ module _ (w : World) (d : Dealt) where
     -- ---- numbers
 
     module _ (t : Both fs u v Arithmetic us vs) (p : Below (2 ^ 64) us) (q : Below (2 ^ 64) vs) where
-      equal_suits : Suits w d fs (drawn_by (words_for_equality n)) (equal_gates u v) none_of (Numbered Boolean (each_two (meaning (Words word.Equal)) us vs))
+      equal_suits : Suits w d fs (drawn_by (words_for_equality n)) (equal_gates u v) none_of (Numbered Boolean (packed (each_two (meaning (Words word.Equal)) us vs)))
           (Any {A = ℕ})
       equal_suits =
           let ds = each_two add_ring.sub us vs in
@@ -96,43 +114,47 @@ module _ (w : World) (d : Dealt) where
           (gate_suits w d fs (drawn_by (words_for_equality n)) (λ m. 0 * length us) (drawn_by (words_for_equality n)) (gates.Sub u v) Arithmetic ds
           (λ m. omega arith) refl
           (λ r good facts. sub_gain r good u v us vs same (t.from r facts).0 (t.from r facts).1.0)) (λ k _.
-          in_terms (map_two zero_test add_ring.sub us vs ∙ two_same (2 ^ 64) (λ x y. zero_test (add_ring.sub x y))
-          (meaning (Words word.Equal)) us vs equal_word p q)
-          (planned_suits w d (fact k Arithmetic ds ∷ fs) (drawn_by (words_for_equality n)) (λ m. equality.words_taken m (length ds)) none_of
-          (λ first. eq_plan first k) zero_test_kinds
-          16 Boolean (map zero_test ds) (λ m. let e = equality_words n m ∙ ap (equality.words_taken m) (sym size) in omega (arith, e)) (λ first. refl)
-          (λ r good facts. zero_gain r good k ds facts.0)))
+          in_terms (ap packed (map_two zero_test add_ring.sub us vs ∙ two_same (2 ^ 64) (λ x y. zero_test (add_ring.sub x y))
+          (meaning (Words word.Equal)) us vs equal_word p q))
+          (zero_suits (fact k Arithmetic ds ∷ fs) n k ds (tell_first (fact k Arithmetic ds) fs) size))
 
-      less_suits : Suits w d fs (drawn_by (words_for_order n)) (less_gates n u v) none_of (Numbered Boolean (each_two (meaning (Words word.Less)) us vs))
+      -- the first of each two is less
+      compared_suits : (a b : ℕ) (xs ys : List ℕ) → Both fs a b Arithmetic xs ys → length xs ≡ n → length ys ≡ n
+          → Suits w d fs (drawn_by (words_for_order n)) (less_gates n a b) none_of (Numbered Boolean (packed (each_two less_test xs ys))) (Any {A = ℕ})
+      compared_suits a b xs ys s e f =
+          suits_bind w d
+          (planned_suits w d fs (drawn_by (words_for_order n)) (λ m. compare.words_taken m n) none_of (λ first. less_plan first a b n) comparison_kinds
+          109 Boolean (each_two less_test xs ys) (λ m. let g = order_words n m in omega (arith, g)) (λ first. refl)
+          (λ r good facts. less_gain r good n a b xs ys (s.from r facts).0 (s.from r facts).1.0 e f)) (λ z _.
+          gate_suits w d (fact z Boolean (each_two less_test xs ys) ∷ fs) none_of none_of none_of (gates.Pack z) Boolean
+          (packed (each_two less_test xs ys)) (λ m. refl) refl
+          (λ r good facts. pack_gain r good z (each_two less_test xs ys) facts.0))
+
+      less_suits : Suits w d fs (drawn_by (words_for_order n)) (less_gates n u v) none_of (Numbered Boolean (packed (each_two (meaning (Words word.Less)) us vs)))
           (Any {A = ℕ})
       less_suits =
-          in_terms (two_ext less_test (meaning (Words word.Less)) us vs less_word)
-          (planned_suits w d fs (drawn_by (words_for_order n)) (λ m. compare.words_taken m n) none_of (λ first. less_plan first u v n) comparison_kinds
-          109 Boolean (each_two less_test us vs) (λ m. let e = order_words n m in omega (arith, e)) (λ first. refl)
-          (λ r good facts. less_gain r good n u v us vs (t.from r facts).0 (t.from r facts).1.0 left right))
+          in_terms (ap packed (two_ext less_test (meaning (Words word.Less)) us vs less_word)) (compared_suits u v us vs t left right)
 
       greater_suits : Suits w d fs (drawn_by (words_for_order n)) (less_gates n v u) none_of
-          (Numbered Boolean (each_two (meaning (Words word.Greater)) us vs)) (Any {A = ℕ})
+          (Numbered Boolean (packed (each_two (meaning (Words word.Greater)) us vs))) (Any {A = ℕ})
       greater_suits =
-          in_terms (two_ext less_test (meaning (Words word.Less)) vs us less_word ∙ two_swapped (meaning (Words word.Less)) us vs)
-          (planned_suits w d fs (drawn_by (words_for_order n)) (λ m. compare.words_taken m n) none_of (λ first. less_plan first v u n) comparison_kinds
-          109 Boolean (each_two less_test vs us) (λ m. let e = order_words n m in omega (arith, e)) (λ first. refl)
-          (λ r good facts. less_gain r good n v u vs us (t.from r facts).1.0 (t.from r facts).0 right left))
+          in_terms (ap packed (two_ext less_test (meaning (Words word.Less)) vs us less_word ∙ two_swapped (meaning (Words word.Less)) us vs))
+          (compared_suits v u vs us (record { from = λ r facts. ((t.from r facts).1.0, ((t.from r facts).0, tt)) }) right left)
 
       -- turned after
-      turned_suits : (before : Miner → ℕ) (c : Effect ℕ) (f g : ℕ → ℕ → ℕ) → Suits w d fs before c none_of (Numbered Boolean (each_two f us vs)) (Any {A = ℕ})
+      turned_suits : (before : Miner → ℕ) (c : Effect ℕ) (f g : ℕ → ℕ → ℕ) → Suits w d fs before c none_of (Numbered Boolean (packed (each_two f us vs))) (Any {A = ℕ})
           → ((x y : ℕ) → f x y < 2) → ((x y : ℕ) → flipped (f x y) ≡ g x y)
-          → Suits w d fs before (c >>= flip n) none_of (Numbered Boolean (each_two g us vs)) (Any {A = ℕ})
+          → Suits w d fs before (c >>= flip n) none_of (Numbered Boolean (packed (each_two g us vs))) (Any {A = ℕ})
       turned_suits before c f g h low e =
           suits_bind w d h (λ k _.
-          in_terms (map_two flipped f us vs ∙ two_ext (λ x y. flipped (f x y)) g us vs e)
-          (flip_suits (fact k Boolean (each_two f us vs) ∷ fs) none_of n k (each_two f us vs) (tell_first (fact k Boolean (each_two f us vs)) fs)
+          in_terms (ap packed (map_two flipped f us vs ∙ two_ext (λ x y. flipped (f x y)) g us vs e))
+          (flip_suits (fact k Boolean (packed (each_two f us vs)) ∷ fs) none_of n k (each_two f us vs) (tell_first (fact k Boolean (packed (each_two f us vs))) fs)
           (length-each_two f us vs same ∙ left)
           (two_below (2 ^ 64) 2 f us vs (omega arith) (λ x y a b. low x y) p q)))
 
       word_suits : (op : OperatorSign) → has_gates (Words op) ≡ true
           → Suits w d fs (drawn_by (words_of_operator (Words op) n)) (operator_gates (Words op) n u v) none_of
-          (Numbered (ring_for (element_made (Words op))) (each_two (meaning (Words op)) us vs)) (Any {A = ℕ})
+          (Numbered (ring_for (element_made (Words op))) (gate_words (element_made (Words op)) (each_two (meaning (Words op)) us vs))) (Any {A = ℕ})
       word_suits word.Add h =
           gate_suits w d fs (drawn_by (words_each 0)) (λ m. 0 * length us) none_of (gates.Add u v) Arithmetic (each_two add_ring.add us vs)
           (λ m. let e = same_each 0 m in omega (arith, e)) refl (λ r good facts. add_gain r good u v us vs same (t.from r facts).0 (t.from r facts).1.0)
@@ -163,34 +185,49 @@ module _ (w : World) (d : Dealt) where
 
     -- ---- truth values
 
-    module _ (t : Both fs u v Boolean us vs) (p : Below 2 us) (q : Below 2 vs) where
-      xor_suits : (gs : List Fact) (before after : Miner → ℕ) → Both gs u v Boolean us vs → ((m : Miner) → before m ≡ after m)
-          → Suits w d gs before (gate (gates.Xor u v)) after (Numbered Boolean (each_two xor_ring.add us vs)) (Any {A = ℕ})
-      xor_suits gs before after tell e =
-          gate_suits w d gs before (λ m. 0 * length us) after (gates.Xor u v) Boolean (each_two xor_ring.add us vs)
-          (λ m. let f = e m in omega (arith, f)) refl (λ r good facts. xor_gain r good u v us vs same (tell.from r facts).0 (tell.from r facts).1.0)
+    module _ (t : Both fs u v Boolean (packed us) (packed vs)) (p : Below 2 us) (q : Below 2 vs) where
+      xor_suits : (gs : List Fact) (before after : Miner → ℕ) → Both gs u v Boolean (packed us) (packed vs) → ((m : Miner) → before m ≡ after m)
+          → (f : ℕ → ℕ → ℕ) → ((x y : ℕ) → x < 2 → y < 2 → f x y % 2 ≡ (x + y) % 2)
+          → Suits w d gs before (gate (gates.Xor u v)) after (Numbered Boolean (packed (each_two f us vs))) (Any {A = ℕ})
+      xor_suits gs before after tell e f parity =
+          in_terms (sym (packed-xor f us vs same (λ k lt. parity (at us k) (at vs k) (p k) (q k))))
+          (gate_suits w d gs before (λ m. 0 * length (packed us)) after (gates.Xor u v) Boolean (each_two xor_ring.add (packed us) (packed vs))
+          (λ m. let g = e m in omega (arith, g)) refl
+          (λ r good facts. xor_gain r good u v (packed us) (packed vs) (packed_alike us vs same) (tell.from r facts).0 (tell.from r facts).1.0))
 
-      and_suits : Suits w d fs (drawn_by (words_each (3 * n))) (gate (gates.And u v)) none_of (Numbered Boolean (each_two xor_ring.mul us vs)) (Any {A = ℕ})
+      abbrev words : ℕ
+      words = words_for n
+
+      packed_size : length (packed us) ≡ words
+      packed_size = length-packed us ∙ ap words_for left
+
+      and_suits : Suits w d fs (drawn_by (words_each (3 * words))) (gate (gates.And u v)) none_of (Numbered Boolean (packed (each_two bit_and us vs))) (Any {A = ℕ})
       and_suits =
-          gate_suits w d fs (drawn_by (words_each (3 * n))) (λ m. 3 * length us) none_of (gates.And u v) Boolean (each_two xor_ring.mul us vs)
-          (λ m. let e = same_each (3 * n) m in omega (arith, e, left)) refl
-          (λ r good facts. and_gain r good u v us vs same (t.from r facts).0 (t.from r facts).1.0)
+          in_terms (sym (packed-and bit_and us vs same (λ k lt. and_word_parity (at us k) (at vs k) (p k) (q k))))
+          (gate_suits w d fs (drawn_by (words_each (3 * words))) (λ m. 3 * length (packed us)) none_of (gates.And u v) Boolean
+          (each_two xor_ring.mul (packed us) (packed vs))
+          (λ m. let e = same_each (3 * words) m in omega (arith, e, packed_size)) refl
+          (λ r good facts. and_gain r good u v (packed us) (packed vs) (packed_alike us vs same) (t.from r facts).0 (t.from r facts).1.0))
 
       -- one of them is true, or both are
-      or_suits : Suits w d fs (drawn_by (words_each (3 * n))) (or_gates u v) none_of
-          (Numbered Boolean (each_two (meaning (Bools truth.Or)) us vs)) (Any {A = ℕ})
+      or_suits : Suits w d fs (drawn_by (words_each (3 * words))) (or_gates u v) none_of
+          (Numbered Boolean (packed (each_two (meaning (Bools truth.Or)) us vs))) (Any {A = ℕ})
       or_suits =
-          let one_words = each_two xor_ring.add us vs in
-          let both_words = each_two xor_ring.mul us vs in
+          let one_words = each_two bit_xor us vs in
+          let both_words = each_two bit_and us vs in
+          let long = length-each_two bit_xor us vs same ∙ sym (length-each_two bit_and us vs same) in
+          let one_low = two_below 2 2 bit_xor us vs (omega arith) xor_small p q in
+          let both_low = two_below 2 2 bit_and us vs (omega arith) and_small p q in
           suits_bind w d and_suits (λ both _.
-          suits_bind w d (xor_suits (fact both Boolean both_words ∷ fs) none_of none_of (record { from = λ r facts. t.from r facts.1 }) (λ m. refl)) (λ one _.
-          in_terms (two_of_two xor_ring.add xor_ring.add xor_ring.mul us vs
-          ∙ two_same 2 (λ x y. xor_ring.add (xor_ring.add x y) (xor_ring.mul x y)) (meaning (Bools truth.Or)) us vs or_bits p q)
-          (gate_suits w d (fact one Boolean one_words ∷ (fact both Boolean both_words ∷ fs)) none_of (λ m. 0 * length one_words) none_of
+          suits_bind w d (xor_suits (fact both Boolean (packed both_words) ∷ fs) none_of none_of (record { from = λ r facts. t.from r facts.1 }) (λ m. refl)
+          bit_xor xor_parity) (λ one _.
+          in_terms (sym (packed-xor bit_xor one_words both_words long (λ k lt. xor_parity (at one_words k) (at both_words k) (one_low k) (both_low k)))
+          ∙ ap packed (two_of_two bit_xor bit_xor bit_and us vs
+          ∙ two_same 2 (λ x y. bit_xor (bit_xor x y) (bit_and x y)) (meaning (Bools truth.Or)) us vs or_words p q))
+          (gate_suits w d (fact one Boolean (packed one_words) ∷ (fact both Boolean (packed both_words) ∷ fs)) none_of (λ m. 0 * length (packed one_words)) none_of
           (gates.Xor one both) Boolean
-          (each_two xor_ring.add one_words both_words) (λ m. omega arith) refl
-          (λ r good facts. xor_gain r good one both one_words both_words
-          (length-each_two xor_ring.add us vs same ∙ sym (length-each_two xor_ring.mul us vs same))
+          (each_two xor_ring.add (packed one_words) (packed both_words)) (λ m. omega arith) refl
+          (λ r good facts. xor_gain r good one both (packed one_words) (packed both_words) (packed_alike one_words both_words long)
           facts.0 facts.1.0))))
 
       none_each : (m : Miner) → drawn_by (words_each 0) m ≡ none_of m
@@ -198,26 +235,25 @@ module _ (w : World) (d : Dealt) where
 
       bool_suits : (op : BoolOperator)
           → Suits w d fs (drawn_by (words_of_operator (Bools op) n)) (operator_gates (Bools op) n u v) none_of
-          (Numbered Boolean (each_two (meaning (Bools op)) us vs))
+          (Numbered Boolean (packed (each_two (meaning (Bools op)) us vs)))
           (Any {A = ℕ})
-      bool_suits truth.Xor = in_terms (two_same 2 xor_ring.add (meaning (Bools truth.Xor)) us vs xor_bits p q)
-          (xor_suits fs (drawn_by (words_each 0)) none_of t none_each)
-      bool_suits truth.NotEqual =
-          in_terms (two_same 2 xor_ring.add (meaning (Bools truth.NotEqual)) us vs differ_bits p q) (xor_suits fs (drawn_by (words_each 0)) none_of t none_each)
-      bool_suits truth.And = in_terms (two_same 2 xor_ring.mul (meaning (Bools truth.And)) us vs and_bits p q) and_suits
+      bool_suits truth.Xor = xor_suits fs (drawn_by (words_each 0)) none_of t none_each (meaning (Bools truth.Xor)) xor_parity
+      bool_suits truth.NotEqual = xor_suits fs (drawn_by (words_each 0)) none_of t none_each (meaning (Bools truth.NotEqual)) differ_parity
+      bool_suits truth.And = and_suits
       bool_suits truth.Or = or_suits
       bool_suits truth.Equal =
-          let xs = each_two xor_ring.add us vs in
-          suits_bind w d (xor_suits fs (drawn_by (words_each 0)) none_of t none_each) (λ k _.
-          in_terms (map_two flipped xor_ring.add us vs ∙ two_same 2 (λ x y. flipped (xor_ring.add x y)) (meaning (Bools truth.Equal)) us vs equal_bits p q)
-          (flip_suits (fact k Boolean xs ∷ fs) none_of n k xs (tell_first (fact k Boolean xs) fs) (length-each_two xor_ring.add us vs same ∙ left)
-          (two_below 2 2 xor_ring.add us vs (omega arith) xor_low p q)))
+          let xs = each_two bit_xor us vs in
+          suits_bind w d (xor_suits fs (drawn_by (words_each 0)) none_of t none_each bit_xor xor_parity) (λ k _.
+          in_terms (ap packed (map_two flipped bit_xor us vs ∙ two_same 2 (λ x y. flipped (bit_xor x y)) (meaning (Bools truth.Equal)) us vs equal_words p q))
+          (flip_suits (fact k Boolean (packed xs) ∷ fs) none_of n k xs (tell_first (fact k Boolean (packed xs)) fs) (length-each_two bit_xor us vs same ∙ left)
+          (two_below 2 2 bit_xor us vs (omega arith) xor_small p q)))
 
     -- ---- all of them
 
-    pub operator_suits : (op : BinaryOperator) → has_gates op ≡ true → Both fs u v (ring_for (element_taken op)) us vs → InRange (element_taken op) us
+    pub operator_suits : (op : BinaryOperator) → has_gates op ≡ true
+        → Both fs u v (ring_for (element_taken op)) (gate_words (element_taken op) us) (gate_words (element_taken op) vs) → InRange (element_taken op) us
         → InRange (element_taken op) vs
         → Suits w d fs (drawn_by (words_of_operator op n)) (operator_gates op n u v) none_of
-        (Numbered (ring_for (element_made op)) (each_two (meaning op) us vs)) (Any {A = ℕ})
+        (Numbered (ring_for (element_made op)) (gate_words (element_made op) (each_two (meaning op) us vs))) (Any {A = ℕ})
     operator_suits (Words op) h t p q = word_suits t p q op h
     operator_suits (Bools op) h t p q = bool_suits t p q op

@@ -6,18 +6,20 @@ use Rattle.program_trees.specs.declared.expression.DataType.TheVariants.{Uint64}
 use Rattle.program_trees.specs.declared.expression.DataType.TheVariants as datatype
 use Rattle.proto_core.specs.Lists.{at, AreWords}
 use Rattle.gates.specs.declared.ring_kind.RingKind.{RingKind}
-use Rattle.gates.specs.declared.gate.Gate.TheVariants.{Const, Rep}
+use Rattle.gates.specs.declared.gate.Gate.TheVariants.{Const}
 use Rattle.gates.specs.Clear.{first_word}
 use Rattle.gates.specs.Counts.{Miner}
 use Rattle.program_trees.specs.declared.kinds.Shape.{Shape}
 use Rattle.language_model.specs.Effects.{World, Effect, done, gate}
-use Rattle.language_model.specs.Values.{Secrecy, Plain, Private, Value, plain, size, ring_for}
-use Rattle.language_model.specs.Operations.{charged, no_traps, number_from, number_of, stretched, made_private, classified_from, classified}
+use Rattle.language_model.specs.Values.{Secrecy, Plain, Private, Value, plain, size, ring_for, gate_words}
+use Rattle.language_model.specs.Operations.{charged, no_traps, number_from, number_of, repeated_gate, stretched, made_private, classified_from, classified}
 use Rattle.gate_laws.specs.Facts.{HasRange, IsProper, none_of, Fact, fact_from, facts_of, Suits}
 use Rattle.gate_laws.specs.Dealt.{InRange, Dealt}
 use Rattle.gate_laws.proofs.Effects.{Tell, Any, NoFacts, suits_bind, suits_with, suits_done, charge_suits}
 use Rattle.gate_laws.proofs.Gains.{fact, gate_suits}
-use Rattle.gate_laws.proofs.Singles.{const_gain, rep_gain}
+use Rattle.gate_laws.proofs.Singles.{const_gain}
+use Rattle.gate_laws.proofs.Chosen.{one_repeated, repeated_gain}
+use Rattle.gate_laws.proofs.GateWords.{gate_words_are}
 
 pub range_words : (e : DataType) (words : List ℕ) → InRange e words → AreWords words
 range_words Uint64 words h = h
@@ -57,39 +59,43 @@ module _ (w : World) (d : Dealt) where
         gate_suits w d fs owed none_of owed (Const words) ring words (λ m. omega arith) refl (λ r good facts. const_gain r good ring words ok)
 
     number_from_suits : (a : Secrecy) (e : DataType) (words : List ℕ) → Tell fs (fact_from a e words) → InRange e words
-        → Suits w d fs owed (number_from a words) owed (λ k. fact k (ring_for e) words ∷ []) (Any {A = ℕ})
+        → Suits w d fs owed (number_from a (gate_words e words)) owed (λ k. fact k (ring_for e) (gate_words e words) ∷ []) (Any {A = ℕ})
     number_from_suits (Private (Some k)) e words t range = suits_done w d t tt
-    number_from_suits (Private None) e words t range = const_suits (ring_for e) words (range_words e words range)
-    number_from_suits Plain e words t range = const_suits (ring_for e) words (range_words e words range)
-
-    -- the number of a value of these elements, whose words it has
-    pub number_as : (e : DataType) (v : Value) → v.shape.element ≡ e → Tell fs (facts_of v) → InRange e v.words
-        → Suits w d fs owed (number_of v) owed (λ k. fact k (ring_for e) v.words ∷ []) (Any {A = ℕ})
-    number_as e v same t range = number_from_suits v.secrecy e v.words (subst (λ z. Tell fs (fact_from v.secrecy z v.words)) same t) range
+    number_from_suits (Private None) e words t range = const_suits (ring_for e) (gate_words e words) (gate_words_are e words range)
+    number_from_suits Plain e words t range = const_suits (ring_for e) (gate_words e words) (gate_words_are e words range)
 
     -- the number of a value, whose words it has
     pub number_suits : (v : Value) → Tell fs (facts_of v) → HasRange v
-        → Suits w d fs owed (number_of v) owed (λ k. fact k (ring_for v.shape.element) v.words ∷ []) (Any {A = ℕ})
+        → Suits w d fs owed (number_of v) owed (λ k. fact k (ring_for v.shape.element) (gate_words v.shape.element v.words) ∷ []) (Any {A = ℕ})
     number_suits v t range = number_from_suits v.secrecy v.shape.element v.words t range
 
-    pub stretched_suits : (scalar : Bool) (n u : ℕ) (ring : RingKind) (us : List ℕ) → Tell fs (fact u ring us ∷ []) → (scalar ≡ true → length us ≡ 1)
-        → Suits w d fs owed (stretched scalar n u) owed (λ k. fact k ring (stretched_words scalar n us) ∷ []) (Any {A = ℕ})
-    stretched_suits true n u ring us t single =
-        gate_suits w d fs owed none_of owed (Rep u n) ring (replicate n (first_word us)) (λ m. omega arith) refl
-        (λ r good facts. rep_gain r good u ring us (t.from r facts).0 n (single refl))
-    stretched_suits false n u ring us t single = suits_done w d t tt
+    -- the number of a value of these elements, whose words it has
+    pub number_as : (e : DataType) (v : Value) → v.shape.element ≡ e → Tell fs (facts_of v) → InRange e v.words
+        → Suits w d fs owed (number_of v) owed (λ k. fact k (ring_for e) (gate_words e v.words) ∷ []) (Any {A = ℕ})
+    number_as e v same t range =
+        subst (λ z. Suits w d fs owed (number_of v) owed (λ k. fact k (ring_for z) (gate_words z v.words) ∷ []) (Any {A = ℕ})) same
+        (number_suits v t (subst (λ z. InRange z v.words) (sym same) range))
+
+    pub stretched_suits : (e : DataType) (scalar : Bool) (n u : ℕ) (us : List ℕ) → Tell fs (fact u (ring_for e) (gate_words e us) ∷ [])
+        → (scalar ≡ true → length us ≡ 1)
+        → Suits w d fs owed (stretched e scalar n u) owed (λ k. fact k (ring_for e) (gate_words e (stretched_words scalar n us)) ∷ []) (Any {A = ℕ})
+    stretched_suits e true n u us t single =
+        gate_suits w d fs owed none_of owed (repeated_gate e u n) (ring_for e) (gate_words e (replicate n (first_word us))) (λ m. omega arith)
+        (one_repeated e u n)
+        (λ r good facts. repeated_gain r good e u n us (t.from r facts).0 (single refl))
+    stretched_suits e false n u us t single = suits_done w d t tt
 
   -- the value of a number
-  pub given_suits : (fs : List Fact) (shape : Shape) (words : List ℕ) (k : ℕ) → Tell fs (fact k (ring_for shape.element) words ∷ [])
+  pub given_suits : (fs : List Fact) (shape : Shape) (words : List ℕ) (k : ℕ) → Tell fs (fact k (ring_for shape.element) (gate_words shape.element words) ∷ [])
       → InRange shape.element words
       → length words < 2 ^ 64 → Suits w d fs none_of (made_private shape words k) none_of facts_of IsProper
   given_suits fs shape words k t range small = suits_done w d t (record { range = range; small = small })
 
-  pub given_as : (fs : List Fact) (e : DataType) (shape : Shape) (words : List ℕ) (k : ℕ) → shape.element ≡ e → Tell fs (fact k (ring_for e) words ∷ [])
+  pub given_as : (fs : List Fact) (e : DataType) (shape : Shape) (words : List ℕ) (k : ℕ) → shape.element ≡ e → Tell fs (fact k (ring_for e) (gate_words e words) ∷ [])
       → InRange e words
       → length words < 2 ^ 64 → Suits w d fs none_of (made_private shape words k) none_of facts_of IsProper
   given_as fs e shape words k same t range small =
-      given_suits fs shape words k (subst (λ z. Tell fs (fact k (ring_for z) words ∷ [])) (sym same) t) (subst (λ z. InRange z words) (sym same) range) small
+      given_suits fs shape words k (subst (λ z. Tell fs (fact k (ring_for z) (gate_words z words) ∷ [])) (sym same) t) (subst (λ z. InRange z words) (sym same) range) small
 
   -- a public value
   pub shown_suits : (fs : List Fact) (shape : Shape) (words : List ℕ) → InRange shape.element words → length words < 2 ^ 64
@@ -107,8 +113,9 @@ module _ (w : World) (d : Dealt) where
   classified_from_suits Plain v proper =
       let fs = facts_of v in
       suits_bind w d (plain_charge fs (size v)) (λ _ _.
-      suits_bind w d (const_suits fs none_of (ring_for v.shape.element) v.words (range_words v.shape.element v.words proper.range)) (λ k _.
-      given_suits (fact k (ring_for v.shape.element) v.words ∷ fs) v.shape v.words k (tell_first (fact k (ring_for v.shape.element) v.words) fs)
+      suits_bind w d (const_suits fs none_of (ring_for v.shape.element) (gate_words v.shape.element v.words) (gate_words_are v.shape.element v.words proper.range)) (λ k _.
+      given_suits (fact k (ring_for v.shape.element) (gate_words v.shape.element v.words) ∷ fs) v.shape v.words k
+      (tell_first (fact k (ring_for v.shape.element) (gate_words v.shape.element v.words)) fs)
       proper.range proper.small))
 
   pub classified_suits : (v : Value) → IsProper v → Suits w d (facts_of v) none_of (classified v) none_of facts_of IsProper

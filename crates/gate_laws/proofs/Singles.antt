@@ -1,7 +1,6 @@
 -- What each gate gains whose operands stand.
-use Rattle.std.proofs.Common.{◌≡◌, ℕ, ◌+◌, ◌*◌, ◌<◌, ◌≤◌, Some, List, [], ◌∷◌, ◌++◌, length, map, take, drop, refl, sym, ap, ◌∙◌, subst, arith}
+use Rattle.std.proofs.Common.{◌≡◌, ℕ, ◌+◌, ◌*◌, ◌/◌, ◌<◌, ◌≤◌, Some, List, [], ◌∷◌, ◌++◌, length, map, take, drop, refl, sym, ap, ◌∙◌, subst, arith}
 use Rattle.std.specs.Prelude.{slice_get, set, sum, replicate, ◌^◌, ◌%◌}
-use Rattle.std.specs.List.{flat_map}
 use Rattle.std.proofs.lemmas.List.{length-map}
 use Rattle.proto_core.specs.Lists.{AreWords}
 use Rattle.proto_core.specs.Rings.{add_ring, xor_ring}
@@ -9,7 +8,9 @@ use Rattle.gates.specs.declared.ring_kind.RingKind.{RingKind}
 use Rattle.gates.specs.declared.ring_kind.RingKind.TheVariants.{Arithmetic, Boolean}
 use Rattle.gates.specs.declared.gate.Gate.{Gate}
 use Rattle.gates.specs.declared.gate.Gate.TheVariants as gates
-use Rattle.gates.specs.Clear.{Values, value, ring_of, each_two, first_word, bits_of, Makes, FitFrom}
+use Rattle.gates.specs.Clear.{Values, value, ring_of, each_two, first_word, Makes, FitFrom}
+use Rattle.gates.specs.Bits.{words_for}
+use Rattle.gates.specs.Gathered.{packed, unpacked, bits_repeated, bit_taken, bit_put, bits_joined}
 use Rattle.gates.specs.Counts.{Miner, size_of, made_by, words_of, words_of_conversion}
 use Rattle.gates.proofs.Sizes.{size_of-value}
 use Rattle.shared_plans.specs.Shares.{Kind, Shared, kind_at}
@@ -136,12 +137,37 @@ module _ (r : GateRun) (good : IsWellFormed r) where
       (stands_inside u Arithmetic us h) (λ values miner same. refl)
       (λ values before m. m ∙ ap (λ z. Some (sum z % 2 ^ 64 ∷ [])) (h.words values before))
 
-  pub spread_gain : (u : ℕ) (us : List ℕ) → Stands r (fact u Boolean us)
-      → Gain r (gates.Spread u ∷ []) (Shared Boolean ∷ []) none_of 0 Boolean (flat_map bits_of us)
-  spread_gain u us h =
-      one_gain (gates.Spread u) none_of Boolean (flat_map bits_of us) refl tt (λ values. refl) (stays_shared u Boolean us h Boolean, (new_kind Boolean, tt))
-      (stands_inside u Boolean us h) (λ values miner same. refl)
-      (λ values before m. m ∙ ap (λ z. Some (flat_map bits_of z)) (h.words values before))
+  -- packed bits
+  module _ (u : ℕ) (us : List ℕ) (h : Stands r (fact u Boolean us)) where
+    shared_two : AllShared Boolean (with_one Boolean) (u ∷ value_count r ∷ [])
+    shared_two = (stays_shared u Boolean us h Boolean, (new_kind Boolean, tt))
+
+    size_is : (n : ℕ) → length us ≡ n → size_of (value_sizes r) u ≡ n
+    size_is n e = stands_size u Boolean us h ∙ e
+
+    pub pack_gain : Gain r (gates.Pack u ∷ []) (Shared Boolean ∷ []) none_of 0 Boolean (packed us)
+    pack_gain =
+        one_gain (gates.Pack u) none_of Boolean (packed us) refl tt (λ values. refl) shared_two
+        (stands_inside u Boolean us h) (λ values miner same. refl)
+        (λ values before m. m ∙ ap (λ z. Some (packed z)) (h.words values before))
+
+    pub unpack_gain : (n : ℕ) → length us ≡ words_for n → Gain r (gates.Unpack u n ∷ []) (Shared Boolean ∷ []) none_of 0 Boolean (unpacked us n)
+    unpack_gain n e =
+        one_gain (gates.Unpack u n) none_of Boolean (unpacked us n) refl tt (λ values. refl) shared_two
+        (stands_inside u Boolean us h, size_is (words_for n) e) (λ values miner same. refl)
+        (λ values before m. m ∙ ap (λ z. Some (unpacked z n)) (h.words values before))
+
+    pub repbit_gain : (n : ℕ) → length us ≡ 1 → Gain r (gates.RepBit u n ∷ []) (Shared Boolean ∷ []) none_of 0 Boolean (bits_repeated us n)
+    repbit_gain n e =
+        one_gain (gates.RepBit u n) none_of Boolean (bits_repeated us n) refl tt (λ values. refl) shared_two
+        (stands_inside u Boolean us h, size_is 1 e) (λ values miner same. refl)
+        (λ values before m. m ∙ ap (λ z. Some (bits_repeated z n)) (h.words values before))
+
+    pub partbit_gain : (i : ℕ) → i / 64 < length us → Gain r (gates.PartBit u i ∷ []) (Shared Boolean ∷ []) none_of 0 Boolean (bit_taken us i)
+    partbit_gain i inside =
+        one_gain (gates.PartBit u i) none_of Boolean (bit_taken us i) refl tt (λ values. refl) shared_two
+        (stands_inside u Boolean us h, subst (λ n. i / 64 < n) (sym (stands_size u Boolean us h)) inside) (λ values miner same. refl)
+        (λ values before m. m ∙ ap (λ z. Some (bit_taken z i)) (h.words values before))
 
   -- truth values as numbers
   pub conv_gain : (u : ℕ) (us : List ℕ) → Stands r (fact u Boolean us)
@@ -179,6 +205,26 @@ module _ (r : GateRun) (good : IsWellFormed r) where
         (λ values miner same. refl)
         (λ values before m. m ∙ ap (λ z. Some (set z i (first_word (value values v)))) (h.words values before)
         ∙ ap (λ z. Some (set us i (first_word z))) (k.words values before))
+
+    pub putbit_gain : ring ≡ Boolean → (i : ℕ) → i / 64 < length us → length vs ≡ 1
+        → Gain r (gates.PutBit u i v ∷ []) (Shared ring ∷ []) none_of 0 ring (bit_put us i vs)
+    putbit_gain e i inside single =
+        one_gain (gates.PutBit u i v) none_of ring (bit_put us i vs) refl tt (λ values. refl)
+        (subst (λ z. AllShared z (with_one ring) (u ∷ v ∷ value_count r ∷ [])) e shared_three)
+        (stands_inside u ring us h, stands_inside v ring vs k, subst (λ n. i / 64 < n) (sym (stands_size u ring us h)) inside, stands_size v ring vs k ∙ single)
+        (λ values miner same. refl)
+        (λ values before m. m ∙ ap (λ z. Some (bit_put z i (value values v))) (h.words values before)
+        ∙ ap (λ z. Some (bit_put us i z)) (k.words values before))
+
+    pub catbit_gain : ring ≡ Boolean → (n m : ℕ) → length us ≡ words_for n → length vs ≡ words_for m
+        → Gain r (gates.CatBit u n v m ∷ []) (Shared ring ∷ []) none_of 0 ring (bits_joined us n vs m)
+    catbit_gain e n m left right =
+        one_gain (gates.CatBit u n v m) none_of ring (bits_joined us n vs m) refl tt (λ values. refl)
+        (subst (λ z. AllShared z (with_one ring) (u ∷ v ∷ value_count r ∷ [])) e shared_three)
+        (stands_inside u ring us h, stands_inside v ring vs k, stands_size u ring us h ∙ left, stands_size v ring vs k ∙ right)
+        (λ values miner same. refl)
+        (λ values before p. p ∙ ap (λ z. Some (bits_joined z n (value values v) m)) (h.words values before)
+        ∙ ap (λ z. Some (bits_joined us n z m)) (k.words values before))
 
     -- f of each two words, with t random words of each miner for each of them
     two_gain :

@@ -17,11 +17,9 @@ use Rattle.gates.specs.declared.gate.Gate.TheVariants as gates
 use Rattle.gates.specs.Clear.{bits_of}
 use Rattle.gates.specs.Counts.{Miner, Miner1, Miner2, Miner3, words_of_conversion}
 use Rattle.gates.specs.WordTests.{zero_test}
-use Rattle.plans.specs.Equality.{eq_plan}
-use Rattle.plans.specs.EqualityLaw as equality
 use Rattle.plans.specs.BitExtract.{bits_plan}
 use Rattle.plans.specs.BitExtractLaw as bits
-use Rattle.shared_plans.specs.Plans.{zero_test_kinds, bits_kinds}
+use Rattle.shared_plans.specs.Plans.{bits_kinds}
 use Rattle.program_trees.specs.declared.operators.Cast.{Cast}
 use Rattle.program_trees.specs.declared.operators.Cast.TheVariants.{WordToWord, WordToBool, BoolToWord, BoolToBool}
 use Rattle.program_trees.specs.Shapes.{shape_of}
@@ -36,12 +34,15 @@ use Rattle.code_model.specs.Kinded.{cast_source}
 use Rattle.gate_laws.specs.Rows.{IsOfElements}
 use Rattle.gate_laws.proofs.Effects.{suits_bind, charge_suits, test_suits, draw_suits}
 use Rattle.gate_laws.proofs.Gains.{fact, gate_suits, planned_suits}
-use Rattle.gate_laws.proofs.Singles.{sum_gain, spread_gain, conv_gain}
-use Rattle.gate_laws.proofs.Plans.{zero_gain, bits_gain}
+use Rattle.gate_laws.proofs.Singles.{sum_gain, unpack_gain, conv_gain}
+use Rattle.gate_laws.proofs.Plans.{bits_gain}
+use Rattle.gates.specs.Gathered.{packed, unpacked}
+use Rattle.gates.proofs.Packing.{length-packed, packed-spread, unpacked-packed}
+use Rattle.proto_core.specs.Lists.{AreWords}
 use Rattle.gate_laws.proofs.Parts.{tell_same, tell_first, charged_suits, plain_charge, number_as, given_as, given_suits, shown_suits, itself_suits}
 use Rattle.gate_laws.proofs.Ranges.{Below, map_below, map_same, below_cons, append_below, one_below, truth_below}
 use Rattle.gate_laws.proofs.Meanings.{conversion_bits, zero_flipped}
-use Rattle.gate_laws.proofs.Operators.{in_terms, flip_suits, equality_words}
+use Rattle.gate_laws.proofs.Operators.{in_terms, flip_suits, zero_suits}
 
 mapped_twice : (f g : ℕ → ℕ) (xs : List ℕ) → map f (map g xs) ≡ map (λ x. f (g x)) xs
 mapped_twice f g [] = refl
@@ -89,6 +90,11 @@ bits_length : (x : ℕ) → length (bits_of x) ≡ 64
 unfolding bits_of
 bits_length x = refl
 
+-- the words of a number are the bits of it, packed
+bits_packed : (xs : List ℕ) → AreWords xs → packed (flat_map bits_of xs) ≡ xs
+unfolding bits_of
+bits_packed xs are = packed-spread xs are
+
 all_bits_length : (xs : List ℕ) → length (flat_map bits_of xs) ≡ 64 * length xs
 all_bits_length [] = refl
 all_bits_length (x ∷ xs) = let e = all_bits_length xs in omega (arith, e, bits_length x, length-append (bits_of x) (flat_map bits_of xs))
@@ -112,7 +118,7 @@ module _ (w : World) (d : Dealt) (v : Value) where
   negated_from_suits Plain h = shown_suits w d fs v.shape (map flipped v.words) (turned h) (mapped_small flipped v.words h.proper.small)
   negated_from_suits (Private k) h =
       suits_bind w d (number_as w d fs none_of datatype.Bool v h.element (tell_same fs) (range_of datatype.Bool h)) (λ u _.
-      suits_bind w d (flip_suits w d (fact u Boolean v.words ∷ fs) none_of (size v) u v.words (tell_first _ _) refl (range_of datatype.Bool h)) (λ r _.
+      suits_bind w d (flip_suits w d (fact u Boolean (packed v.words) ∷ fs) none_of (size v) u v.words (tell_first _ _) refl (range_of datatype.Bool h)) (λ r _.
       given_as w d _ datatype.Bool v.shape (map flipped v.words) r h.element (tell_first _ _)
       (mapped_low flipped v.words (λ x. truth_below (x == 0))) (mapped_small flipped v.words h.proper.small)))
 
@@ -145,12 +151,9 @@ module _ (w : World) (d : Dealt) (v : Value) where
       suits_bind w d (draw_suits w d fs (words_for_equality (size v))) (λ _ _.
       suits_bind w d (number_as w d fs owed Uint64 v h.element (tell_same fs) (range_of Uint64 h)) (λ u _.
       suits_bind w d
-      (suits_bind w d
-      (planned_suits w d (fact u Arithmetic v.words ∷ fs) owed (λ m. equality.words_taken m (size v)) none_of (λ first. eq_plan first u) zero_test_kinds
-      16 Boolean zeros (λ m. let e = equality_words (size v) m in omega (arith, e)) (λ first. refl) (λ r good facts. zero_gain r good u v.words facts.0))
-      (λ z _.
-      in_terms w d (mapped_twice flipped zero_test v.words ∙ mapped_alike (λ x. flipped (zero_test x)) (cast_word WordToBool) v.words zero_flipped)
-      (flip_suits w d (fact z Boolean zeros ∷ (fact u Arithmetic v.words ∷ fs)) none_of (size v) z zeros (tell_first _ _) (length-map v.words zero_test)
+      (suits_bind w d (zero_suits w d (fact u Arithmetic v.words ∷ fs) (size v) u v.words (tell_first _ _) refl) (λ z _.
+      in_terms w d (ap packed (mapped_twice flipped zero_test v.words ∙ mapped_alike (λ x. flipped (zero_test x)) (cast_word WordToBool) v.words zero_flipped))
+      (flip_suits w d (fact z Boolean (packed zeros) ∷ (fact u Arithmetic v.words ∷ fs)) none_of (size v) z zeros (tell_first _ _) (length-map v.words zero_test)
       (mapped_low zero_test v.words zero_low)))) (λ r _.
       given_suits w d _ (shape_of datatype.Bool v.shape.array) (map (cast_word WordToBool) v.words) r (tell_first _ _) to_bool_low
       (mapped_small (cast_word WordToBool) v.words h.proper.small))))
@@ -159,9 +162,14 @@ module _ (w : World) (d : Dealt) (v : Value) where
       suits_bind w d (draw_suits w d fs (words_for_conversion (size v))) (λ _ _.
       suits_bind w d (number_as w d fs owed datatype.Bool v h.element (tell_same fs) (range_of datatype.Bool h)) (λ u _.
       suits_bind w d
-      (in_terms w d (to_word_same h)
-      (gate_suits w d (fact u Boolean v.words ∷ fs) owed (λ m. words_of_conversion m (size v)) none_of (gates.Conv u) Arithmetic (map (λ x. x % 2) v.words)
-      (λ m. let e = conversion_words (size v) m in omega (arith, e)) refl (λ r good facts. conv_gain r good u v.words facts.0))) (λ r _.
+      (suits_bind w d
+      (in_terms w d (unpacked-packed v.words (range_of datatype.Bool h))
+      (gate_suits w d (fact u Boolean (packed v.words) ∷ fs) owed none_of owed (gates.Unpack u (size v)) Boolean (unpacked (packed v.words) (size v))
+      (λ m. omega arith) refl (λ r good facts. unpack_gain r good u (packed v.words) facts.0 (size v) (length-packed v.words)))) (λ z _.
+      in_terms w d (to_word_same h)
+      (gate_suits w d (fact z Boolean v.words ∷ (fact u Boolean (packed v.words) ∷ fs)) owed (λ m. words_of_conversion m (size v)) none_of (gates.Conv z) Arithmetic
+      (map (λ x. x % 2) v.words)
+      (λ m. let e = conversion_words (size v) m in omega (arith, e)) refl (λ r good facts. conv_gain r good z v.words facts.0)))) (λ r _.
       given_suits w d _ (shape_of Uint64 v.shape.array) (map (cast_word BoolToWord) v.words) r (tell_first _ _) (to_word_low h)
       (mapped_small (cast_word BoolToWord) v.words h.proper.small))))
 
@@ -199,13 +207,10 @@ module _ (w : World) (d : Dealt) (v : Value) where
       suits_bind w d (draw_suits w d fs (words_for_bits (size v))) (λ _ _.
       suits_bind w d (number_as w d fs owed Uint64 v h.element (tell_same fs) (range_of Uint64 h)) (λ u _.
       suits_bind w d
+      (in_terms w d (sym (bits_packed v.words (range_of Uint64 h)))
       (planned_suits w d (fact u Arithmetic v.words ∷ fs) owed (λ m. bits.words_taken m (size v)) none_of (λ first. bits_plan first u (size v)) bits_kinds
-      53 Boolean v.words (λ m. let e = bits_words (size v) m in omega (arith, e)) (λ first. refl) (λ r good facts. bits_gain r good u v.words facts.0)) (λ b _.
-      suits_bind w d
-      (gate_suits w d (fact b Boolean v.words ∷ (fact u Arithmetic v.words ∷ fs)) none_of none_of none_of (gates.Spread b) Boolean
-      (flat_map bits_of v.words) (λ m. refl) refl
-      (λ r good facts. spread_gain r good b v.words facts.0)) (λ r _.
-      given_suits w d _ (shape_of datatype.Bool true) (flat_map bits_of v.words) r (tell_first _ _) (all_bits_low v.words) (all_bits_small v.words few)))))
+      53 Boolean v.words (λ m. let e = bits_words (size v) m in omega (arith, e)) (λ first. refl) (λ r good facts. bits_gain r good u v.words facts.0))) (λ b _.
+      given_suits w d _ (shape_of datatype.Bool true) (flat_map bits_of v.words) b (tell_first _ _) (all_bits_low v.words) (all_bits_small v.words few))))
 
   pub bits_suits : (line : ℕ) → IsOfElements Uint64 v → Suits w d fs none_of (bits_extracted w line v) none_of facts_of IsProper
   bits_suits line h =

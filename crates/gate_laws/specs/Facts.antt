@@ -16,7 +16,8 @@ use Rattle.shared_plans.specs.Model.{miner_of}
 use Rattle.shared_plans.specs.Computed.{opened_values}
 use Rattle.shared_plans.specs.GateRuns.{GateRun, IsWellFormed, value_count, words_drawn}
 use Rattle.language_model.specs.Effects.{World, Clear, Stage, Run, Effect}
-use Rattle.language_model.specs.Values.{Secrecy, Plain, Private, Value, ring_for, element_of}
+use Rattle.language_model.specs.Values.{Secrecy, Plain, Private, Value, ring_for, gate_words, element_of}
+use Rattle.language_model.specs.Learned.{learned_of}
 use Rattle.gate_laws.specs.Dealt.{Dealt, InRange, drawn_by}
 
 -- ---- WORDS
@@ -53,7 +54,7 @@ AllStand r (f ∷ fs) = Stands r f × AllStand r fs
 abbrev pub fact_from : Secrecy → DataType → List ℕ → List Fact
 fact_from Plain e words = []
 fact_from (Private None) e words = []
-fact_from (Private (Some k)) e words = record { number = k; ring = ring_for e; words = words } ∷ []
+fact_from (Private (Some k)) e words = record { number = k; ring = ring_for e; words = gate_words e words } ∷ []
 
 -- what is known of a private value that has a number
 abbrev pub facts_of : Value → List Fact
@@ -78,7 +79,7 @@ pub data Handed : List Event → List (List ℕ) → Type 0 where
       {es : List Event} {vs : List (List ℕ)} (text : List ℕ) (elements : List Element) → Handed es vs → Handed (es ++ Publish text elements ∷ []) vs
   and_handed :
       {es : List Event} {vs : List (List ℕ)} (text : List ℕ) (e : DataType) (words : List ℕ) → InRange e words → Handed es vs
-      → Handed (es ++ Hand text (map (element_of e) words) ∷ []) (vs ++ words ∷ [])
+      → Handed (es ++ Hand text (map (element_of e) words) ∷ []) (vs ++ gate_words e words ∷ [])
 
 -- ---- STAGES
 
@@ -96,7 +97,7 @@ module _ (w : World) (d : Dealt) where
     pub drawn : (i : Number) → drawn_by s.drawn (miner_of i) ≡ words_drawn (run_at kinds s) i + owed (miner_of i)
     pub answers : AreWords s.answers
     pub handed : (values : Values) → FitFrom d.inputs values 0 s.gates → Handed s.events (handed_values values s.gates)
-    pub opened : w.source ≡ Clear → (values : Values) → FitFrom d.inputs values 0 s.gates → s.opened ≡ opened_values values s.gates
+    pub opened : w.source ≡ Clear → (values : Values) → FitFrom d.inputs values 0 s.gates → learned_of s.events ≡ opened_values values s.gates
 
   -- a later stage has these gates more, whose values are shared like this
   pub record Grows (s u : Stage) (kinds later : List Kind) : Type 0 where

@@ -10,6 +10,7 @@ use Rattle.shared_plans.specs.Model.{miner_of}
 use Rattle.shared_plans.specs.Computed.{opened_values}
 use Rattle.shared_plans.specs.GateRuns.{GateRun, IsWellFormed, words_drawn}
 use Rattle.language_model.specs.Effects.{World, Clear, Stage}
+use Rattle.language_model.specs.Learned.{learned_of}
 use Rattle.language_model.specs.Reports.{Report}
 use Rattle.bytecode.specs.Raw.{Raw, Literal, RawFunction, RawCode}
 use Rattle.verified_code.specs.Steps.{Function}
@@ -53,7 +54,7 @@ pub record GatesSuit (w : World) (d : Dealt) (r : Report) : Type 0 where
   pub formed : IsWellFormed (run_of d r kinds)
   pub drawn : (i : Number) → drawn_by r.drawn (miner_of i) ≡ words_drawn (run_of d r kinds) i
   pub handed : (values : Values) → FitFrom d.inputs values 0 r.gates → Handed r.events (handed_values values r.gates)
-  pub opened : w.source ≡ Clear → (values : Values) → FitFrom d.inputs values 0 r.gates → r.opened ≡ opened_values values r.gates
+  pub opened : w.source ≡ Clear → (values : Values) → FitFrom d.inputs values 0 r.gates → learned_of r.events ≡ opened_values values r.gates
 
 abbrev pub RunsMakeSuitedGates : World → Dealt → List Function → (budget : ℕ) → (answers : List ℕ) → Type 0
 RunsMakeSuitedGates w d c budget answers =

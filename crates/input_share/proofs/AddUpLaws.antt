@@ -13,10 +13,10 @@ use Rattle.value_file.specs.declared.value.Domain.TheVariants as domain
 use Rattle.value_file.specs.declared.value.Value.{Value}
 use Rattle.value_file.specs.declared.inputs.Entry.{Entry}
 use Rattle.value_file.specs.Values.{type_of, count_of}
-use Rattle.input_share.specs.Values.{elements_of, ring_of}
+use Rattle.input_share.specs.Values.{elements_of, shared_words, shared_size, ring_of}
 use Rattle.input_share.specs.Dealing.{left_of, first_masks, second_masks, draws_for, draws_of, need_of, part_of, dealt_entries}
 use Rattle.input_share.specs.AddUp.{sums_of, together, all_together, HasWords}
-use Rattle.input_share.proofs.Elements.{length-elements_of}
+use Rattle.input_share.proofs.Elements.{length-shared_words, shared_words-fit}
 
 module _ {r : Ring} (laws : RingLaws r) where
   pub masks_and_left : (x d1 d2 : ℕ) → x < 2 ^ 64 → r.add (r.add d1 d2) (r.sub (r.sub x d1) d2) ≡ x
@@ -50,16 +50,16 @@ private_together t xs words enough fit =
     (length-take-le (length xs) words (omega arith)) (length-take-le (length xs) (drop (length xs) words) (omega arith)) fit
 
 pub together-part_of :
-    (d : Domain) (v : Value) (words : List ℕ) → draws_for d (count_of v) ≤ length words → All (λ n. n < 2 ^ 64) (elements_of v) →
-    together (part_of One d v words) (part_of Two d v words) (part_of Three d v words) ≡ elements_of v
+    (d : Domain) (v : Value) (words : List ℕ) → draws_for d (shared_size (type_of v) (count_of v)) ≤ length words → All (λ n. n < 2 ^ 64) (elements_of v) →
+    together (part_of One d v words) (part_of Two d v words) (part_of Three d v words) ≡ shared_words v
 together-part_of domain.Public v words enough fit = refl
 together-part_of domain.Private v words enough fit =
-    private_together (type_of v) (elements_of v) words (rw (length-elements_of v) enough) fit
+    private_together (type_of v) (shared_words v) words (rw (length-shared_words v) enough) (shared_words-fit v fit)
 
 pub add_up :
     (inputs : List Entry) (words : List ℕ) → All HasWords inputs → need_of inputs ≤ length words →
     all_together (dealt_entries One inputs words) (dealt_entries Two inputs words) (dealt_entries Three inputs words)
-    ≡ map (λ entry. elements_of entry.value) inputs
+    ≡ map (λ entry. shared_words entry.value) inputs
 add_up [] words fit enough = refl
 add_up (e ∷ es) words fit enough =
     let need : need_of (e ∷ es) ≡ draws_of e + need_of es = sum_by-cons draws_of e es in
@@ -67,4 +67,4 @@ add_up (e ∷ es) words fit enough =
     ap (λ l. l ∷ all_together (dealt_entries One es (drop (draws_of e) words)) (dealt_entries Two es (drop (draws_of e) words))
     (dealt_entries Three es (drop (draws_of e) words)))
     (together-part_of e.domain e.value words (omega arith) (fit 0 e (omega arith)))
-    ∙ ap (λ l. elements_of e.value ∷ l) (add_up es (drop (draws_of e) words) (λ k d h. fit (suc k) d (omega arith)) (omega arith))
+    ∙ ap (λ l. shared_words e.value ∷ l) (add_up es (drop (draws_of e) words) (λ k d h. fit (suc k) d (omega arith)) (omega arith))

@@ -14,10 +14,10 @@ use Rattle.value_file.specs.declared.inputs.Entry.{Entry}
 use Rattle.value_file.specs.Values.{type_of, count_of, shape_of, size_of}
 use Rattle.value_file.specs.Input.{name_of, elements_of as entry_elements, AreEntries, AreInputs}
 use Rattle.input_share.specs.declared.entry.ShareEntry.{ShareEntry}
-use Rattle.input_share.specs.Values.{elements_of, ring_of}
+use Rattle.input_share.specs.Values.{shared_words, shared_size, ring_of}
 use Rattle.input_share.specs.Dealing.{left_of, first_masks, second_masks, share_of, draws_for, draws_of, need_of, part_of, dealt_entry, dealt_entries}
 use Rattle.input_share.specs.Reading.{part_count, share_name_of, share_count_of, IsWhole, IsWholePart, AreWritable}
-use Rattle.input_share.proofs.Elements.{length-elements_of}
+use Rattle.input_share.proofs.Elements.{length-shared_words}
 
 length-left_of : (r : Ring) (xs d1s d2s : List ℕ) → length d1s ≡ length xs → length d2s ≡ length xs → length (left_of r xs d1s d2s) ≡ length xs
 length-left_of r [] d1s d2s h1 h2 = refl
@@ -50,11 +50,13 @@ part_count-part_of : (miner : Number) (d : Domain) (v : Value) (words : List ℕ
 part_count-part_of miner domain.Public v words = refl
 part_count-part_of miner domain.Private v words = size_of-shape_of v
 
-part_of-whole : (miner : Number) (d : Domain) (v : Value) (words : List ℕ) → draws_for d (count_of v) ≤ length words → IsWholePart (part_of miner d v words)
+part_of-whole : (miner : Number) (d : Domain) (v : Value) (words : List ℕ) → draws_for d (shared_size (type_of v) (count_of v)) ≤ length words
+    → IsWholePart (part_of miner d v words)
 part_of-whole miner domain.Public v words enough = tt
 part_of-whole miner domain.Private v words enough =
-    let count = length-elements_of v in
-    length-share_of miner (ring_of (type_of v)) (elements_of v) words (omega arith) ∙ count ∙ sym (size_of-shape_of v)
+    let count = length-shared_words v in
+    length-share_of miner (ring_of (type_of v)) (shared_words v) words (omega arith) ∙ count
+    ∙ ap (λ n. shared_size (type_of v) n) (sym (size_of-shape_of v))
 
 -- the names are those of the inputs
 dealt-form :

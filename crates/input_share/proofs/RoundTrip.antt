@@ -18,6 +18,7 @@ use Rattle.input_share.specs.declared.entry.Part.{Part}
 use Rattle.input_share.specs.declared.entry.Part.TheVariants.{Public, Private}
 use Rattle.input_share.specs.declared.entry.ShareEntry.{ShareEntry}
 use Rattle.input_share.specs.ShareFile.{MinerFile}
+use Rattle.input_share.specs.Values.{shared_size}
 use Rattle.input_share.specs.Written.{part_data, entry_data, file_data}
 use Rattle.input_share.specs.Reading.{share_entry_of, share_name_of, part_count, wanted_miner, file_in, read_share_of}
 use Rattle.input_share.specs.Reading.{share_count_of, IsWhole, IsWholePart, AreWritable}
@@ -28,7 +29,7 @@ entry_of-data : (place : ℕ) (earlier : List (List ℕ)) (name : List ℕ) (p :
 unfolding share_entry_of within_limit domain_of
 entry_of-data place earlier name (Public v) fresh whole short = rw (fresh, type_of-data (type_of v), value_of-data v, le-ltb 65536 (count_of v) short) refl
 entry_of-data place earlier name (Private s) fresh whole short =
-    let same = eq-eqb (length s.words) (size_of s.shape) whole in
+    let same = eq-eqb (length s.words) (shared_size s.data_type (size_of s.shape)) whole in
     rw (
       fresh,
       type_of-data s.data_type,

@@ -21,23 +21,24 @@ use Rattle.input_share.specs.OfWords.{IsOfWords, IsPartOfWords, AreSharesRead}
 use Rattle.input_share.specs.Reading.{file_in, lens_in, miner_in, numbers_in, of_length, part_count, part_of, private_part_of, read_share_of}
 use Rattle.input_share.specs.Reading.{share_count_of, share_entry_of, share_in, share_name_of, IsWholePart}
 use Rattle.input_share.specs.ShareFile.{MinerFile}
+use Rattle.input_share.specs.Values.{shared_size}
 use Rattle.input_share.proofs.OfWords.{AreSmall, SmallItems, IsBelow, IsFresh, IsGood, AreGood, any, if_both, if_then, ok_then, ok_else, found_ok}
 use Rattle.input_share.proofs.OfWords.{all_small, data_small, field_small, head_so, inputs_so, list_small}
 
 -- ---- parts
 
-abbrev IsShare : Shape → List ℕ → Type 0
-IsShare shape words = (length words ≡ size_of shape) × All IsBelow words
+abbrev IsShare : DataType → Shape → List ℕ → Type 0
+IsShare kind shape words = (length words ≡ shared_size kind (size_of shape)) × All IsBelow words
 
 of_length_so : (count : ℕ) (words : List ℕ) → All IsBelow words → IfSome (of_length count words) (λ ws. (length ws ≡ count) × All IsBelow ws)
 of_length_so count words all =
     if_both (λ ws. (length ws ≡ count) × All IsBelow ws) (length words == count) (Some words) None (λ h. (eqb-true (length words) count h, all)) tt
 
-share_so : (shape : Shape) (d : Data) → AreSmall d → IfSome (share_in shape d) (IsShare shape)
-share_so shape d small =
-    if_then (All IsBelow) (IsShare shape) (of_length (size_of shape)) (numbers_in (codes "share") d)
+share_so : (kind : DataType) (shape : Shape) (d : Data) → AreSmall d → IfSome (share_in kind shape d) (IsShare kind shape)
+share_so kind shape d small =
+    if_then (All IsBelow) (IsShare kind shape) (of_length (shared_size kind (size_of shape))) (numbers_in (codes "share") d)
     (if_then SmallItems (All IsBelow) (all_in number_in) (list_in (codes "share") d) (list_small (codes "share") d small) all_small)
-    (of_length_so (size_of shape))
+    (of_length_so (shared_size kind (size_of shape)))
 
 abbrev IsGoodPart : Part → Type 0
 IsGoodPart part = IsWholePart part × IsPartOfWords part
@@ -47,8 +48,8 @@ private_so place kind d small =
     ok_then (λ _. ⊤) IsGoodPart (field_or place field.Shape (shape_in d)) _
     (found_ok (λ _. ⊤) (BadField (Some place) field.Shape) (shape_in d) (any (shape_in d)))
     (λ shape _.
-    ok_then (IsShare shape) IsGoodPart (field_or place field.Share (share_in shape d)) _
-    (found_ok (IsShare shape) (BadField (Some place) field.Share) (share_in shape d) (share_so shape d small))
+    ok_then (IsShare kind shape) IsGoodPart (field_or place field.Share (share_in kind shape d)) _
+    (found_ok (IsShare kind shape) (BadField (Some place) field.Share) (share_in kind shape d) (share_so kind shape d small))
     (λ words is. is))
 
 part_so : (place : ℕ) (domain : Domain) (kind : DataType) (d : Data) → AreSmall d → IfOk (part_of place domain kind d) IsGoodPart

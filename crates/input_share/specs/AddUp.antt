@@ -5,16 +5,16 @@ use Rattle.value_file.specs.declared.inputs.Entry.{Entry}
 use Rattle.input_share.specs.declared.entry.Part.{Part}
 use Rattle.input_share.specs.declared.entry.Part.TheVariants.{Public, Private}
 use Rattle.input_share.specs.declared.entry.ShareEntry.{ShareEntry}
-use Rattle.input_share.specs.Values.{elements_of, ring_of}
+use Rattle.input_share.specs.Values.{elements_of, shared_words, ring_of}
 
 -- three lists of words added up element by element, in a ring
 abbrev pub sums_of : Ring → List ℕ → List ℕ → List ℕ → List ℕ
 sums_of r (x ∷ xs) (y ∷ ys) (z ∷ zs) = r.add (r.add x y) z ∷ sums_of r xs ys zs
 sums_of r _ _ _ = []
 
--- the elements that three parts of an input tell: those of a public value, the sums of the words of a private one
+-- the words that three parts of an input tell: those in which a public value would be shared, the sums of the words of a private one
 abbrev pub together : Part → Part → Part → List ℕ
-together (Public value) _ _ = elements_of value
+together (Public value) _ _ = shared_words value
 together (Private x) (Private y) (Private z) = sums_of (ring_of x.data_type) x.words y.words z.words
 together (Private x) _ _ = []
 

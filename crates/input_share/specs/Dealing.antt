@@ -11,7 +11,7 @@ use Rattle.value_file.specs.Values.{type_of, count_of, shape_of}
 use Rattle.input_share.specs.declared.entry.Part.{Part}
 use Rattle.input_share.specs.declared.entry.Part.TheVariants as part
 use Rattle.input_share.specs.declared.entry.ShareEntry.{ShareEntry}
-use Rattle.input_share.specs.Values.{elements_of, ring_of}
+use Rattle.input_share.specs.Values.{shared_words, shared_size, ring_of}
 use Rattle.input_share.specs.ShareFile.{MinerFile}
 
 -- what two masks leave of each element, in a ring
@@ -32,13 +32,13 @@ share_of One r elements words = first_masks (length elements) words
 share_of Two r elements words = second_masks (length elements) words
 share_of Three r elements words = left_of r elements (first_masks (length elements) words) (second_masks (length elements) words)
 
--- a private value takes two words of the dealer for each element, a public one none
+-- a private value takes two words of the dealer for each word that it is shared in, a public one none
 abbrev pub draws_for : Domain → ℕ → ℕ
 draws_for domain.Public count = 0
 draws_for domain.Private count = 2 * count
 
 abbrev pub draws_of : Entry → ℕ
-draws_of entry = draws_for entry.domain (count_of entry.value)
+draws_of entry = draws_for entry.domain (shared_size (type_of entry.value) (count_of entry.value))
 
 -- the words that the dealer needs for all inputs
 abbrev pub need_of : List Entry → ℕ
@@ -51,7 +51,7 @@ part_of miner domain.Private value words =
     part.Private (record {
       data_type = type_of value;
       shape = shape_of value;
-      words = share_of miner (ring_of (type_of value)) (elements_of value) words;
+      words = share_of miner (ring_of (type_of value)) (shared_words value) words;
     })
 
 -- what a miner has of an input

@@ -22,6 +22,7 @@ use Rattle.input_share.specs.declared.entry.Part.{Part}
 use Rattle.input_share.specs.declared.entry.Part.TheVariants.{Public, Private}
 use Rattle.input_share.specs.declared.entry.ShareEntry.{ShareEntry}
 use Rattle.input_share.specs.ShareFile.{MinerFile}
+use Rattle.input_share.specs.Values.{shared_size}
 
 -- the numbers of a list in a field of an object
 abbrev pub numbers_in : List ℕ → Data → Option (List ℕ)
@@ -32,14 +33,14 @@ abbrev pub of_length : ℕ → List ℕ → Option (List ℕ)
 of_length count words = if length words == count then Some words else None
 
 -- as many share words as the shape says
-abbrev pub share_in : Shape → Data → Option (List ℕ)
-share_in shape d = option_and_then (of_length (size_of shape)) (numbers_in (codes "share") d)
+abbrev pub share_in : DataType → Shape → Data → Option (List ℕ)
+share_in kind shape d = option_and_then (of_length (shared_size kind (size_of shape))) (numbers_in (codes "share") d)
 
 -- a private entry has its shape and then its share
 abbrev pub private_part_of : ℕ → DataType → Data → Result Part ReadErr
 private_part_of place kind d = do
   shape ← field_or place field.Shape (shape_in d)
-  words ← field_or place field.Share (share_in shape d)
+  words ← field_or place field.Share (share_in kind shape d)
   Ok (Private (record { data_type = kind; shape = shape; words = words }))
 
 -- a public entry has its value
@@ -94,7 +95,7 @@ read_share_of wanted bytes = ok_or (json_of bytes) Syntax >>= file_in wanted
 -- a share has as many words as its shape says
 abbrev pub IsWholePart : Part → Type 0
 IsWholePart (Public value) = Unit {0}
-IsWholePart (Private shared) = length shared.words ≡ size_of shared.shape
+IsWholePart (Private shared) = length shared.words ≡ shared_size shared.data_type (size_of shared.shape)
 
 abbrev pub IsWhole : ShareEntry → Type 0
 IsWhole entry = IsWholePart entry.part

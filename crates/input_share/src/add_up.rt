@@ -2,7 +2,7 @@
 ghost use Rattle.std.specs.Prelude.{◌≡◌, ◌≤◌, ℕ, List, All, length, map};
 ghost use Rattle.proto_core.specs.declared.party.Number.TheVariants.{One, Two, Three};
 ghost use Rattle.value_file.specs.declared.inputs.Entry.{Entry};
-ghost use Rattle.input_share.specs.Values.{elements_of};
+ghost use Rattle.input_share.specs.Values.{shared_words};
 ghost use Rattle.input_share.specs.Dealing.{need_of, dealt_entries};
 ghost use Rattle.input_share.specs.AddUp.{all_together, HasWords};
 
@@ -11,5 +11,5 @@ ghost use Rattle.input_share.specs.AddUp.{all_together, HasWords};
 pub fn shares_add_up()
     ensures { (inputs : List Entry) (words : List ℕ) → All HasWords inputs → need_of inputs ≤ length words →
         all_together (dealt_entries One inputs words) (dealt_entries Two inputs words) (dealt_entries Three inputs words)
-        ≡ map (λ entry. elements_of entry.value) inputs }
+        ≡ map (λ entry. shared_words entry.value) inputs }
 {}

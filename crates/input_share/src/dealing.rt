@@ -2,15 +2,16 @@
 ghost use Rattle.std.specs.Prelude.{◌≡◌, ◌≤◌, ◌<◌, ◌*◌, ◌^◌, ℕ, List, All, length, map, drop, IfOk, IfErr, OnOk};
 ghost use Rattle.proto_core.specs.declared.party.Number.TheVariants.{One, Two, Three};
 ghost use Rattle.value_file.specs.Values.{type_of, count_of, shape_of};
-ghost use Rattle.input_share.specs.Values.{elements_of, ring_of};
+ghost use Rattle.input_share.specs.Values.{ring_of, shared_size, shared_words};
 ghost use Rattle.input_share.specs.Dealing.{left_of, share_of, part_of, draws_of, need_of, dealt_entry, dealt_entries, dealt};
 ghost use Rattle.input_share.specs.Refusal.{Refuses};
 ghost use Rattle.input_share.specs.declared.dealing.DealErr.TheVariants.{Memory};
 
 use crate::entry::{Part, ShareEntry, Shared};
 use crate::share_file::ShareFile;
-use crate::values::{count, elements};
-use proto_core::{AddRing, Number, ShareRing, XorRing};
+use crate::values::{count, shared_size, shared_words};
+use proto_core::Number;
+use proto_core::{AddRing, ShareRing, XorRing};
 use std::alloc::{AllocError, Global};
 use value_file::{DataType, Domain, Entry, Inputs, Value, Words};
 
@@ -108,16 +109,16 @@ fn share(
 
 /// A miner's share of a private value.
 fn shared(alloc: Global, miner: Number, value: &Value, words: &[u64]) -> Result<Shared, AllocError>
-    requires { 2 * count_of value.now ≤ length words.now }
+    requires { 2 * shared_size (type_of value.now) (count_of value.now) ≤ length words.now }
     ensures { IfOk result (λ shared. shared ≡ record {
       data_type = type_of value.now;
       shape = shape_of value.now;
-      words = share_of miner (ring_of (type_of value.now)) (elements_of value.now) words.now;
+      words = share_of miner (ring_of (type_of value.now)) (shared_words value.now) words.now;
     }) }
 {
     let data_type = value.data_type();
-    let elements = elements(alloc, value)?;
-    let words = share(alloc, miner, data_type, &elements, words)?;
+    let shared = shared_words(alloc, value)?;
+    let words = share(alloc, miner, data_type, &shared, words)?;
     Ok(Shared {
         data_type,
         shape: value.shape(),
@@ -125,13 +126,15 @@ fn shared(alloc: Global, miner: Number, value: &Value, words: &[u64]) -> Result<
     })
 }
 
-/// The words that the dealer draws for an input: two for each element of a private one.
+/// The words that the dealer draws for an input: two for each word in which a private one is shared.
 pub fn draws(entry: &Entry) -> usize
     ensures { result ≡ draws_of entry.now }
 {
     match entry.domain {
         Domain::Public => 0,
-        Domain::Private => 2 * count(&entry.value),
+        Domain::Private => {
+            2 * shared_size(entry.value.data_type(), count(&entry.value) as u64) as usize
+        }
     }
 }
 

@@ -8,9 +8,11 @@ ghost use Rattle.value_file.specs.declared.read_err.ReadErr.TheVariants.{BadFiel
 ghost use Rattle.input_share.specs.Reading.{file_in, lens_in, miner_in, miner_of, numbers_in, of_length, part_of, part_count, private_part_of};
 ghost use Rattle.input_share.specs.Reading.{read_share_of, share_count_of, share_entry_of, share_in, share_name_of, AreWritable, IsWhole};
 ghost use Rattle.input_share.specs.Reading.{IsWholePart};
+ghost use Rattle.input_share.specs.Values.{shared_size};
 
 use crate::entry::{Part, ShareEntry, Shared};
 use crate::share_file::ShareFile;
+use crate::values::shared_size;
 use indexmap::IndexSet;
 use proto_core::Number;
 use serde_json::Value as Json;
@@ -67,14 +69,19 @@ fn numbers_field(alloc: Global, field: &str, json: &Json) -> Result<Option<Vec<u
 }
 
 /// The share words of an entry of this shape, if there are as many as it says.
-fn share_field(alloc: Global, shape: Shape, json: &Json) -> Result<Option<Vec<u64>>, AllocError>
-    ensures share { IfOk result (λ found. option_map (λ v. v.items) found ≡ share_in shape (view json.now)) }
-    ensures whole { IfOk result (λ found. IfSome found (λ v. length v.items ≡ size_of shape)) }
+fn share_field(
+    alloc: Global,
+    data_type: DataType,
+    shape: Shape,
+    json: &Json,
+) -> Result<Option<Vec<u64>>, AllocError>
+    ensures share { IfOk result (λ found. option_map (λ v. v.items) found ≡ share_in data_type shape (view json.now)) }
+    ensures whole { IfOk result (λ found. IfSome found (λ v. length v.items ≡ shared_size data_type (size_of shape))) }
 {
     let Some(words) = numbers_field(alloc, "share", json)? else {
         return Ok(None);
     };
-    if words.len() as u64 == shape.count() {
+    if words.len() as u64 == shared_size(data_type, shape.count()) {
         Ok(Some(words))
     } else {
         Ok(None)
@@ -94,7 +101,7 @@ fn private_part(
     let Some(shape) = shape_field(json) else {
         return Err(bad(place, Field::Shape));
     };
-    let Some(words) = share_field(alloc, shape, json)? else {
+    let Some(words) = share_field(alloc, data_type, shape, json)? else {
         return Err(bad(place, Field::Share));
     };
     Ok(Part::Private(Shared {

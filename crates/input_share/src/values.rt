@@ -1,10 +1,10 @@
 // The elements of a value as words.
-ghost use Rattle.std.specs.Prelude.{◌≡◌, ◌<◌, ◌^◌, map, IfOk};
-ghost use Rattle.value_file.specs.Values.{count_of};
-ghost use Rattle.input_share.specs.Values.{bit_word, elements_of};
+ghost use Rattle.std.specs.Prelude.{◌≡◌, ◌≤◌, ◌<◌, ◌^◌, map, length, IfOk};
+ghost use Rattle.value_file.specs.Values.{count_of, type_of};
+ghost use Rattle.input_share.specs.Values.{bit_word, elements_of, shared_as, shared_size, shared_words};
 
 use std::alloc::{AllocError, Global};
-use value_file::Value;
+use value_file::{DataType, Value};
 
 fn bit_word(bit: bool) -> u64
     ensures { result ≡ bit_word bit }
@@ -44,4 +44,45 @@ pub fn count(value: &Value) -> usize
         Value::Numbers(numbers) => numbers.as_slice().len(),
         Value::Truths(bits) => bits.as_slice().len(),
     }
+}
+
+// No memory holds more bits.
+const MOST_BITS: usize = 4611686018427387904;
+
+/// How many words share so many elements.
+pub(crate) fn shared_size(data_type: DataType, count: u64) -> u64
+    ensures size { result ≡ shared_size data_type count }
+    ensures fewer { result ≤ count }
+{
+    match data_type {
+        DataType::Uint64 => count,
+        DataType::Bool => bit_words::words_for(count),
+    }
+}
+
+/// Elements as they are shared.
+fn shared_as(
+    alloc: Global,
+    data_type: DataType,
+    elements: Vec<u64>,
+) -> Result<Vec<u64>, AllocError>
+    ensures { IfOk result (λ words. words.items ≡ shared_as data_type elements.items) }
+{
+    match data_type {
+        DataType::Uint64 => Ok(elements),
+        DataType::Bool => {
+            if elements.len() > MOST_BITS {
+                return Err(AllocError);
+            }
+            bit_words::packed(alloc, &elements)
+        }
+    }
+}
+
+/// The words in which a value is shared.
+pub(crate) fn shared_words(alloc: Global, value: &Value) -> Result<Vec<u64>, AllocError>
+    ensures { IfOk result (λ words. words.items ≡ shared_words value.now) }
+{
+    let elements = elements(alloc, value)?;
+    shared_as(alloc, value.data_type(), elements)
 }

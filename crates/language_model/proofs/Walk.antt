@@ -8,11 +8,12 @@ use Rattle.sc_text.specs.declared.end.TrapKind.TheVariants as trap
 use Rattle.sc_text.specs.declared.elements.Element.{Element}
 use Rattle.sc_text.specs.declared.event.Event.TheVariants as event
 use Rattle.plans.specs.Gate.{Gate}
-use Rattle.plans.specs.Gate.TheVariants.{Const, Sub, And, Xor, Spread}
+use Rattle.plans.specs.Gate.TheVariants.{Const, Sub, And, Xor, Pack, Unpack, Conv}
 use Rattle.plans.specs.Clear.{bits_of}
 use Rattle.plans.specs.Equality.{eq_plan}
 use Rattle.plans.specs.BitExtract.{bits_plan}
 use Rattle.plans.specs.Compare.{less_plan}
+use Rattle.program_trees.specs.declared.expression.DataType.{DataType}
 use Rattle.program_trees.specs.declared.expression.DataType.TheVariants as datatype
 use Rattle.reached_instances.specs.Shape.{Shape}
 use Rattle.reached_instances.specs.Slot.{Slot}
@@ -41,11 +42,11 @@ use Rattle.reached_instances.specs.Domains.{Setting, domains}
 use Rattle.reached_instances.specs.Shapes.{shape_of}
 use Rattle.language_model.specs.Effects.{Words, World, GivenInput, Source, Clear, Answers, Effect, ◌>>=◌, done, end, charge, test, draw, gate, next_number}
 use Rattle.language_model.specs.Effects.{put_gates, planned, emit, next_answers, answer, show}
-use Rattle.language_model.specs.Values.{Secrecy, Plain, Private, Value, plain, hidden, size, visible_words, default_words, elements_of}
+use Rattle.language_model.specs.Values.{Secrecy, Plain, Private, Value, plain, hidden, size, visible_words, default_words, gate_words, elements_of}
 use Rattle.language_model.specs.Words.{flipped, result_size, result_words, are_alike, may_divide}
 use Rattle.language_model.specs.Operations.{charged, is_classified, words_of_operator, is_scalar_left, is_scalar_right, result_shape, made_private, read_answer}
 use Rattle.language_model.specs.Operations.{words_for_bits, number_from, number_of, classified_from, wanted, revealed, opened_from, declassified, stretched}
-use Rattle.language_model.specs.Operations.{flip, equal_gates, less_gates, operator_gates, private_result, product_with, combined_from}
+use Rattle.language_model.specs.Operations.{flip, zero_gates, equal_gates, less_gates, operator_gates, private_result, product_with, combined_from}
 use Rattle.language_model.specs.Operations.{operator_traps, operated, operation, negated_from, negated, cast_gates, changed, cast_from, cast_to, size_told}
 use Rattle.language_model.specs.Operations.{summed_from, summed, bits_from, bits_extracted, concatenated_from, concatenated, element_from, element_of_array}
 use Rattle.language_model.specs.Operations.{with_element_from, with_element, filled_from, filled, handed_over, publication, published, tested, asserted}
@@ -104,14 +105,14 @@ module _ (w w' : World) (P : (A : Type 0) → Effect A → Effect A → Type 0) 
   number_from_holds Plain words = law.on_gate (Const words)
 
   pub number_holds : (v : Value) → P _ (number_of v) (number_of v)
-  number_holds v = number_from_holds v.secrecy v.words
+  number_holds v = number_from_holds v.secrecy (gate_words v.shape.element v.words)
 
   pub made_holds : (shape : Shape) (words : List ℕ) (k : ℕ) → P _ (made_private shape words k) (made_private shape words k)
   made_holds shape words k = law.on_done (hidden shape k words)
 
   pub classified_holds : (x : Secrecy) (v : Value) → P _ (classified_from x v) (classified_from x v)
   classified_holds (Private k) v = law.on_done v
-  classified_holds Plain v = law.bind (untrapped_holds (size v)) (λ _. law.bind (law.on_gate (Const v.words)) (λ k. law.on_done _))
+  classified_holds Plain v = law.bind (untrapped_holds (size v)) (λ _. law.bind (law.on_gate _) (λ k. law.on_done _))
 
   pub wanted_holds : (secret : Bool) (v : Value) → P _ (wanted secret v) (wanted secret v)
   wanted_holds true v = classified_holds v.secrecy v
@@ -133,9 +134,9 @@ module _ (w w' : World) (P : (A : Type 0) → Effect A → Effect A → Type 0) 
   pub declassified_holds : (v : Value) → P _ (declassified w v) (declassified w' v)
   declassified_holds v = law.bind (untrapped_holds (size v)) (λ _. opened_holds v.secrecy v)
 
-  pub stretched_holds : (scalar : Bool) (n u : ℕ) → P _ (stretched scalar n u) (stretched scalar n u)
-  stretched_holds true n u = law.on_gate _
-  stretched_holds false n u = law.on_done u
+  pub stretched_holds : (e : DataType) (scalar : Bool) (n u : ℕ) → P _ (stretched e scalar n u) (stretched e scalar n u)
+  stretched_holds e true n u = law.on_gate _
+  stretched_holds e false n u = law.on_done u
 
   pub flip_holds : (n u : ℕ) → P _ (flip n u) (flip n u)
   flip_holds n u = law.bind (law.on_gate _) (λ ones. law.on_gate _)
@@ -143,11 +144,14 @@ module _ (w w' : World) (P : (A : Type 0) → Effect A → Effect A → Type 0) 
   pub planned_holds : (plan : ℕ → List Gate) → P _ (planned plan) (planned plan)
   planned_holds plan = law.bind law.on_number (λ first. law.on_gates (plan first))
 
+  pub zero_holds : (d : ℕ) → P _ (zero_gates d) (zero_gates d)
+  zero_holds d = law.bind (planned_holds (λ first. eq_plan first d)) (λ z. law.on_gate (Pack z))
+
   pub equal_holds : (u v : ℕ) → P _ (equal_gates u v) (equal_gates u v)
-  equal_holds u v = law.bind (law.on_gate (Sub u v)) (λ d. planned_holds (λ first. eq_plan first d))
+  equal_holds u v = law.bind (law.on_gate (Sub u v)) zero_holds
 
   pub less_holds : (n u v : ℕ) → P _ (less_gates n u v) (less_gates n u v)
-  less_holds n u v = planned_holds (λ first. less_plan first u v n)
+  less_holds n u v = law.bind (planned_holds (λ first. less_plan first u v n)) (λ z. law.on_gate (Pack z))
 
   pub word_gates_hold : (op : OperatorSign) (n u v : ℕ) → P _ (operator_gates (binary.Words op) n u v) (operator_gates (binary.Words op) n u v)
   word_gates_hold word.Add n u v = law.on_gate _
@@ -176,13 +180,13 @@ module _ (w w' : World) (P : (A : Type 0) → Effect A → Effect A → Type 0) 
   private_result_holds op ds x y =
       let n = result_size ds x y in
       law.bind (law.on_draw (words_of_operator op n)) (λ _. law.bind (number_holds x) (λ j. law.bind (number_holds y) (λ k.
-      law.bind (stretched_holds (is_scalar_left ds) n j) (λ u. law.bind (stretched_holds (is_scalar_right ds) n k) (λ v.
+      law.bind (stretched_holds x.shape.element (is_scalar_left ds) n j) (λ u. law.bind (stretched_holds y.shape.element (is_scalar_right ds) n k) (λ v.
       law.bind (operator_gates_hold op n u v) (λ r. made_holds (result_shape op ds) (result_words op ds x y) r))))))
 
   pub product_holds : (op : BinaryOperator) (ds : Operands) (scalar : Bool) (x : Value) (known words : List ℕ)
       → P _ (product_with op ds scalar x known words) (product_with op ds scalar x known words)
   product_holds op ds scalar x known words =
-      law.bind (number_holds x) (λ j. law.bind (stretched_holds scalar _ j) (λ u. law.bind (law.on_gate _) (λ r. law.on_done _)))
+      law.bind (number_holds x) (λ j. law.bind (stretched_holds x.shape.element scalar _ j) (λ u. law.bind (law.on_gate _) (λ r. law.on_done _)))
 
   pub combined_holds : (a b : Secrecy) (op : BinaryOperator) (ds : Operands) (x y : Value)
       → P _ (combined_from a b w op ds x y) (combined_from a b w' op ds x y)
@@ -209,8 +213,8 @@ module _ (w w' : World) (P : (A : Type 0) → Effect A → Effect A → Type 0) 
   negated_holds v = law.bind (untrapped_holds (size v)) (λ _. negated_from_holds v.secrecy v)
 
   pub cast_gates_hold : (c : Cast) (n u : ℕ) → P _ (cast_gates c n u) (cast_gates c n u)
-  cast_gates_hold WordToBool n u = law.bind (planned_holds (λ first. eq_plan first u)) (flip_holds n)
-  cast_gates_hold BoolToWord n u = law.on_gate _
+  cast_gates_hold WordToBool n u = law.bind (zero_holds u) (flip_holds n)
+  cast_gates_hold BoolToWord n u = law.bind (law.on_gate (Unpack u n)) (λ z. law.on_gate (Conv z))
   cast_gates_hold WordToWord n u = law.on_done u
   cast_gates_hold BoolToBool n u = law.on_done u
 
@@ -244,7 +248,7 @@ module _ (w w' : World) (P : (A : Type 0) → Effect A → Effect A → Type 0) 
       law.bind (law.on_draw (words_for_bits (size v)))
       (λ _. law.bind (number_holds v)
       (λ u. law.bind (planned_holds (λ first. bits_plan first u (size v)))
-      (λ b. law.bind (law.on_gate (Spread b)) (λ r. made_holds (shape_of datatype.Bool true) (flat_map bits_of v.words) r))))
+      (λ b. made_holds (shape_of datatype.Bool true) (flat_map bits_of v.words) b)))
 
   pub bits_holds : (line : ℕ) (v : Value) → P _ (bits_extracted w line v) (bits_extracted w' line v)
   bits_holds line v = law.bind (charged_holds _ _ (law.on_test _ _ _)) (λ _. bits_from_holds v.secrecy v)

@@ -1,6 +1,7 @@
 pub mod Effects
 pub mod Values
 pub mod Words
+pub mod Learned
 pub mod Operations
 pub mod Evaluation
 pub mod Reports

@@ -12,7 +12,9 @@ use Rattle.sc_text.specs.declared.event.Event.TheVariants as event
 use Rattle.program_trees.specs.declared.expression.DataType.{DataType}
 use Rattle.program_trees.specs.declared.expression.DataType.TheVariants.{Uint64}
 use Rattle.program_trees.specs.declared.expression.DataType.TheVariants as datatype
-use Rattle.plans.specs.Gate.TheVariants.{Const, Add, Sub, MulPub, Mul, Xor, And, Cat, Part, Put, Rep, Spread, Sum, Conv, Open, Result}
+use Rattle.plans.specs.Gate.{Gate}
+use Rattle.plans.specs.Gate.TheVariants.{Const, Add, Sub, MulPub, Mul, Xor, And, Cat, Part, Put, Rep, Sum, Conv, Open, Result}
+use Rattle.plans.specs.Gate.TheVariants.{Pack, Unpack, RepBit, PartBit, PutBit, CatBit}
 use Rattle.plans.specs.Clear.{bits_of, first_word}
 use Rattle.plans.specs.Equality.{eq_plan}
 use Rattle.plans.specs.BitExtract.{bits_plan}
@@ -29,7 +31,7 @@ use Rattle.reached_instances.specs.Cast.TheVariants.{WordToWord, WordToBool, Boo
 pub use Rattle.reached_instances.specs.Operators.{cast_shape, is_product, result_shape}
 use Rattle.reached_instances.specs.Shapes.{shape_of}
 use Rattle.language_model.specs.Effects.{Words, World, Effect, ◌>>=◌, done, charge, test, words_each, draw, gate, planned, next_number, emit, answer, show}
-use Rattle.language_model.specs.Values.{Secrecy, Plain, Private, Value, plain, hidden, is_secret, size, visible_words, is_true, ring_for, elements_of}
+use Rattle.language_model.specs.Values.{Secrecy, Plain, Private, Value, plain, hidden, is_secret, size, visible_words, is_true, ring_for, gate_words, gate_size, elements_of}
 use Rattle.language_model.specs.Words as W
 
 -- ---- THE PARTS OF AN OPERATION
@@ -58,7 +60,7 @@ number_from (Private None) words = gate (Const words)
 number_from Plain words = gate (Const words)
 
 abbrev pub number_of : Value → Effect ℕ
-number_of v = number_from v.secrecy v.words
+number_of v = number_from v.secrecy (gate_words v.shape.element v.words)
 
 abbrev pub made_private : Shape → List ℕ → ℕ → Effect Value
 made_private shape words k = done (hidden shape k words)
@@ -69,7 +71,7 @@ abbrev pub classified_from : Secrecy → Value → Effect Value
 classified_from (Private k) v = done v
 classified_from Plain v = do
   _ ← charged no_traps (size v)
-  gate (Const v.words) >>= made_private v.shape v.words
+  gate (Const (gate_words v.shape.element v.words)) >>= made_private v.shape v.words
 
 -- a public value becomes a private one
 abbrev pub classified : Value → Effect Value
@@ -96,7 +98,7 @@ revealed w v = do
 abbrev pub opened_from : World → Secrecy → Value → Effect Value
 opened_from w Plain v = done v
 opened_from w (Private k) v = do
-  _ ← draw w (words_each (size v))
+  _ ← draw w (words_each (gate_size v.shape.element (size v)))
   u ← number_of v
   _ ← gate (Open (ring_for v.shape.element) u)
   revealed w v
@@ -108,10 +110,27 @@ declassified w v = do
 
 -- ---- OPERATORS
 
+-- the gates of arrays, by what their elements are
+abbrev pub repeated_gate : DataType → (u n : ℕ) → Gate
+repeated_gate Uint64 u n = Rep u n
+repeated_gate datatype.Bool u n = RepBit u n
+
+abbrev pub element_gate : DataType → (u i : ℕ) → Gate
+element_gate Uint64 u i = Part u i 1
+element_gate datatype.Bool u i = PartBit u i
+
+abbrev pub stored_gate : DataType → (u i v : ℕ) → Gate
+stored_gate Uint64 u i v = Put u i v
+stored_gate datatype.Bool u i v = PutBit u i v
+
+abbrev pub joined_gate : DataType → (u n v m : ℕ) → Gate
+joined_gate Uint64 u n v m = Cat u v
+joined_gate datatype.Bool u n v m = CatBit u n v m
+
 -- a private scalar beside an array of n elements is first made one of as many
-abbrev pub stretched : (scalar : Bool) → ℕ → ℕ → Effect ℕ
-stretched true n u = gate (Rep u n)
-stretched false n u = done u
+abbrev pub stretched : DataType → (scalar : Bool) → ℕ → ℕ → Effect ℕ
+stretched e true n u = gate (repeated_gate e u n)
+stretched e false n u = done u
 
 abbrev pub is_scalar_left : Operands → Bool
 is_scalar_left ScalarAndArray = true
@@ -124,7 +143,7 @@ is_scalar_right ds = false
 -- true for false, and false for true
 abbrev pub flip : ℕ → ℕ → Effect ℕ
 flip n u = do
-  ones ← gate (Const (replicate n 1))
+  ones ← gate (Const (gate_words datatype.Bool (replicate n 1)))
   gate (Xor u ones)
 
 abbrev pub words_for_equality : ℕ → Words
@@ -148,18 +167,26 @@ words_of_operator (binary.Words word.Less) n = words_for_order n
 words_of_operator (binary.Words word.LessOrEqual) n = words_for_order n
 words_of_operator (binary.Words word.Greater) n = words_for_order n
 words_of_operator (binary.Words word.GreaterOrEqual) n = words_for_order n
-words_of_operator (binary.Bools truth.And) n = words_each (3 * n)
-words_of_operator (binary.Bools truth.Or) n = words_each (3 * n)
+words_of_operator (binary.Bools truth.And) n = words_each (3 * gate_size datatype.Bool n)
+words_of_operator (binary.Bools truth.Or) n = words_each (3 * gate_size datatype.Bool n)
 words_of_operator op n = words_each 0
+
+-- whether numbers are 0
+abbrev pub zero_gates : ℕ → Effect ℕ
+zero_gates d = do
+  z ← planned (λ first. eq_plan first d)
+  gate (Pack z)
 
 -- whether two numbers of n elements are equal
 abbrev pub equal_gates : ℕ → ℕ → Effect ℕ
 equal_gates u v = do
   d ← gate (Sub u v)
-  planned (λ first. eq_plan first d)
+  zero_gates d
 
 abbrev pub less_gates : ℕ → ℕ → ℕ → Effect ℕ
-less_gates n u v = planned (λ first. less_plan first u v n)
+less_gates n u v = do
+  z ← planned (λ first. less_plan first u v n)
+  gate (Pack z)
 
 -- either is true: one of them is, or both are
 abbrev pub or_gates : (u v : ℕ) → Effect ℕ
@@ -191,16 +218,16 @@ private_result w op ds x y = do
   _ ← draw w (words_of_operator op (W.result_size ds x y))
   j ← number_of x
   k ← number_of y
-  u ← stretched (is_scalar_left ds) (W.result_size ds x y) j
-  v ← stretched (is_scalar_right ds) (W.result_size ds x y) k
+  u ← stretched x.shape.element (is_scalar_left ds) (W.result_size ds x y) j
+  v ← stretched y.shape.element (is_scalar_right ds) (W.result_size ds x y) k
   operator_gates op (W.result_size ds x y) u v >>= made_private (result_shape op ds) (W.result_words op ds x y)
 
 -- a private operand and public words, in a product
 abbrev pub product_with : BinaryOperator → Operands → (scalar : Bool) → Value → List ℕ → List ℕ → Effect Value
 product_with op ds scalar x known words = do
   j ← number_of x
-  u ← stretched scalar (length known) j
-  gate (MulPub (ring_for x.shape.element) u known) >>= made_private (result_shape op ds) words
+  u ← stretched x.shape.element scalar (length known) j
+  gate (MulPub (ring_for x.shape.element) u (gate_words x.shape.element known)) >>= made_private (result_shape op ds) words
 
 abbrev pub combined_from : Secrecy → Secrecy → World → BinaryOperator → Operands → Value → Value → Effect Value
 combined_from Plain Plain w op ds x y = done (plain (result_shape op ds) (W.result_words op ds x y))
@@ -249,8 +276,10 @@ words_of_cast c n = words_each 0
 
 -- a number is true where it isn't 0
 abbrev pub cast_gates : Cast → ℕ → ℕ → Effect ℕ
-cast_gates WordToBool n u = planned (λ first. eq_plan first u) >>= flip n
-cast_gates BoolToWord n u = gate (Conv u)
+cast_gates WordToBool n u = zero_gates u >>= flip n
+cast_gates BoolToWord n u = do
+  z ← gate (Unpack u n)
+  gate (Conv z)
 cast_gates c n u = done u
 
 abbrev pub changed : World → Cast → Value → Effect Value
@@ -296,7 +325,7 @@ bits_from w (Private k) v = do
   _ ← draw w (words_for_bits (size v))
   u ← number_of v
   b ← planned (λ first. bits_plan first u (size v))
-  gate (Spread b) >>= made_private (shape_of datatype.Bool true) (flat_map bits_of v.words)
+  made_private (shape_of datatype.Bool true) (flat_map bits_of v.words) b
 
 abbrev pub bits_extracted : World → ℕ → Value → Effect Value
 bits_extracted w line v = do
@@ -310,7 +339,7 @@ concatenated_from Plain Plain x y = done (plain x.shape (x.words ++ y.words))
 concatenated_from a b x y = do
   u ← number_of x
   v ← number_of y
-  gate (Cat u v) >>= made_private x.shape (x.words ++ y.words)
+  gate (joined_gate x.shape.element u (size x) v (size y)) >>= made_private x.shape (x.words ++ y.words)
 
 -- of two arrays, both private or both public
 abbrev pub concatenated : ℕ → Value → Value → Effect Value
@@ -325,7 +354,7 @@ abbrev pub element_from : Secrecy → Value → ℕ → Effect Value
 element_from Plain v i = done (plain (shape_of v.shape.element false) (get_or v.words i 0 ∷ []))
 element_from (Private k) v i = do
   u ← number_of v
-  gate (Part u i 1) >>= made_private (shape_of v.shape.element false) (get_or v.words i 0 ∷ [])
+  gate (element_gate v.shape.element u i) >>= made_private (shape_of v.shape.element false) (get_or v.words i 0 ∷ [])
 
 abbrev pub element_of_array : ℕ → Value → Value → Effect Value
 element_of_array line v i = do
@@ -338,7 +367,7 @@ with_element_from Plain v i x = done (plain v.shape (set v.words i (first_word (
 with_element_from (Private k) v i x = do
   u ← number_of v
   e ← number_of x
-  gate (Put u i e) >>= made_private v.shape (set v.words i (first_word x.words))
+  gate (stored_gate v.shape.element u i e) >>= made_private v.shape (set v.words i (first_word x.words))
 
 -- an array with one element changed, which is as private as the array
 abbrev pub with_element : ℕ → Value → Value → Value → Effect Value
@@ -351,7 +380,7 @@ abbrev pub filled_from : Secrecy → ℕ → Value → Effect Value
 filled_from Plain n x = done (plain (shape_of x.shape.element true) (replicate n (first_word x.words)))
 filled_from (Private k) n x = do
   u ← number_of x
-  gate (Rep u n) >>= made_private (shape_of x.shape.element true) (replicate n (first_word x.words))
+  gate (repeated_gate x.shape.element u n) >>= made_private (shape_of x.shape.element true) (replicate n (first_word x.words))
 
 -- an array of equal elements
 abbrev pub filled : ℕ → Value → Value → Effect Value
@@ -365,7 +394,7 @@ filled line n x = do
 abbrev pub handed_over : World → Secrecy → Value → Effect (Unit {0})
 handed_over w Plain v = done tt
 handed_over w (Private k) v = do
-  _ ← draw w (words_each (size v))
+  _ ← draw w (words_each (gate_size v.shape.element (size v)))
   u ← number_of v
   _ ← gate (Result (ring_for v.shape.element) u)
   done tt

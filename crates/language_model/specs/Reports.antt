@@ -7,7 +7,7 @@ use Rattle.sc_text.specs.declared.event.Event.{Event}
 use Rattle.plans.specs.Gate.{Gate}
 use Rattle.reached_instances.specs.TypedPrograms.{TypedProgramTree}
 use Rattle.language_model.specs.Effects.{Words, words_each, GivenInput, Source, Clear, Answers, World, Stage, RunStop, Ended, Run}
-use Rattle.language_model.specs.Values.{Value}
+use Rattle.language_model.specs.Values.{Value, gate_size}
 use Rattle.language_model.specs.Evaluation.{either, body_of, call_at, deepest}
 
 -- why the run stopped and what it had cost; the words that it needed of the dealer's tape and of the miners'; what it told, the
@@ -25,7 +25,7 @@ pub record Report : Type 0 where
 
 -- two words for each element of a private input
 abbrev pub words_dealt : GivenInput → ℕ
-words_dealt x = either x.secret (2 * length x.words) 0
+words_dealt x = either x.secret (2 * gate_size x.shape.element (length x.words)) 0
 
 abbrev pub dealing : World → ℕ
 dealing w = sum (map words_dealt w.inputs)

@@ -9,6 +9,8 @@ use Rattle.reached_instances.specs.Shape.{Shape}
 use Rattle.plans.specs.RingKind.{RingKind}
 use Rattle.plans.specs.RingKind.TheVariants.{Arithmetic, Boolean}
 use Rattle.plans.specs.Clear.{first_word}
+use Rattle.plans.specs.Bits.{words_for}
+use Rattle.plans.specs.Gathered.{packed}
 
 -- everybody may see a value, or it is private: then it has the number of a gate's value, unless it was never stored
 pub data Secrecy : Type 0 where
@@ -60,6 +62,15 @@ never_stored true shape = record { secrecy = Private None; shape = shape; words 
 abbrev pub ring_for : DataType → RingKind
 ring_for Uint64 = Arithmetic
 ring_for datatype.Bool = Boolean
+
+-- the words of a value in the gates, by its elements, and how many they are
+abbrev pub gate_words : DataType → List ℕ → List ℕ
+gate_words Uint64 words = words
+gate_words datatype.Bool words = packed words
+
+abbrev pub gate_size : DataType → ℕ → ℕ
+gate_size Uint64 n = n
+gate_size datatype.Bool n = words_for n
 
 -- as it is printed
 abbrev pub element_of : DataType → ℕ → Element

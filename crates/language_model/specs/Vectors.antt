@@ -275,7 +275,7 @@ true_is_one : eval to_number (offered (secret_bool (codes "b") 1 ∷ [])) 100000
       events =
           Open (Word 1 ∷ []) ∷ Publish (codes "n") (Word 1 ∷ []) ∷ [];
       opened = 1 ∷ [];
-      gates = gate.Input 0 ∷ gate.Conv 0 ∷ gate.Open Arithmetic 1 ∷ [];
+      gates = gate.Input 0 ∷ gate.Unpack 0 1 ∷ gate.Conv 1 ∷ gate.Open Arithmetic 2 ∷ [];
     }
 unfolding value arguments turns repeats execute execute_all call_at
 true_is_one = refl
@@ -292,7 +292,7 @@ bits_cost : (eval bits (one 5) 1000000).cost ≡ 194
 unfolding value arguments turns repeats execute execute_all call_at bits_of
 bits_cost = refl
 
-bits_need : (eval bits (one 5) 1000000).drawn ≡ three_words 104 103 103
+bits_need : (eval bits (one 5) 1000000).drawn ≡ three_words 41 40 40
 unfolding value arguments turns repeats execute execute_all call_at bits_of
 bits_need = refl
 

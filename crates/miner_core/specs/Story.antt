@@ -73,7 +73,7 @@ has_told i s = told_in (node i s).acts
 abbrev pub shown_by : Notice → List ℕ
 shown_by (Shown form words) = words
 shown_by (Published name form words) = []
-shown_by (Handed name form words) = []
+shown_by (Handed name form count words) = []
 
 abbrev pub has_shown : Number → Story → List ℕ
 has_shown i s = flat_map shown_by (has_told i s)

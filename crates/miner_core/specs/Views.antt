@@ -25,7 +25,7 @@ task_code t = settled t.code
 abbrev pub notice_seen : Notice → strand.Notice
 notice_seen (notice.Shown shape words) = Shown (form_of shape) words.items
 notice_seen (notice.Published name shape words) = Published name (form_of shape) words.items
-notice_seen (notice.Handed name shape words) = Handed name (form_of shape) words.items
+notice_seen (notice.Handed name shape count words) = Handed name (form_of shape) count words.items
 
 abbrev pub if_any : Option Notice → List strand.Notice
 if_any None = []

@@ -1,5 +1,5 @@
 -- The text of a miner's run: lines of the run's text, but the miner's own share of a value that is published to the client.
-use Rattle.std.specs.Prelude.{ℕ, List, ◌++◌, codes}
+use Rattle.std.specs.Prelude.{ℕ, List, [], ◌∷◌, ◌++◌, codes}
 use Rattle.std.specs.List.{flat_map}
 use Rattle.program_trees.specs.declared.expression.DataType.{DataType}
 use Rattle.program_trees.specs.declared.expression.DataType.TheVariants.{Uint64}
@@ -15,9 +15,17 @@ abbrev pub type_word : DataType → List ℕ
 type_word Uint64 = codes "uint64"
 type_word datatype.Bool = codes "bool"
 
--- the line of a share: its name, its type and its words
+abbrev pub count_of_type : DataType → ℕ → List ℕ
+count_of_type Uint64 count = []
+count_of_type datatype.Bool count = count ∷ []
+
+-- how many elements a share has, where its words don't tell
+abbrev pub count_told : ResultShare → List ℕ
+count_told s = count_of_type s.element s.count
+
+-- the line of a share: its name, its type, how many truth values, and its words
 unfoldable pub share_line : ResultShare → List ℕ
-share_line s = codes "share " ++ s.name ++ codes " " ++ type_word s.element ++ words_behind s.words ++ codes "\n"
+share_line s = codes "share " ++ s.name ++ codes " " ++ type_word s.element ++ words_behind (count_told s ++ s.words) ++ codes "\n"
 
 -- a line, with its newline
 unfoldable pub line_text : MinerLine → List ℕ

@@ -5,9 +5,11 @@ use Rattle.std.specs.List.{flat_map}
 use Rattle.sc_text.specs.declared.end.Ending.TheVariants as ending
 use Rattle.sc_text.specs.declared.end.TrapKind.TheVariants as trap
 use Rattle.sc_text.specs.declared.event.Event.TheVariants as event
+use Rattle.program_trees.specs.declared.expression.DataType.{DataType}
 use Rattle.program_trees.specs.declared.expression.DataType.TheVariants.{Uint64}
 use Rattle.program_trees.specs.declared.expression.DataType.TheVariants as datatype
-use Rattle.gates.specs.declared.gate.Gate.TheVariants.{Const, Add, Sub, MulPub, Mul, Xor, And, Cat, Part, Put, Rep, Spread, Sum, Conv, Input, Open, Result}
+use Rattle.gates.specs.declared.gate.Gate.TheVariants.{Const, Add, Sub, MulPub, Mul, Xor, And, Sum, Conv, Input, Open, Result}
+use Rattle.gates.specs.declared.gate.Gate.TheVariants.{Pack, Unpack}
 use Rattle.gates.specs.Clear.{bits_of, first_word}
 use Rattle.plans.specs.Equality.{eq_plan}
 use Rattle.plans.specs.BitExtract.{bits_plan}
@@ -24,11 +26,11 @@ use Rattle.program_trees.specs.declared.operators.Cast.{Cast}
 use Rattle.program_trees.specs.declared.operators.Cast.TheVariants.{WordToWord, WordToBool, BoolToWord, BoolToBool}
 use Rattle.program_trees.specs.Shapes.{shape_of}
 use Rattle.language_model.specs.Effects.{World, GivenInput, Effect, words_each}
-use Rattle.language_model.specs.Values.{Secrecy, Plain, Private, Value, plain, hidden, size, visible_words, is_true, ring_for, elements_of}
+use Rattle.language_model.specs.Values.{Secrecy, Plain, Private, Value, plain, hidden, size, visible_words, is_true, ring_for, gate_words, gate_size, elements_of}
 use Rattle.language_model.specs.Words as W
 use Rattle.language_model.specs.Operations.{charged, no_traps, not_too_large, number_from, number_of, made_private, classified_from}
 use Rattle.language_model.specs.Operations.{read_answer, revealed, opened_from, declassified}
-use Rattle.language_model.specs.Operations.{classified, stretched, is_scalar_left}
+use Rattle.language_model.specs.Operations.{classified, stretched, is_scalar_left, repeated_gate, element_gate, stored_gate, joined_gate, zero_gates}
 use Rattle.language_model.specs.Operations.{is_scalar_right, flip, words_of_operator, equal_gates, less_gates, or_gates}
 use Rattle.language_model.specs.Operations.{operator_gates}
 use Rattle.language_model.specs.Operations.{result_shape, private_result, product_with, combined_from, operator_traps, operated, negated_from}
@@ -59,7 +61,7 @@ number_from_besides (Private None) words = besides_gate (Const words)
 number_from_besides Plain words = besides_gate (Const words)
 
 pub number_besides : (v : Value) → Besides (number_of v)
-number_besides v = number_from_besides v.secrecy v.words
+number_besides v = number_from_besides v.secrecy (gate_words v.shape.element v.words)
 
 made_besides : (shape : Shape) (words : List ℕ) (k : ℕ) → Besides (made_private shape words k)
 made_besides shape words k = besides_done (hidden shape k words)
@@ -67,7 +69,7 @@ made_besides shape words k = besides_done (hidden shape k words)
 classified_from_besides : (x : Secrecy) (v : Value) → Besides (classified_from x v)
 classified_from_besides (Private k) v = besides_done v
 classified_from_besides Plain v =
-    besides_bind (untrapped_besides (size v)) (λ _. besides_bind (besides_gate (Const v.words)) (λ k. made_besides v.shape v.words k))
+    besides_bind (untrapped_besides (size v)) (λ _. besides_bind (besides_gate (Const (gate_words v.shape.element v.words))) (λ k. made_besides v.shape v.words k))
 
 pub classified_besides : (v : Value) → Besides (classified v)
 classified_besides v = classified_from_besides v.secrecy v
@@ -83,7 +85,7 @@ revealed_besides w v =
 opened_from_besides : (w : World) (s : Secrecy) (v : Value) → Besides (opened_from w s v)
 opened_from_besides w Plain v = besides_done v
 opened_from_besides w (Private k) v =
-    besides_bind (besides_draw w (words_each (size v))) (λ _. besides_bind (number_besides v) (λ u.
+    besides_bind (besides_draw w (words_each (gate_size v.shape.element (size v)))) (λ _. besides_bind (number_besides v) (λ u.
     besides_bind (besides_gate (Open (ring_for v.shape.element) u)) (λ _. revealed_besides w v)))
 
 pub declassified_besides : (w : World) (v : Value) → Besides (declassified w v)
@@ -91,18 +93,21 @@ declassified_besides w v = besides_bind (untrapped_besides (size v)) (λ _. open
 
 -- ---- OPERATORS
 
-stretched_besides : (scalar : Bool) (n u : ℕ) → Besides (stretched scalar n u)
-stretched_besides true n u = besides_gate (Rep u n)
-stretched_besides false n u = besides_done u
+stretched_besides : (e : DataType) (scalar : Bool) (n u : ℕ) → Besides (stretched e scalar n u)
+stretched_besides e true n u = besides_gate (repeated_gate e u n)
+stretched_besides e false n u = besides_done u
 
 flip_besides : (n u : ℕ) → Besides (flip n u)
-flip_besides n u = besides_bind (besides_gate (Const (replicate n 1))) (λ ones. besides_gate (Xor u ones))
+flip_besides n u = besides_bind (besides_gate (Const (gate_words datatype.Bool (replicate n 1)))) (λ ones. besides_gate (Xor u ones))
+
+zero_besides : (d : ℕ) → Besides (zero_gates d)
+zero_besides d = besides_bind (besides_planned (λ first. eq_plan first d)) (λ z. besides_gate (Pack z))
 
 equal_besides : (u v : ℕ) → Besides (equal_gates u v)
-equal_besides u v = besides_bind (besides_gate (Sub u v)) (λ d. besides_planned (λ first. eq_plan first d))
+equal_besides u v = besides_bind (besides_gate (Sub u v)) (λ d. zero_besides d)
 
 less_besides : (n u v : ℕ) → Besides (less_gates n u v)
-less_besides n u v = besides_planned (λ first. less_plan first u v n)
+less_besides n u v = besides_bind (besides_planned (λ first. less_plan first u v n)) (λ z. besides_gate (Pack z))
 
 word_besides : (op : OperatorSign) (n u v : ℕ) → Besides (operator_gates (binary.Words op) n u v)
 word_besides word.Add n u v = besides_gate (Add u v)
@@ -135,14 +140,14 @@ private_besides : (w : World) (op : BinaryOperator) (ds : Operands) (x y : Value
 private_besides w op ds x y =
     let n = W.result_size ds x y in
     besides_bind (besides_draw w (words_of_operator op n)) (λ _. besides_bind (number_besides x) (λ j. besides_bind (number_besides y) (λ k.
-    besides_bind (stretched_besides (is_scalar_left ds) n j) (λ u. besides_bind (stretched_besides (is_scalar_right ds) n k) (λ v.
+    besides_bind (stretched_besides x.shape.element (is_scalar_left ds) n j) (λ u. besides_bind (stretched_besides y.shape.element (is_scalar_right ds) n k) (λ v.
     besides_bind (operator_besides op n u v) (λ r. made_besides (result_shape op ds) (W.result_words op ds x y) r))))))
 
 product_besides : (op : BinaryOperator) (ds : Operands) (scalar : Bool) (x : Value) (known words : List ℕ)
     → Besides (product_with op ds scalar x known words)
 product_besides op ds scalar x known words =
-    besides_bind (number_besides x) (λ j. besides_bind (stretched_besides scalar (length known) j) (λ u.
-    besides_bind (besides_gate (MulPub (ring_for x.shape.element) u known)) (λ r. made_besides (result_shape op ds) words r)))
+    besides_bind (number_besides x) (λ j. besides_bind (stretched_besides x.shape.element scalar (length known) j) (λ u.
+    besides_bind (besides_gate (MulPub (ring_for x.shape.element) u (gate_words x.shape.element known))) (λ r. made_besides (result_shape op ds) words r)))
 
 combined_besides : (a b : Secrecy) (w : World) (op : BinaryOperator) (ds : Operands) (x y : Value) → Besides (combined_from a b w op ds x y)
 combined_besides Plain Plain w op ds x y = besides_done (plain (result_shape op ds) (W.result_words op ds x y))
@@ -169,8 +174,8 @@ pub negated_besides : (v : Value) → Besides (negated v)
 negated_besides v = besides_bind (untrapped_besides (size v)) (λ _. negated_from_besides v.secrecy v)
 
 cast_gates_besides : (c : Cast) (n u : ℕ) → Besides (cast_gates c n u)
-cast_gates_besides WordToBool n u = besides_bind (besides_planned (λ first. eq_plan first u)) (flip_besides n)
-cast_gates_besides BoolToWord n u = besides_gate (Conv u)
+cast_gates_besides WordToBool n u = besides_bind (zero_besides u) (flip_besides n)
+cast_gates_besides BoolToWord n u = besides_bind (besides_gate (Unpack u n)) (λ z. besides_gate (Conv z))
 cast_gates_besides WordToWord n u = besides_done u
 cast_gates_besides BoolToBool n u = besides_done u
 
@@ -206,7 +211,7 @@ bits_from_besides w Plain v = besides_done (plain (shape_of datatype.Bool true) 
 bits_from_besides w (Private k) v =
     besides_bind (besides_draw w (words_for_bits (size v))) (λ _. besides_bind (number_besides v) (λ u.
     besides_bind (besides_planned (λ first. bits_plan first u (size v))) (λ b.
-    besides_bind (besides_gate (Spread b)) (λ r. made_besides (shape_of datatype.Bool true) (flat_map bits_of v.words) r))))
+    made_besides (shape_of datatype.Bool true) (flat_map bits_of v.words) b)))
 
 pub bits_besides : (w : World) (line : ℕ) (v : Value) → Besides (bits_extracted w line v)
 bits_besides w line v = besides_bind (large_besides line (64 * size v)) (λ _. bits_from_besides w v.secrecy v)
@@ -215,7 +220,7 @@ bits_besides w line v = besides_bind (large_besides line (64 * size v)) (λ _. b
 
 cat_besides : (x y : Value) → Besides (concatenated_from (Private None) Plain x y)
 cat_besides x y =
-    besides_bind (number_besides x) (λ u. besides_bind (number_besides y) (λ v. besides_bind (besides_gate (Cat u v)) (λ r.
+    besides_bind (number_besides x) (λ u. besides_bind (number_besides y) (λ v. besides_bind (besides_gate (joined_gate x.shape.element u (size x) v (size y))) (λ r.
     made_besides x.shape (x.words ++ y.words) r)))
 
 concatenated_from_besides : (a b : Secrecy) (x y : Value) → Besides (concatenated_from a b x y)
@@ -230,7 +235,7 @@ concatenated_besides line x y = besides_bind (large_besides line (size x + size 
 element_from_besides : (x : Secrecy) (v : Value) (i : ℕ) → Besides (element_from x v i)
 element_from_besides Plain v i = besides_done (plain (shape_of v.shape.element false) (get_or v.words i 0 ∷ []))
 element_from_besides (Private k) v i =
-    besides_bind (number_besides v) (λ u. besides_bind (besides_gate (Part u i 1)) (λ r.
+    besides_bind (number_besides v) (λ u. besides_bind (besides_gate (element_gate v.shape.element u i)) (λ r.
     made_besides (shape_of v.shape.element false) (get_or v.words i 0 ∷ []) r))
 
 pub element_besides : (line : ℕ) (v i : Value) → Besides (element_of_array line v i)
@@ -241,7 +246,7 @@ element_besides line v i =
 with_element_from_besides : (s : Secrecy) (v : Value) (i : ℕ) (x : Value) → Besides (with_element_from s v i x)
 with_element_from_besides Plain v i x = besides_done _
 with_element_from_besides (Private k) v i x =
-    besides_bind (number_besides v) (λ u. besides_bind (number_besides x) (λ e. besides_bind (besides_gate (Put u i e)) (λ r. besides_done _)))
+    besides_bind (number_besides v) (λ u. besides_bind (number_besides x) (λ e. besides_bind (besides_gate (stored_gate v.shape.element u i e)) (λ r. besides_done _)))
 
 pub with_element_besides : (line : ℕ) (v i x : Value) → Besides (with_element line v i x)
 with_element_besides line v i x =
@@ -251,7 +256,7 @@ with_element_besides line v i x =
 filled_from_besides : (s : Secrecy) (n : ℕ) (x : Value) → Besides (filled_from s n x)
 filled_from_besides Plain n x = besides_done (plain (shape_of x.shape.element true) (replicate n (first_word x.words)))
 filled_from_besides (Private k) n x =
-    besides_bind (number_besides x) (λ u. besides_bind (besides_gate (Rep u n)) (λ r.
+    besides_bind (number_besides x) (λ u. besides_bind (besides_gate (repeated_gate x.shape.element u n)) (λ r.
     made_besides (shape_of x.shape.element true) (replicate n (first_word x.words)) r))
 
 pub filled_besides : (line : ℕ) (n x : Value) → Besides (filled line n x)
@@ -280,7 +285,7 @@ asked_besides secret shape line (Some x) =
 handed_besides : (w : World) (s : Secrecy) (v : Value) → Besides (handed_over w s v)
 handed_besides w Plain v = besides_done tt
 handed_besides w (Private k) v =
-    besides_bind (besides_draw w (words_each (size v))) (λ _. besides_bind (number_besides v) (λ u.
+    besides_bind (besides_draw w (words_each (gate_size v.shape.element (size v)))) (λ _. besides_bind (number_besides v) (λ u.
     besides_bind (besides_gate (Result (ring_for v.shape.element) u)) (λ _. besides_done tt)))
 
 pub published_besides : (w : World) (text : List ℕ) (v : Value) → Besides (published w text v)

@@ -5,6 +5,7 @@ use Rattle.std.specs.List.{flat_map}
 use Rattle.sc_text.specs.declared.end.Ending.TheVariants as ending
 use Rattle.sc_text.specs.declared.end.TrapKind.TheVariants as trap
 use Rattle.sc_text.specs.declared.event.Event.TheVariants as event
+use Rattle.program_trees.specs.declared.expression.DataType.{DataType}
 use Rattle.program_trees.specs.declared.expression.DataType.TheVariants.{Uint64}
 use Rattle.program_trees.specs.declared.expression.DataType.TheVariants as datatype
 use Rattle.gates.specs.declared.gate.Gate.TheVariants as gates
@@ -24,7 +25,7 @@ use Rattle.program_trees.specs.declared.operators.Cast.{Cast}
 use Rattle.program_trees.specs.declared.operators.Cast.TheVariants.{WordToWord, WordToBool, BoolToWord, BoolToBool}
 use Rattle.program_trees.specs.Shapes.{shape_of}
 use Rattle.language_model.specs.Effects.{World, GivenInput, Effect, ◌>>=◌, done, test, words_each, gate, planned}
-use Rattle.language_model.specs.Values.{Secrecy, Plain, Private, Value, plain, hidden, never_stored, size, visible_words, is_true, ring_for, elements_of}
+use Rattle.language_model.specs.Values.{Secrecy, Plain, Private, Value, plain, hidden, never_stored, size, visible_words, is_true, ring_for, gate_words, gate_size, elements_of}
 use Rattle.language_model.specs.Words as W
 use Rattle.language_model.specs.Operations as row
 use Rattle.language_model.specs.Evaluation.{is_as_declared, given_value, asked_for}
@@ -76,7 +77,7 @@ module _ (N : Numbers) where
   number_from_naming Plain words h = gate_naming (gates.Const words) refl tt
 
   number_naming : (v : Value) → Names N v → Naming N (row.number_of v) N
-  number_naming v h = number_from_naming v.secrecy v.words h
+  number_naming v h = number_from_naming v.secrecy (gate_words v.shape.element v.words) h
 
   made_naming : (shape : Shape) (words : List ℕ) (k : ℕ) → N k → Naming N (row.made_private shape words k) (Names N)
   made_naming shape words k h = naming_done (hidden_names shape words k h)
@@ -84,20 +85,39 @@ module _ (N : Numbers) where
   shown_naming : (shape : Shape) (words : List ℕ) → Naming N (done (plain shape words)) (Names N)
   shown_naming shape words = naming_done (plain_names shape words)
 
-  stretched_naming : (scalar : Bool) (n u : ℕ) → N u → Naming N (row.stretched scalar n u) N
-  stretched_naming true n u h = gate_naming (gates.Rep u n) refl (h, tt)
-  stretched_naming false n u h = naming_done h
+  -- ---- the gates of arrays
+
+  repeated_naming : (e : DataType) (u n : ℕ) → N u → Naming N (gate (row.repeated_gate e u n)) N
+  repeated_naming Uint64 u n h = gate_naming (gates.Rep u n) refl (h, tt)
+  repeated_naming datatype.Bool u n h = gate_naming (gates.RepBit u n) refl (h, tt)
+
+  taken_naming : (e : DataType) (u i : ℕ) → N u → Naming N (gate (row.element_gate e u i)) N
+  taken_naming Uint64 u i h = gate_naming (gates.Part u i 1) refl (h, tt)
+  taken_naming datatype.Bool u i h = gate_naming (gates.PartBit u i) refl (h, tt)
+
+  stored_naming : (e : DataType) (u i v : ℕ) → N u → N v → Naming N (gate (row.stored_gate e u i v)) N
+  stored_naming Uint64 u i v g h = gate_naming (gates.Put u i v) refl (g, (h, tt))
+  stored_naming datatype.Bool u i v g h = gate_naming (gates.PutBit u i v) refl (g, (h, tt))
+
+  joined_naming : (e : DataType) (u n v m : ℕ) → N u → N v → Naming N (gate (row.joined_gate e u n v m)) N
+  joined_naming Uint64 u n v m g h = gate_naming (gates.Cat u v) refl (g, (h, tt))
+  joined_naming datatype.Bool u n v m g h = gate_naming (gates.CatBit u n v m) refl (g, (h, tt))
+
+  stretched_naming : (e : DataType) (scalar : Bool) (n u : ℕ) → N u → Naming N (row.stretched e scalar n u) N
+  stretched_naming e true n u h = repeated_naming e u n h
+  stretched_naming e false n u h = naming_done h
 
   flip_naming : (n u : ℕ) → N u → Naming N (row.flip n u) N
   flip_naming n u h =
-      naming_bind (gate_naming (gates.Const (replicate n 1)) refl tt) (λ ones k. gate_naming (gates.Xor u ones) refl (h, (k, tt)))
+      naming_bind (gate_naming (gates.Const (gate_words datatype.Bool (replicate n 1))) refl tt) (λ ones k. gate_naming (gates.Xor u ones) refl (h, (k, tt)))
 
   -- ---- classification and opening
 
   classified_from_naming : (a : Secrecy) (v : Value) → Names N v → Naming N (row.classified_from a v) (Names N)
   classified_from_naming (Private k) v h = naming_done h
   classified_from_naming Plain v h =
-      naming_bind (plain_charge (size v)) (λ _ _. naming_bind (gate_naming (gates.Const v.words) refl tt) (λ k n. made_naming v.shape v.words k n))
+      naming_bind (plain_charge (size v)) (λ _ _. naming_bind (gate_naming (gates.Const (gate_words v.shape.element v.words)) refl tt) (λ k n.
+      made_naming v.shape v.words k n))
 
   pub classified_naming : (v : Value) → Names N v → Naming N (row.classified v) (Names N)
   classified_naming v h = classified_from_naming v.secrecy v h
@@ -112,7 +132,7 @@ module _ (N : Numbers) where
   opened_from_naming : (w : World) (a : Secrecy) (v : Value) → Names N v → Naming N (row.opened_from w a v) (Names N)
   opened_from_naming w Plain v h = naming_done h
   opened_from_naming w (Private k) v h =
-      naming_bind (draw_naming w (words_each (size v))) (λ _ _. naming_bind (number_naming v h) (λ u n.
+      naming_bind (draw_naming w (words_each (gate_size v.shape.element (size v)))) (λ _ _. naming_bind (number_naming v h) (λ u n.
       naming_bind (gate_naming (gates.Open (ring_for v.shape.element) u) refl (n, tt)) (λ _ _. revealed_naming w v)))
 
   pub declassified_naming : (w : World) (v : Value) → Names N v → Naming N (row.declassified w v) (Names N)
@@ -120,18 +140,23 @@ module _ (N : Numbers) where
 
   -- ---- operators
 
-  equal_naming : (d : ℕ) → N d → Naming N (planned (λ first. eq_plan first d)) N
-  equal_naming d h = planned_naming (λ first. eq_plan first d) (λ first. eq_some first d) (λ first new. eq_takes N first d new h)
+  pack_naming : {c : Effect ℕ} → Naming N c N → Naming N (c >>= λ z. gate (gates.Pack z)) N
+  pack_naming h = naming_bind h (λ z m. gate_naming (gates.Pack z) refl (m, tt))
+
+  equal_naming : (d : ℕ) → N d → Naming N (row.zero_gates d) N
+  equal_naming d h = pack_naming (planned_naming (λ first. eq_plan first d) (λ first. eq_some first d) (λ first new. eq_takes N first d new h))
 
   module _ (n u v : ℕ) (a : N u) (b : N v) where
     equal_gates_naming : Naming N (row.equal_gates u v) N
     equal_gates_naming = naming_bind (gate_naming (gates.Sub u v) refl (a, (b, tt))) (λ d h. equal_naming d h)
 
     less_naming : Naming N (row.less_gates n u v) N
-    less_naming = planned_naming (λ first. less_plan first u v n) (λ first. less_some first u v n) (λ first new. less_takes N first u v n new a b)
+    less_naming =
+        pack_naming (planned_naming (λ first. less_plan first u v n) (λ first. less_some first u v n) (λ first new. less_takes N first u v n new a b))
 
     greater_naming : Naming N (row.less_gates n v u) N
-    greater_naming = planned_naming (λ first. less_plan first v u n) (λ first. less_some first v u n) (λ first new. less_takes N first v u n new b a)
+    greater_naming =
+        pack_naming (planned_naming (λ first. less_plan first v u n) (λ first. less_some first v u n) (λ first new. less_takes N first v u n new b a))
 
     flipped_naming : {c : Effect ℕ} → Naming N c N → Naming N (c >>= row.flip n) N
     flipped_naming h = naming_bind h (λ k m. flip_naming n k m)
@@ -169,13 +194,13 @@ module _ (N : Numbers) where
     private_naming =
         let n = W.result_size ds x y in
         naming_bind (draw_naming w (row.words_of_operator op n)) (λ _ _. naming_bind (number_naming x a) (λ i f. naming_bind (number_naming y b) (λ j g.
-        naming_bind (stretched_naming (row.is_scalar_left ds) n i f) (λ u h. naming_bind (stretched_naming (row.is_scalar_right ds) n j g) (λ v k.
+        naming_bind (stretched_naming x.shape.element (row.is_scalar_left ds) n i f) (λ u h. naming_bind (stretched_naming y.shape.element (row.is_scalar_right ds) n j g) (λ v k.
         naming_bind (operator_naming n u v h k op) (λ r m. made_naming (row.result_shape op ds) (W.result_words op ds x y) r m))))))
 
     product_naming : (scalar : Bool) (z : Value) (known words : List ℕ) → Names N z → Naming N (row.product_with op ds scalar z known words) (Names N)
     product_naming scalar z known words h =
-        naming_bind (number_naming z h) (λ j f. naming_bind (stretched_naming scalar (length known) j f) (λ u g.
-        naming_bind (gate_naming (gates.MulPub (ring_for z.shape.element) u known) refl (g, tt)) (λ r m. made_naming (row.result_shape op ds) words r m)))
+        naming_bind (number_naming z h) (λ j f. naming_bind (stretched_naming z.shape.element scalar (length known) j f) (λ u g.
+        naming_bind (gate_naming (gates.MulPub (ring_for z.shape.element) u (gate_words z.shape.element known)) refl (g, tt)) (λ r m. made_naming (row.result_shape op ds) words r m)))
 
     combined_naming : (j k : Secrecy) → Naming N (row.combined_from j k w op ds x y) (Names N)
     combined_naming Plain Plain = shown_naming (row.result_shape op ds) (W.result_words op ds x y)
@@ -203,7 +228,8 @@ module _ (N : Numbers) where
 
     cast_gates_naming : (c : Cast) (n u : ℕ) → N u → Naming N (row.cast_gates c n u) N
     cast_gates_naming WordToBool n u m = naming_bind (equal_naming u m) (λ z k. flip_naming n z k)
-    cast_gates_naming BoolToWord n u m = gate_naming (gates.Conv u) refl (m, tt)
+    cast_gates_naming BoolToWord n u m =
+        naming_bind (gate_naming (gates.Unpack u n) refl (m, tt)) (λ z k. gate_naming (gates.Conv z) refl (k, tt))
     cast_gates_naming WordToWord n u m = naming_done m
     cast_gates_naming BoolToBool n u m = naming_done m
 
@@ -241,7 +267,7 @@ module _ (N : Numbers) where
         naming_bind (draw_naming w (row.words_for_bits (size v))) (λ _ _. naming_bind (number_naming v h) (λ u n.
         naming_bind
         (planned_naming (λ first. bits_plan first u (size v)) (λ first. bits_some first u (size v)) (λ first new. bits_takes N first u (size v) new n)) (λ b m.
-        naming_bind (gate_naming (gates.Spread b) refl (m, tt)) (λ r k. made_naming (shape_of datatype.Bool true) (flat_map bits_of v.words) r k))))
+        made_naming (shape_of datatype.Bool true) (flat_map bits_of v.words) b m)))
 
     pub bits_naming : (w : World) (line : ℕ) → Naming N (row.bits_extracted w line v) (Names N)
     bits_naming w line = naming_bind (large_charge line (64 * size v)) (λ _ _. bits_from_naming w v.secrecy)
@@ -254,7 +280,7 @@ module _ (N : Numbers) where
     element_from_naming : (a : Secrecy) (i : ℕ) → Naming N (row.element_from a v i) (Names N)
     element_from_naming Plain i = shown_naming (shape_of v.shape.element false) (get_or v.words i 0 ∷ [])
     element_from_naming (Private k) i =
-        naming_bind (number_naming v h) (λ u n. naming_bind (gate_naming (gates.Part u i 1) refl (n, tt)) (λ r m.
+        naming_bind (number_naming v h) (λ u n. naming_bind (taken_naming v.shape.element u i n) (λ r m.
         made_naming (shape_of v.shape.element false) (get_or v.words i 0 ∷ []) r m))
 
     pub element_naming : (line : ℕ) (i : Value) → Naming N (row.element_of_array line v i) (Names N)
@@ -265,7 +291,7 @@ module _ (N : Numbers) where
     filled_from_naming : (a : Secrecy) (n : ℕ) → Naming N (row.filled_from a n v) (Names N)
     filled_from_naming Plain n = shown_naming (shape_of v.shape.element true) (replicate n (first_word v.words))
     filled_from_naming (Private k) n =
-        naming_bind (number_naming v h) (λ u f. naming_bind (gate_naming (gates.Rep u n) refl (f, tt)) (λ r m.
+        naming_bind (number_naming v h) (λ u f. naming_bind (repeated_naming v.shape.element u n f) (λ r m.
         made_naming (shape_of v.shape.element true) (replicate n (first_word v.words)) r m))
 
     pub filled_naming : (line : ℕ) (n : Value) → Naming N (row.filled line n v) (Names N)
@@ -276,7 +302,7 @@ module _ (N : Numbers) where
     handed_naming : (w : World) (a : Secrecy) → Naming N (row.handed_over w a v) (Any {A = Unit {0}})
     handed_naming w Plain = naming_done tt
     handed_naming w (Private k) =
-        naming_bind (draw_naming w (words_each (size v))) (λ _ _. naming_bind (number_naming v h) (λ u n.
+        naming_bind (draw_naming w (words_each (gate_size v.shape.element (size v)))) (λ _ _. naming_bind (number_naming v h) (λ u n.
         naming_bind (gate_naming (gates.Result (ring_for v.shape.element) u) refl (n, tt)) (λ _ _. naming_done tt)))
 
     pub published_naming : (w : World) (text : List ℕ) → Naming N (row.published w text v) (Any {A = Unit {0}})
@@ -289,9 +315,13 @@ module _ (N : Numbers) where
     both_naming shape words h =
         naming_bind (number_naming x a) (λ u m. naming_bind (number_naming y b) (λ v n. naming_bind (h u v m n) (λ r k. made_naming shape words r k)))
 
-    cat_naming : Naming N (row.number_of x >>= λ u. row.number_of y >>= λ v. gate (gates.Cat u v) >>= λ r. row.made_private x.shape (x.words ++ y.words) r)
+    cat_naming :
+        Naming N
+        (row.number_of x >>= λ u. row.number_of y >>= λ v. gate (row.joined_gate x.shape.element u (size x) v (size y)) >>= λ r.
+        row.made_private x.shape (x.words ++ y.words) r)
         (Names N)
-    cat_naming = both_naming x.shape (x.words ++ y.words) (λ u v m n. gate_naming (gates.Cat u v) refl (m, (n, tt)))
+    cat_naming = both_naming x.shape (x.words ++ y.words) (λ u v m n.
+        joined_naming x.shape.element u (size x) v (size y) m n)
 
     concatenated_from_naming : (j k : Secrecy) → Naming N (row.concatenated_from j k x y) (Names N)
     concatenated_from_naming Plain Plain = shown_naming x.shape (x.words ++ y.words)
@@ -305,7 +335,7 @@ module _ (N : Numbers) where
     with_element_from_naming : (j : Secrecy) (i : ℕ) → Naming N (row.with_element_from j x i y) (Names N)
     with_element_from_naming Plain i = shown_naming x.shape (set x.words i (first_word (visible_words y)))
     with_element_from_naming (Private k) i =
-        both_naming x.shape (set x.words i (first_word y.words)) (λ u v m n. gate_naming (gates.Put u i v) refl (m, (n, tt)))
+        both_naming x.shape (set x.words i (first_word y.words)) (λ u v m n. stored_naming x.shape.element u i v m n)
 
     pub with_element_naming : (line : ℕ) (i : Value) → Naming N (row.with_element line x i y) (Names N)
     with_element_naming line i =

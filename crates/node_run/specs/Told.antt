@@ -10,7 +10,7 @@ use Rattle.miner_text.specs.declared.line.MinerLine.TheVariants as lines
 abbrev pub line_told : Notice → MinerLine
 line_told (Shown form words) = lines.Told (Open (elements_told form words))
 line_told (Published name form words) = lines.Told (Publish name (elements_told form words))
-line_told (Handed name form words) = lines.Share (record { name = name; element = type_of form.element; words = words })
+line_told (Handed name form count words) = lines.Share (record { name = name; element = type_of form.element; count = count; words = words })
 
 -- what it told, and then how the run ended
 abbrev pub lines_told : List Notice → End → List MinerLine

@@ -14,7 +14,7 @@ use Rattle.verified_code.specs.Steps.{Function}
 use Rattle.named_values.specs.Machine.{Machine, step}
 use Rattle.driven_nodes.specs.Driven.{telling}
 use Rattle.driven_nodes.specs.Steps.{Went, On, Over, Wants, place_of, stand_of, gained, last_of}
-use Rattle.code_places.specs.Places.{Place, telling_stage, stopped, went, next_step, step_told, notices_between, where_made, told_by}
+use Rattle.code_places.specs.Places.{Place, telling_stage, stopped, went, next_step, answers_told, step_told, notices_between, where_made, told_by}
 use Rattle.code_places.proofs.Turns.{gained_more}
 use Rattle.gate_node.specs.OwnGates.{GatesEnd, Whole, Stuck, own_gates}
 use Rattle.gate_node.proofs.Always.{then-assoc, then-same}
@@ -75,8 +75,9 @@ module _ (w : World) (c : List Function) where
 
     leads : (told : List ℕ) → Leads N p (step_told w c p told)
     leads told =
-        leads_by told (step w c (next_step p.machine) p.machine (telling_stage told p.stage))
-        (step_within N w c p.machine (telling_stage told p.stage) among new)
+        let words = answers_told told (next_step p.machine) p.machine in
+        leads_by words (step w c (next_step p.machine) p.machine (telling_stage words p.stage))
+        (step_within N w c p.machine (telling_stage words p.stage) among new)
 
     leads_led : (values : Values) (z : Went Place) → step_told w c p [] ≡ z → Leads N p (led_by w c values p z)
     leads_led values (On q) is = subst (Leads N p) is (leads [])

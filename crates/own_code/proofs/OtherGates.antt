@@ -11,7 +11,7 @@ use Rattle.verified_code.specs.Steps.{Function}
 use Rattle.named_values.specs.Machine.{Machine, step}
 use Rattle.driven_nodes.specs.Driven.{telling}
 use Rattle.driven_nodes.specs.Steps.{Went, On, Over, Wants, place_of, last_of}
-use Rattle.code_places.specs.Places.{Place, telling_stage, went, next_step, step_told, notices_between}
+use Rattle.code_places.specs.Places.{Place, telling_stage, went, next_step, answers_told, step_told, notices_between}
 use Rattle.gate_node.specs.OwnGates.{GatesEnd, Whole, Stuck, own_gates}
 use Rattle.named_values.specs.Besides.{ran_behind_others}
 use Rattle.named_values.proofs.BesidesSteps.{earlier_gates_change_nothing}
@@ -58,8 +58,9 @@ module _ (before : List Gate) (p : Place) where
 
   pub step_alike : (w : World) (c : List Function) (told : List ℕ) → step_told w c other told ≡ went_behind (step_told w c p told)
   step_alike w c told =
-      ap (went p.machine) (earlier_gates_change_nothing w c p.machine (telling_stage told p.stage) before)
-      ∙ went_alike told (step w c (next_step p.machine) p.machine (telling_stage told p.stage))
+      let words = answers_told told (next_step p.machine) p.machine in
+      ap (went p.machine) (earlier_gates_change_nothing w c p.machine (telling_stage words p.stage) before)
+      ∙ went_alike words (step w c (next_step p.machine) p.machine (telling_stage words p.stage))
 
 -- from any place that such a miner goes on from
 abbrev GoesOnAlike : From Place → Type 0

@@ -10,13 +10,13 @@ use Rattle.gates.specs.declared.gate.Gate.{Gate}
 use Rattle.gates.specs.declared.gate.Gate.TheVariants.{Const, Open}
 use Rattle.language_model.specs.Effects.{Words, World, Source, Clear, Answers, Stage, RunStop, Ended, Short, Run, Effect, ◌>>=◌, carry, done, charge}
 use Rattle.language_model.specs.Effects.{words_each, fits, drawn_yet, draw, gate, answer, emit, show}
-use Rattle.language_model.specs.Values.{Secrecy, Plain, Private, Value, plain, size, ring_for, elements_of}
+use Rattle.language_model.specs.Values.{Secrecy, Plain, Private, Value, plain, size, ring_for, gate_words, gate_size, elements_of}
 use Rattle.named_values.specs.Courses.{IsEnded}
 use Rattle.language_model.specs.Operations.{charged, no_traps, number_from, read_answer, revealed, opened_from, declassified}
 use Rattle.verified_code.specs.Steps.{Function}
 use Rattle.named_values.specs.Machine.{Machine, next, step}
 use Rattle.driven_nodes.specs.Steps.{Went, On, Over, Wants, place_of}
-use Rattle.code_places.specs.Places.{Place, telling_stage, stopped, went, next_step, step_told}
+use Rattle.code_places.specs.Places.{Place, telling_stage, stopped, went, next_step, answers_told, step_told}
 use Rattle.code_places.specs.Laws.{stage_behind}
 use Rattle.code_places.proofs.Quiet.{KeptAt, Quiet}
 use Rattle.code_places.proofs.QuietSteps.{IsOpening, quiet_or_opening}
@@ -143,7 +143,8 @@ module _ (w : World) (v : Value) where
   opened_same : (x : Secrecy) → SameGates (opened_from w x v)
   opened_same Plain = record { from = λ s told. refl }
   opened_same (Private k) =
-      same_bind (deaf_draw w (words_each (size v))) (λ _. same_bind (deaf_number v.secrecy v.words) (λ u.
+      same_bind (deaf_draw w (words_each (gate_size v.shape.element (size v)))) (λ _.
+      same_bind (deaf_number v.secrecy (gate_words v.shape.element v.words)) (λ u.
       same_bind (deaf_gate (Open (ring_for v.shape.element) u)) (λ _. revealed_same)))
 
   declassified_same : SameGates (declassified w v)
@@ -152,8 +153,11 @@ module _ (w : World) (v : Value) where
 -- ---- A STEP
 
 module _ (w : World) (c : List Function) (p : Place) where
+  abbrev heard : List ℕ → Stage
+  heard told = telling_stage (answers_told told (next_step p.machine) p.machine) p.stage
+
   abbrev run_told : List ℕ → Run Machine
-  run_told told = step w c (next_step p.machine) p.machine (telling_stage told p.stage)
+  run_told told = step w c (next_step p.machine) p.machine (heard told)
 
   stopped_gates : (m : Machine) (u : Stage) (stop : RunStop) → (place_of (stopped m u stop)).stage.gates ≡ u.gates
   stopped_gates m u (Ended e) = refl
@@ -185,7 +189,8 @@ module _ (w : World) (c : List Function) (p : Place) where
       by (inl q) = never_wants h (run_told []) (q.from (telling_stage [] p.stage)) is
       by (inr i) =
           went_gates (run_told told)
-          ∙ subst (λ o. gates_behind (step w c o p.machine (telling_stage told p.stage)) ≡ gates_behind (step w c o p.machine (telling_stage [] p.stage)))
-          (sym i.2) ((same_then (λ v. next i.0 v p.machine) (declassified_same w (p.machine.registers i.1))).from p.stage told)
+          ∙ subst (λ o. gates_behind (step w c o p.machine (heard told)) ≡ gates_behind (step w c o p.machine (telling_stage [] p.stage)))
+          (sym i.2) ((same_then (λ v. next i.0 v p.machine) (declassified_same w (p.machine.registers i.1))).from p.stage
+          (answers_told told (next_step p.machine) p.machine))
           ∙ sym (went_gates (run_told []))
           ∙ ap (λ (z : Went Place). (place_of z).stage.gates) is

@@ -16,6 +16,7 @@ use Rattle.input_share.specs.declared.entry.ShareEntry.{ShareEntry}
 use Rattle.tape_file.specs.Tapes.{FourTapes}
 pub use Rattle.tape_file.specs.Tapes.{lengths_of}
 use Rattle.program_trees.specs.TypedPrograms.{TypedProgramTree}
+use Rattle.language_model.specs.Learned.{learned_of}
 use Rattle.language_model.specs.Effects.{Answers, RunStop, Ended, Short}
 use Rattle.language_model.specs.Reports.{Report, world_of, eval, evaluated}
 use Rattle.clear_eval.specs.Offers.{offered, offered_part}
@@ -94,9 +95,9 @@ hidden_need (entry ∷ entries) = hidden_draws entry.value + hidden_need entries
 abbrev pub can_deal : List PublicEntry → FourTapes → Bool
 can_deal part s = nat_le (hidden_need part) (length s.dealer)
 
--- the words that the run took of those it was told are what is opened
+-- the words that its gates open are those that the run took of what it was told
 abbrev pub made_of : Number → List PublicEntry → FourTapes → Delivery → Report → Seen
-made_of i part s delivery r = if can_deal part s then made_for i part r.gates r.opened s delivery else nothing_seen
+made_of i part s delivery r = if can_deal part s then made_for i part r.gates (learned_of r.events) s delivery else nothing_seen
 
 abbrev pub simulated : Number → TypedProgramTree → List PublicEntry → (opened : List ℕ) → FourTapes → (budget : ℕ) → Delivery → Option View
 simulated i p part opened s budget delivery =

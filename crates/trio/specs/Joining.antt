@@ -26,10 +26,10 @@ pub record Difference : Type 0 where
 
 -- ---- which lines are alike
 
--- alike in all but their words, of which there are as many
+-- alike in all but their words: of as many elements, and as many words
 abbrev pub same_form : ResultShare → ResultShare → Bool
 same_form s t =
-    bytes_eq s.name t.name && bytes_eq (type_word s.element) (type_word t.element) && (length s.words == length t.words)
+    bytes_eq s.name t.name && bytes_eq (type_word s.element) (type_word t.element) && (s.count == t.count) && (length s.words == length t.words)
 
 abbrev pub same_text : MinerLine → MinerLine → Bool
 same_text l m = bytes_eq (line_text l) (line_text m)
@@ -59,7 +59,7 @@ first_difference k l second third = option_or (differs k l second) (differs k l 
 
 -- the elements of the value of which three miners have these shares
 abbrev pub elements_added : ResultShare → (second third : List ℕ) → List Element
-elements_added s second third = map (element_of s.element) (all_added_up (field_of s.element) s.words second third)
+elements_added s second third = map (element_of s.element) (all_added_up (field_of s.element) s.count s.words second third)
 
 -- a share is published as this value; another line stands as it is
 abbrev pub joined_line : MinerLine → (second third : List ℕ) → List ℕ

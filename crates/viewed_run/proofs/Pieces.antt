@@ -13,7 +13,7 @@ pub shown_append : (ns ms : List Notice) → shown_in (ns ++ ms) ≡ shown_in ns
 shown_append [] ms = refl
 shown_append (Shown form words ∷ ns) ms = ap (λ (shown : List (List Element)). elements_told form words ∷ shown) (shown_append ns ms)
 shown_append (Published name form words ∷ ns) ms = shown_append ns ms
-shown_append (Handed name form words ∷ ns) ms = shown_append ns ms
+shown_append (Handed name form count words ∷ ns) ms = shown_append ns ms
 
 pub told_type : (t : DataType) → type_of (field_of t) ≡ t
 told_type Uint64 = refl

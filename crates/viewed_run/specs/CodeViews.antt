@@ -35,7 +35,7 @@ abbrev pub shown_in : List Notice → List (List Element)
 shown_in [] = []
 shown_in (Shown form words ∷ notices) = elements_told form words ∷ shown_in notices
 shown_in (Published name form words ∷ notices) = shown_in notices
-shown_in (Handed name form words ∷ notices) = shown_in notices
+shown_in (Handed name form count words ∷ notices) = shown_in notices
 
 module _ (i : Number) (p : TypedProgramTree) (entries : List Entry) (t : FourTapes) (budget : ℕ) (delivery : Delivery) where
   -- three miners, each by its own shares and tape, with the code of these instances
