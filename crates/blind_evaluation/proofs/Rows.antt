@@ -165,7 +165,7 @@ element_alike line {v' = v'} {i = i} l m =
 with_element_private : (k : Option ℕ) (i : ℕ) {v v' x x' : Value} → LikeValues v v' → LikeValues x x'
     → Alike LikeValues (with_element_from (Private k) v i x) (with_element_from (Private k) v' i x')
 with_element_private k i {v = v} {v' = v'} {x = x} {x' = x'} l m =
-    same_bind (value_number_alike l) (λ u. same_bind (value_number_alike m) (λ e. 
+    same_bind (value_number_alike l) (λ u. same_bind (value_number_alike m) (λ e.
     same_bind (gate_equal (ap (λ (s : Shape). stored_gate s.element u i e) (like_shape l))) (λ r.
     result_alike (like_shape l) (set_length i (first_word x.words) (first_word x'.words) v.words v'.words (like_size l)) r)))
 

@@ -12,7 +12,7 @@ use Rattle.program_trees.specs.declared.kinds.Shape.{Shape}
 use Rattle.program_trees.specs.Shapes.{shape_of}
 use Rattle.language_model.specs.Effects.{World, GivenInput, Effect, ◌>>=◌, done, draw, test, gate, emit, words_each}
 use Rattle.language_model.specs.Values.{Secrecy, Plain, Private, Value, plain, size, ring_for, gate_words, gate_size, elements_of, is_true}
-use Rattle.language_model.specs.Operations.{number_of, handed_over, published, tested, asserted}
+use Rattle.language_model.specs.Operations.{number_of, handed_over, publication, published, tested, asserted}
 use Rattle.language_model.specs.Evaluation.{same_truth, same_shape, is_as_declared, behind, input_from, input_named, given_value, asked_for}
 use Rattle.gates.specs.declared.ring_kind.RingKind.{RingKind}
 use Rattle.gates.specs.declared.gate.Gate.{Gate}
@@ -32,7 +32,7 @@ use Rattle.gate_laws.proofs.Gains.{fact, gate_from, opened_split, handed_split}
 use Rattle.gate_laws.proofs.Singles.{result_follows, input_gain}
 use Rattle.gate_laws.proofs.Parts.{tell_same, tell_none, tell_first, charged_suits, plain_charge, number_suits, given_suits, shown_suits}
 use Rattle.gate_laws.proofs.Ranges.{one_below}
-use Rattle.gate_laws.proofs.GateWords.{gate_words_size, learned_published}
+use Rattle.gate_laws.proofs.GateWords.{gate_words_size, learned_still}
 use Rattle.gate_laws.proofs.Operators.{same_each}
 
 -- ---- literals
@@ -84,7 +84,8 @@ module _ (w : World) (d : Dealt) where
                       (ap (λ z. handed_values values s.gates ++ z ∷ []) (sym (h.words values (before values fit))) ∙ sym (handed_split values s.gates gs))
                       (and_handed text v.shape.element v.words p.range (at.handed values (before values fit)));
                   opened = λ clear values fit.
-                      learned_published s.events text (elements_of v) ∙ at.opened clear values (before values fit) ∙ sym (append-nil (opened_values values s.gates)) ∙ sym (opened_split values s.gates gs);
+                      learned_still s.events (event.Hand text (elements_of v)) refl ∙ at.opened clear values (before values fit)
+                      ∙ sym (append-nil (opened_values values s.gates)) ∙ sym (opened_split values s.gates gs);
                 };
                 facts = tt;
                 sure = tt;
