@@ -50,13 +50,16 @@ module _ (w : World) (d : Dealt) where
     abbrev own_words : List ℕ
     own_words = gate_words v.shape.element v.words
 
+    abbrev own_size : ℕ
+    own_size = gate_size v.shape.element (size v)
+
     abbrev telling : Secrecy → List ℕ → Unit {0} → Effect (Unit {0})
     telling a text = λ _. emit (publication a text (elements_of v))
 
     -- the gate, and then the event
     handing_suits : (fs : List Fact) (k : Option ℕ) (text : List ℕ) (u : ℕ) → Tell fs (fact u ring own_words ∷ [])
-        → Suits w d fs (drawn_by (words_each (gate_size v.shape.element (size v)))) ((gate (gates.Result ring u) >>= λ _. done tt) >>= telling (Private k) text) none_of (NoFacts {A = Unit {0}})
-        (Any {A = Unit {0}})
+        → Suits w d fs (drawn_by (words_each own_size)) ((gate (gates.Result ring u) >>= λ _. done tt) >>= telling (Private k) text) none_of
+        (NoFacts {A = Unit {0}}) (Any {A = Unit {0}})
     handing_suits fs k text u t =
         record {
           from = λ kinds s at facts.
@@ -75,7 +78,7 @@ module _ (w : World) (d : Dealt) where
                   made = let e = made-then s.gates gs in omega (arith, at.made);
                   drawn = λ i.
                       let more = words-then run gs own taken at.formed follows i in
-                      let owed = same_each (gate_size v.shape.element (size v)) (miner_of i) in
+                      let owed = same_each own_size (miner_of i) in
                       let own = gate_words_size v.shape.element v.words in
                       omega (arith, at.drawn i, owed, own);
                   answers = at.answers;
@@ -98,9 +101,9 @@ module _ (w : World) (d : Dealt) where
         suits_bind w d (suits_done w d {F = NoFacts {A = Unit {0}}} {R = Any {A = Unit {0}}} (tell_none (facts_of v)) tt)
         (λ _ _. publish_suits w d (facts_of v) none_of text (elements_of v))
     handed_suits text (Private k) =
-        let owed = drawn_by (words_each (gate_size v.shape.element (size v))) in
-        suits_again w d (draw w (words_each (gate_size v.shape.element (size v)))) (λ _. number_of v >>= λ u. gate (gates.Result ring u) >>= λ _. done tt) (telling (Private k) text)
-        (suits_bind w d (draw_suits w d (facts_of v) (words_each (gate_size v.shape.element (size v)))) (λ _ _.
+        let owed = drawn_by (words_each own_size) in
+        suits_again w d (draw w (words_each own_size)) (λ _. number_of v >>= λ u. gate (gates.Result ring u) >>= λ _. done tt) (telling (Private k) text)
+        (suits_bind w d (draw_suits w d (facts_of v) (words_each own_size)) (λ _ _.
         suits_again w d (number_of v) (λ u. gate (gates.Result ring u) >>= λ _. done tt) (telling (Private k) text)
         (suits_bind w d (number_suits w d (facts_of v) owed v (tell_same (facts_of v)) p.range) (λ u _.
         handing_suits (fact u ring own_words ∷ facts_of v) k text u (tell_first _ _)))))

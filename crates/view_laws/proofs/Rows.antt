@@ -26,7 +26,8 @@ use Rattle.language_model.specs.Effects.{World, GivenInput, Source, Clear, Answe
 use Rattle.language_model.specs.Values.{Secrecy, Plain, Private, Value, plain, hidden, size, visible_words, gate_words, gate_size, elements_of}
 use Rattle.language_model.specs.Words.{flipped, result_size, are_alike, may_divide}
 use Rattle.language_model.specs.Operations.{no_traps, made_private, read_answer, words_of_operator, is_scalar_left, is_scalar_right, number_from, number_of}
-use Rattle.language_model.specs.Operations.{classified_from, classified, revealed, opened_from, declassified, stretched, flip, zero_gates, equal_gates, less_gates}
+use Rattle.language_model.specs.Operations.{classified_from, classified, revealed, opened_from, declassified, stretched, flip}
+use Rattle.language_model.specs.Operations.{zero_gates, equal_gates, less_gates}
 use Rattle.language_model.specs.Operations.{operator_gates, private_result, product_with, combined_from, operator_traps, operated}
 use Rattle.language_model.specs.Operations.{words_of_cast, words_for_bits, not_too_large}
 use Rattle.language_model.specs.Operations.{negated_from, negated, cast_gates, changed, cast_from, cast_to, size_told, summed_from, summed, bits_from}
