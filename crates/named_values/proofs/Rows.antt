@@ -195,7 +195,8 @@ module _ (N : Numbers) where
     private_naming =
         let n = W.result_size ds x y in
         naming_bind (draw_naming w (row.words_of_operator op n)) (λ _ _. naming_bind (number_naming x a) (λ i f. naming_bind (number_naming y b) (λ j g.
-        naming_bind (stretched_naming x.shape.element (row.is_scalar_left ds) n i f) (λ u h. naming_bind (stretched_naming y.shape.element (row.is_scalar_right ds) n j g) (λ v k.
+        naming_bind (stretched_naming x.shape.element (row.is_scalar_left ds) n i f) (λ u h.
+        naming_bind (stretched_naming y.shape.element (row.is_scalar_right ds) n j g) (λ v k.
         naming_bind (operator_naming n u v h k op) (λ r m. made_naming (row.result_shape op ds) (W.result_words op ds x y) r m))))))
 
     product_naming : (scalar : Bool) (z : Value) (known words : List ℕ) → Names N z → Naming N (row.product_with op ds scalar z known words) (Names N)
