@@ -6,11 +6,13 @@
 #![tactic(auto)]
 
 mod operators;
+mod packing;
 mod pairs;
 mod printing;
 mod words;
 
 pub use operators::{operation, truth_operation, word_operation};
+pub use packing::{gate_size, gate_words, into_gate_words};
 pub use pairs::{each, each_and_scalar, may_divide, scalar_and_each};
 pub use printing::elements;
 pub use words::{bits, cast_words, first_word, flipped, low_bits, repeated, wrapping_sum};
