@@ -2,7 +2,7 @@
 //!
 //! What each operator means stands in `specs/` of `language_model`. A word is any `u64`; a truth value is the word 1 or 0. Every
 //! call has a result for all words; what makes a list answers `AllocError` where memory runs out. Each takes time linear in its
-//! lists and its result.
+//! lists and its result. In the gates of a run private truth values stand packed, 64 in a word.
 #![tactic(auto)]
 
 mod operators;
