@@ -48,7 +48,10 @@ fn listed() -> [Gate; 8] {
             index: 1,
             element: 4,
         },
-        Gate::Spread { operand: 5 },
+        Gate::Unpack {
+            operand: 5,
+            count: 128,
+        },
         Gate::Part {
             operand: 6,
             from: 0,
