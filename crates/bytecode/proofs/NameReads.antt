@@ -162,38 +162,38 @@ nothing_left [] h = refl
 nothing_left (x ∷ xs) h = absurd (omega (arith, h))
 
 abbrev then_bodies : Counting → List Head → RawFunction → List ℕ → Read (List RawFunction)
-then_bodies counts hs f rest = carry (read (bodies_layout counts hs) rest) (λ fs left. Ok (f ∷ fs, left))
+then_bodies rule hs f rest = carry (read (bodies_layout rule hs) rest) (λ fs left. Ok (f ∷ fs, left))
 
-bodies_step : (counts : Counting) (h : Head) (hs : List Head) (t : List ℕ)
-    → read (bodies_layout counts (h ∷ hs)) t ≡ carry (read (function_layout counts h) t) (then_bodies counts hs)
-bodies_step counts h hs t =
-    read_behind (body_layout counts h.instructions) next t ∙ go (read (body_layout counts h.instructions) t)
-    ∙ ap (λ r. carry r (then_bodies counts hs)) (sym (read_behind (body_layout counts h.instructions) (λ is. Makes (function_of h is)) t))
+bodies_step : (rule : Counting) (h : Head) (hs : List Head) (t : List ℕ)
+    → read (bodies_layout rule (h ∷ hs)) t ≡ carry (read (function_layout rule h) t) (then_bodies rule hs)
+bodies_step rule h hs t =
+    read_behind (body_layout rule h.instructions) next t ∙ go (read (body_layout rule h.instructions) t)
+    ∙ ap (λ r. carry r (then_bodies rule hs)) (sym (read_behind (body_layout rule h.instructions) (λ is. Makes (function_of h is)) t))
   where
     next : List Raw → Layout (List RawFunction)
-    next is = behind (bodies_layout counts hs) (λ fs. Makes (function_of h is ∷ fs))
+    next is = behind (bodies_layout rule hs) (λ fs. Makes (function_of h is ∷ fs))
 
-    go : (r : Read (List Raw)) → carry r (λ is rest. read (next is) rest) ≡ carry (carry r (λ is rest. Ok (function_of h is, rest))) (then_bodies counts hs)
+    go : (r : Read (List Raw)) → carry r (λ is rest. read (next is) rest) ≡ carry (carry r (λ is rest. Ok (function_of h is, rest))) (then_bodies rule hs)
     go (Err e) = refl
-    go (Ok y) = read_behind (bodies_layout counts hs) (λ fs. Makes (function_of h y.0 ∷ fs)) y.1
+    go (Ok y) = read_behind (bodies_layout rule hs) (λ fs. Makes (function_of h y.0 ∷ fs)) y.1
 
-pub bodies_begin : (counts : Counting) (hs : List Head) (t : List ℕ) → read (bodies_layout counts hs) t ≡ after [] (read (bodies_layout counts hs) t)
-bodies_begin counts hs t = after_nothing (read (bodies_layout counts hs) t)
+pub bodies_begin : (rule : Counting) (hs : List Head) (t : List ℕ) → read (bodies_layout rule hs) t ≡ after [] (read (bodies_layout rule hs) t)
+bodies_begin rule hs t = after_nothing (read (bodies_layout rule hs) t)
 
-pub bodies_more : (counts : Counting) (all hs : List Head) (h : Head) (fs : List RawFunction) (f : RawFunction) (t left : List ℕ)
+pub bodies_more : (rule : Counting) (all hs : List Head) (h : Head) (fs : List RawFunction) (f : RawFunction) (t left : List ℕ)
     (r : Read (List RawFunction)) → all ≡ h ∷ hs
-    → read (function_layout counts h) t ≡ Ok (f, left) → r ≡ after fs (read (bodies_layout counts all) t) → r ≡ after (fs ++ f ∷ []) (read (bodies_layout counts hs) left)
-bodies_more counts all hs h fs f t left r a e q =
-    q ∙ ap (λ z. after fs (read (bodies_layout counts z) t)) a ∙ ap (after fs) (bodies_step counts h hs t ∙ ap (λ r. carry r (then_bodies counts hs)) e)
-    ∙ after_step fs f (read (bodies_layout counts hs) left)
+    → read (function_layout rule h) t ≡ Ok (f, left) → r ≡ after fs (read (bodies_layout rule all) t) → r ≡ after (fs ++ f ∷ []) (read (bodies_layout rule hs) left)
+bodies_more rule all hs h fs f t left r a e q =
+    q ∙ ap (λ z. after fs (read (bodies_layout rule z) t)) a ∙ ap (after fs) (bodies_step rule h hs t ∙ ap (λ r. carry r (then_bodies rule hs)) e)
+    ∙ after_step fs f (read (bodies_layout rule hs) left)
 
-pub bodies_stop : (counts : Counting) (all hs : List Head) (h : Head) (fs : List RawFunction) (t : List ℕ) (r : Read (List RawFunction)) (e : Stopped) → all ≡ h ∷ hs
-    → Stops (read (function_layout counts h) t) e → r ≡ after fs (read (bodies_layout counts all) t) → Stops r e
-bodies_stop counts all hs h fs t r e a s q =
-    subst (λ r. Stops r e) (sym (q ∙ ap (λ z. after fs (read (bodies_layout counts z) t)) a ∙ ap (after fs) (bodies_step counts h hs t)))
-    (stops_carry (carry (read (function_layout counts h) t) (then_bodies counts hs)) (λ ys rest. Ok (fs ++ ys, rest)) e
-    (stops_carry (read (function_layout counts h) t) (then_bodies counts hs) e s))
+pub bodies_stop : (rule : Counting) (all hs : List Head) (h : Head) (fs : List RawFunction) (t : List ℕ) (r : Read (List RawFunction)) (e : Stopped) → all ≡ h ∷ hs
+    → Stops (read (function_layout rule h) t) e → r ≡ after fs (read (bodies_layout rule all) t) → Stops r e
+bodies_stop rule all hs h fs t r e a s q =
+    subst (λ r. Stops r e) (sym (q ∙ ap (λ z. after fs (read (bodies_layout rule z) t)) a ∙ ap (after fs) (bodies_step rule h hs t)))
+    (stops_carry (carry (read (function_layout rule h) t) (then_bodies rule hs)) (λ ys rest. Ok (fs ++ ys, rest)) e
+    (stops_carry (read (function_layout rule h) t) (then_bodies rule hs) e s))
 
-pub bodies_end : (counts : Counting) (all : List Head) (fs : List RawFunction) (t : List ℕ) (r : Read (List RawFunction)) → all ≡ []
-    → r ≡ after fs (read (bodies_layout counts all) t) → r ≡ Ok (fs, t)
-bodies_end counts all fs t r a q = q ∙ ap (λ z. after fs (read (bodies_layout counts z) t)) a ∙ ap (λ z. Ok (z, t)) (append-nil fs)
+pub bodies_end : (rule : Counting) (all : List Head) (fs : List RawFunction) (t : List ℕ) (r : Read (List RawFunction)) → all ≡ []
+    → r ≡ after fs (read (bodies_layout rule all) t) → r ≡ Ok (fs, t)
+bodies_end rule all fs t r a q = q ∙ ap (λ z. after fs (read (bodies_layout rule z) t)) a ∙ ap (λ z. Ok (z, t)) (append-nil fs)

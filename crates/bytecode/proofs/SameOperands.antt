@@ -37,30 +37,30 @@ IsPlain tags.Call = ⊥
 IsPlain tags.Return = Unit {0}
 IsPlain tags.ReturnNone = Unit {0}
 
-pub same_operands : (counts : Counting) (tag : Tag) → IsPlain tag → operands_of tag ≡ operands counts (tag_byte tag)
-same_operands counts tags.Literal h = refl
-same_operands counts tags.Move h = refl
-same_operands counts tags.Store h = refl
-same_operands counts tags.Binary h = refl
-same_operands counts tags.Not h = refl
-same_operands counts tags.Cast h = refl
-same_operands counts tags.Classify h = refl
-same_operands counts tags.Fill h = refl
-same_operands counts tags.At h = refl
-same_operands counts tags.Put h = refl
-same_operands counts tags.Size h = refl
-same_operands counts tags.Cat h = refl
-same_operands counts tags.Sum h = refl
-same_operands counts tags.Bits h = refl
-same_operands counts tags.Declassify h = refl
-same_operands counts tags.Argument h = refl
-same_operands counts tags.Publish h = refl
-same_operands counts tags.Assert h = refl
-same_operands counts tags.Branch h = refl
-same_operands counts tags.Jump h = refl
-same_operands counts tags.Call h = absurd h
-same_operands counts tags.Return h = refl
-same_operands counts tags.ReturnNone h = refl
+pub same_operands : (rule : Counting) (tag : Tag) → IsPlain tag → operands_of tag ≡ operands rule (tag_byte tag)
+same_operands rule tags.Literal h = refl
+same_operands rule tags.Move h = refl
+same_operands rule tags.Store h = refl
+same_operands rule tags.Binary h = refl
+same_operands rule tags.Not h = refl
+same_operands rule tags.Cast h = refl
+same_operands rule tags.Classify h = refl
+same_operands rule tags.Fill h = refl
+same_operands rule tags.At h = refl
+same_operands rule tags.Put h = refl
+same_operands rule tags.Size h = refl
+same_operands rule tags.Cat h = refl
+same_operands rule tags.Sum h = refl
+same_operands rule tags.Bits h = refl
+same_operands rule tags.Declassify h = refl
+same_operands rule tags.Argument h = refl
+same_operands rule tags.Publish h = refl
+same_operands rule tags.Assert h = refl
+same_operands rule tags.Branch h = refl
+same_operands rule tags.Jump h = refl
+same_operands rule tags.Call h = absurd h
+same_operands rule tags.Return h = refl
+same_operands rule tags.ReturnNone h = refl
 
 -- seven operands with these flags
 abbrev pub flagged : Tag → (b0 b1 b2 b3 b4 b5 b6 : Bool) → Layout Raw
@@ -180,42 +180,42 @@ abbrev arguments : ℕ → ℕ → ℕ → Layout Raw
 arguments f d n = behind (repeated short_layout n) (last f d)
 
 abbrev with_count : Counting → ℕ → ℕ → Layout Raw
-with_count counts f d = behind (argument_count counts f) (arguments f d)
+with_count rule f d = behind (argument_count rule f) (arguments f d)
 
 abbrev result : Counting → ℕ → Layout Raw
-result counts f = behind short_layout (with_count counts f)
+result rule f = behind short_layout (with_count rule f)
 
-to_count : (counts : Counting) (f d : ℕ) (t0 t1 t2 : List ℕ) → read short_layout t0 ≡ Ok (f, t1) → read short_layout t1 ≡ Ok (d, t2)
-    → read (operands counts 0x16) t0 ≡ read (with_count counts f d) t2
-to_count counts f d t0 t1 t2 e0 e1 = step_ok short_layout (result counts) t0 f t1 e0 ∙ step_ok short_layout (with_count counts f) t1 d t2 e1
+to_count : (rule : Counting) (f d : ℕ) (t0 t1 t2 : List ℕ) → read short_layout t0 ≡ Ok (f, t1) → read short_layout t1 ≡ Ok (d, t2)
+    → read (operands rule 0x16) t0 ≡ read (with_count rule f d) t2
+to_count rule f d t0 t1 t2 e0 e1 = step_ok short_layout (result rule) t0 f t1 e0 ∙ step_ok short_layout (with_count rule f) t1 d t2 e1
 
-to_arguments : (counts : Counting) (f d n : ℕ) (t0 t1 t2 t3 : List ℕ) → read short_layout t0 ≡ Ok (f, t1) → read short_layout t1 ≡ Ok (d, t2)
-    → read (argument_count counts f) t2 ≡ Ok (n, t3) → read (operands counts 0x16) t0 ≡ read (arguments f d n) t3
-to_arguments counts f d n t0 t1 t2 t3 e0 e1 e2 = to_count counts f d t0 t1 t2 e0 e1 ∙ step_ok (argument_count counts f) (arguments f d) t2 n t3 e2
+to_arguments : (rule : Counting) (f d n : ℕ) (t0 t1 t2 t3 : List ℕ) → read short_layout t0 ≡ Ok (f, t1) → read short_layout t1 ≡ Ok (d, t2)
+    → read (argument_count rule f) t2 ≡ Ok (n, t3) → read (operands rule 0x16) t0 ≡ read (arguments f d n) t3
+to_arguments rule f d n t0 t1 t2 t3 e0 e1 e2 = to_count rule f d t0 t1 t2 e0 e1 ∙ step_ok (argument_count rule f) (arguments f d) t2 n t3 e2
 
-pub call_ok : (counts : Counting) (f d n : ℕ) (xs : List ℕ) (line : ℕ) (t0 t1 t2 t3 t4 t5 : List ℕ) → read short_layout t0 ≡ Ok (f, t1)
-    → read short_layout t1 ≡ Ok (d, t2) → read (argument_count counts f) t2 ≡ Ok (n, t3)
+pub call_ok : (rule : Counting) (f d n : ℕ) (xs : List ℕ) (line : ℕ) (t0 t1 t2 t3 t4 t5 : List ℕ) → read short_layout t0 ≡ Ok (f, t1)
+    → read short_layout t1 ≡ Ok (d, t2) → read (argument_count rule f) t2 ≡ Ok (n, t3)
     → read (repeated short_layout n) t3 ≡ Ok (xs, t4) → read line_layout t4 ≡ Ok (line, t5)
-    → read (operands counts 0x16) t0 ≡ Ok (Call f d xs line, t5)
-call_ok counts f d n xs line t0 t1 t2 t3 t4 t5 e0 e1 e2 e3 e4 =
-    to_arguments counts f d n t0 t1 t2 t3 e0 e1 e2
+    → read (operands rule 0x16) t0 ≡ Ok (Call f d xs line, t5)
+call_ok rule f d n xs line t0 t1 t2 t3 t4 t5 e0 e1 e2 e3 e4 =
+    to_arguments rule f d n t0 t1 t2 t3 e0 e1 e2
     ∙ step_ok (repeated short_layout n) (last f d) t3 xs t4 e3 ∙ step_ok line_layout (λ line. Makes (Call f d xs line)) t4 line t5 e4
 
-pub call_stops_at_count : (counts : Counting) (f d : ℕ) (t0 t1 t2 : List ℕ) (e : Stopped) → read short_layout t0 ≡ Ok (f, t1)
+pub call_stops_at_count : (rule : Counting) (f d : ℕ) (t0 t1 t2 : List ℕ) (e : Stopped) → read short_layout t0 ≡ Ok (f, t1)
     → read short_layout t1 ≡ Ok (d, t2)
-    → Stops (read (argument_count counts f) t2) e → Stops (read (operands counts 0x16) t0) e
-call_stops_at_count counts f d t0 t1 t2 e e0 e1 s =
-    subst (λ r. Stops r e) (sym (to_count counts f d t0 t1 t2 e0 e1)) (step_stops (argument_count counts f) (arguments f d) t2 e s)
+    → Stops (read (argument_count rule f) t2) e → Stops (read (operands rule 0x16) t0) e
+call_stops_at_count rule f d t0 t1 t2 e e0 e1 s =
+    subst (λ r. Stops r e) (sym (to_count rule f d t0 t1 t2 e0 e1)) (step_stops (argument_count rule f) (arguments f d) t2 e s)
 
-pub call_stops_at_arguments : (counts : Counting) (f d n : ℕ) (t0 t1 t2 t3 : List ℕ) (e : Stopped) → read short_layout t0 ≡ Ok (f, t1)
-    → read short_layout t1 ≡ Ok (d, t2) → read (argument_count counts f) t2 ≡ Ok (n, t3)
-    → Stops (read (repeated short_layout n) t3) e → Stops (read (operands counts 0x16) t0) e
-call_stops_at_arguments counts f d n t0 t1 t2 t3 e e0 e1 e2 s =
-    subst (λ r. Stops r e) (sym (to_arguments counts f d n t0 t1 t2 t3 e0 e1 e2)) (step_stops (repeated short_layout n) (last f d) t3 e s)
+pub call_stops_at_arguments : (rule : Counting) (f d n : ℕ) (t0 t1 t2 t3 : List ℕ) (e : Stopped) → read short_layout t0 ≡ Ok (f, t1)
+    → read short_layout t1 ≡ Ok (d, t2) → read (argument_count rule f) t2 ≡ Ok (n, t3)
+    → Stops (read (repeated short_layout n) t3) e → Stops (read (operands rule 0x16) t0) e
+call_stops_at_arguments rule f d n t0 t1 t2 t3 e e0 e1 e2 s =
+    subst (λ r. Stops r e) (sym (to_arguments rule f d n t0 t1 t2 t3 e0 e1 e2)) (step_stops (repeated short_layout n) (last f d) t3 e s)
 
-pub call_stops_at_line : (counts : Counting) (f d n : ℕ) (xs : List ℕ) (t0 t1 t2 t3 t4 : List ℕ) (e : Stopped) → read short_layout t0 ≡ Ok (f, t1)
-    → read short_layout t1 ≡ Ok (d, t2) → read (argument_count counts f) t2 ≡ Ok (n, t3)
-    → read (repeated short_layout n) t3 ≡ Ok (xs, t4) → Stops (read line_layout t4) e → Stops (read (operands counts 0x16) t0) e
-call_stops_at_line counts f d n xs t0 t1 t2 t3 t4 e e0 e1 e2 e3 s =
-    subst (λ r. Stops r e) (sym (to_arguments counts f d n t0 t1 t2 t3 e0 e1 e2 ∙ step_ok (repeated short_layout n) (last f d) t3 xs t4 e3))
+pub call_stops_at_line : (rule : Counting) (f d n : ℕ) (xs : List ℕ) (t0 t1 t2 t3 t4 : List ℕ) (e : Stopped) → read short_layout t0 ≡ Ok (f, t1)
+    → read short_layout t1 ≡ Ok (d, t2) → read (argument_count rule f) t2 ≡ Ok (n, t3)
+    → read (repeated short_layout n) t3 ≡ Ok (xs, t4) → Stops (read line_layout t4) e → Stops (read (operands rule 0x16) t0) e
+call_stops_at_line rule f d n xs t0 t1 t2 t3 t4 e e0 e1 e2 e3 s =
+    subst (λ r. Stops r e) (sym (to_arguments rule f d n t0 t1 t2 t3 e0 e1 e2 ∙ step_ok (repeated short_layout n) (last f d) t3 xs t4 e3))
     (step_stops line_layout (λ line. Makes (Call f d xs line)) t4 e s)

@@ -55,7 +55,7 @@ argument_count Counted f = short_layout
 
 -- the operands after a tag
 abbrev pub operands : Counting → ℕ → Layout Raw
-operands counts tag =
+operands rule tag =
     if tag == 0x01 then short_field (λ d. Field BadTag 8 any (λ x. Makes (Literal d x)))
     else if tag == 0x02 then pair_layout Move
     else if tag == 0x03 then pair_layout Store
@@ -76,15 +76,15 @@ operands counts tag =
     else if tag == 0x12 then short_field (λ r. line_field (λ line. Makes (Assert r line)))
     else if tag == 0x13 then short_field (λ r. Field BadTag 1 is_truth (λ v. short_field (λ target. Makes (Branch r v target))))
     else if tag == 0x14 then short_field (λ target. Makes (Jump target))
-    else if tag == 0x16 then short_field (λ f. short_field (λ d. behind (argument_count counts f) (λ n. shorts n (λ xs. line_field (λ line. Makes (Call f d xs line))))))
+    else if tag == 0x16 then short_field (λ f. short_field (λ d. behind (argument_count rule f) (λ n. shorts n (λ xs. line_field (λ line. Makes (Call f d xs line))))))
     else if tag == 0x17 then short_field (λ r. Makes (Return r))
     else Makes ReturnNone
 
 abbrev pub instruction_layout : Counting → Layout Raw
-instruction_layout counts = Field BadTag 1 is_tag (operands counts)
+instruction_layout rule = Field BadTag 1 is_tag (operands rule)
 
 abbrev pub body_layout : Counting → ℕ → Layout (List Raw)
-body_layout counts = repeated (instruction_layout counts)
+body_layout rule = repeated (instruction_layout rule)
 
 -- ---- what stands before the bodies
 
@@ -119,8 +119,8 @@ abbrev pub function_of : Head → List Raw → RawFunction
 function_of h is = record { parameters = h.parameters; gives = h.gives; registers = h.registers; body = is }
 
 abbrev pub bodies_layout : Counting → List Head → Layout (List RawFunction)
-bodies_layout counts [] = Makes []
-bodies_layout counts (h ∷ hs) = behind (body_layout counts h.instructions) (λ is. behind (bodies_layout counts hs) (λ fs. Makes (function_of h is ∷ fs)))
+bodies_layout rule [] = Makes []
+bodies_layout rule (h ∷ hs) = behind (body_layout rule h.instructions) (λ is. behind (bodies_layout rule hs) (λ fs. Makes (function_of h is ∷ fs)))
 
 abbrev pub functions_layout : CodeVersion → ℕ → Layout (List RawFunction)
 functions_layout version n = behind (heads_layout n) (λ hs. bodies_layout (counting version (map (λ h. h.parameters) hs)) hs)

@@ -20,7 +20,7 @@ opening_layout version =
     Field BadVersion 1 (λ b. b == version_byte version) Makes))))
 
 abbrev pub function_layout : Counting → Head → Layout RawFunction
-function_layout counts h = behind (body_layout counts h.instructions) (λ is. Makes (function_of h is))
+function_layout rule h = behind (body_layout rule h.instructions) (λ is. Makes (function_of h is))
 
 abbrev pub some_functions_layout : CodeVersion → Layout (List RawFunction)
 some_functions_layout version = Field BadTag 2 is_some_count (functions_layout version)

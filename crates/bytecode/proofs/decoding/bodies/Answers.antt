@@ -12,31 +12,31 @@ use Rattle.bytecode.proofs.decoding.bodies.Goals as goal
 
 pub loop-head-init : goal.loop-head-init
 loop-head-init c =
-    let counts = counting c.args.version c.args.parameters.now in
-    bodies_begin counts (map raw_head c.args.heads.items) c.args.reader.now
-    ∙ ap (λ fs. after (map raw_function fs) (read (bodies_layout counts (map raw_head c.args.heads.items)) c.args.reader.now)) (sym c.new-functions.ensures.items)
-    ∙ ap (λ hs. after (map raw_function c.new-functions.result.items) (read (bodies_layout counts (map raw_head hs)) c.args.reader.now))
+    let rule = counting c.args.version c.args.parameters.now in
+    bodies_begin rule (map raw_head c.args.heads.items) c.args.reader.now
+    ∙ ap (λ fs. after (map raw_function fs) (read (bodies_layout rule (map raw_head c.args.heads.items)) c.args.reader.now)) (sym c.new-functions.ensures.items)
+    ∙ ap (λ hs. after (map raw_function c.new-functions.result.items) (read (bodies_layout rule (map raw_head hs)) c.args.reader.now))
     (sym c.into_iter-head-iterator.ensures.into_iter_gives.0)
 
 pub returns-in_err-next : goal.returns-in_err-next
 returns-in_err-next c =
-    let counts = counting c.args.version c.args.parameters.now in
+    let rule = counting c.args.version c.args.parameters.now in
     let more : c.loop-head.head-iterator.rest.items ≡ c.in-Some.head ∷ c.next.new.self.rest.items = search rules in
-    let stop = bodies_stop counts (map raw_head c.loop-head.head-iterator.rest.items) (map raw_head c.next.new.self.rest.items) (raw_head c.in-Some.head)
+    let stop = bodies_stop rule (map raw_head c.loop-head.head-iterator.rest.items) (map raw_head c.next.new.self.rest.items) (raw_head c.in-Some.head)
     (map raw_function c.loop-head.functions.items) c.loop-head.reader
-    (read (bodies_layout counts (map raw_head c.args.heads.items)) c.args.reader.now) c.in_err-next.field-0.0
+    (read (bodies_layout rule (map raw_head c.args.heads.items)) c.args.reader.now) c.in_err-next.field-0.0
     (ap (map raw_head) more) c.in_err-next.ensures c.loop-head.invariant in
     let from = c.from_residual.ensures in
     reads_err (λ (v : Vec CodeFunction Global). map raw_function v.items) _ _ _ _ (err_from_is_err_and c.from_residual.result from.1) stop
 
 pub loop-head-preserved : goal.loop-head-preserved
 loop-head-preserved c =
-    let counts = counting c.args.version c.args.parameters.now in
+    let rule = counting c.args.version c.args.parameters.now in
     let more : c.loop-head.head-iterator.rest.items ≡ c.in-Some.head ∷ c.next.new.self.rest.items = search rules in
-    bodies_more counts (map raw_head c.loop-head.head-iterator.rest.items) (map raw_head c.next.new.self.rest.items) (raw_head c.in-Some.head)
+    bodies_more rule (map raw_head c.loop-head.head-iterator.rest.items) (map raw_head c.next.new.self.rest.items) (raw_head c.in-Some.head)
     (map raw_function c.loop-head.functions.items) _ c.loop-head.reader _
-    (read (bodies_layout counts (map raw_head c.args.heads.items)) c.args.reader.now) (ap (map raw_head) more) c.in_ok-next.ensures c.loop-head.invariant
-    ∙ ap (λ xs. after xs (read (bodies_layout counts (map raw_head c.next.new.self.rest.items)) c.function.new.reader))
+    (read (bodies_layout rule (map raw_head c.args.heads.items)) c.args.reader.now) (ap (map raw_head) more) c.in_ok-next.ensures c.loop-head.invariant
+    ∙ ap (λ xs. after xs (read (bodies_layout rule (map raw_head c.next.new.self.rest.items)) c.function.new.reader))
     (sym (ap (map raw_function) c.in_ok-push.ensures ∙ map-append raw_function c.loop-head.functions.items _))
 
 pub returns : goal.returns

@@ -10,8 +10,8 @@ use Rattle.bytecode.proofs.operands.instruction.Goals as goal
 
 pub returns-in_default : goal.returns-in_default
 returns-in_default c =
-    let counts = counting c.args.version c.args.parameters.now in
+    let rule = counting c.args.version c.args.parameters.now in
     let byte = c.in_ok-tested.field-0 in
-    let same = same_operands counts c.tag_of-tag.result (plain_unless_call c.tag_of-tag.result c.in_default.not-Call) ∙ ap (operands counts) c.tag_of-tag.ensures in
+    let same = same_operands rule c.tag_of-tag.result (plain_unless_call c.tag_of-tag.result c.in_default.not-Call) ∙ ap (operands rule) c.tag_of-tag.ensures in
     let there = subst (λ l. Reads raw_instruction (read l c.tested.new.self) c.plain.result c.plain.new.reader) same c.plain.ensures in
-    reads_behind raw_instruction (Field BadTag 1 is_tag Makes) (operands counts) c.args.reader.now byte _ _ _ c.in_ok-tested.ensures.reads there
+    reads_behind raw_instruction (Field BadTag 1 is_tag Makes) (operands rule) c.args.reader.now byte _ _ _ c.in_ok-tested.ensures.reads there
