@@ -1,11 +1,11 @@
 -- What the types of a step stand for.
-use Rattle.std.specs.Prelude.{◌≡◌, ℕ, List, [], ◌∷◌, Some, None, Result, Ok, Err}
+use Rattle.std.specs.Prelude.{◌≡◌, ℕ, List, [], ◌∷◌, length, Option, Some, None, Result, Ok, Err}
 use Rattle.program_trees.specs.declared.expression.DataType.{DataType}
 use Rattle.std.specs.declared.alloc.AllocError.{AllocError}
 use Rattle.proto_core.specs.Strand.{Notice, Shown}
 use Rattle.bytecode.specs.Raw.{RawCode}
 use Rattle.language_model.specs.Effects.{Stage, World}
-use Rattle.verified_code.specs.Steps.{Function}
+use Rattle.verified_code.specs.Steps.{Function, Step, Declassify}
 use Rattle.value_steps.specs.declared.halt.Halt.{Halt}
 use Rattle.value_steps.specs.declared.halt.Halt.TheVariants as halt
 use Rattle.value_steps.specs.declared.stage.Stage as reached
@@ -52,6 +52,11 @@ step_answered w c p answers = went p.machine (step w c (next_step p.machine) p.m
 abbrev pub elements_if_opened : DataType → ℕ → List ℕ → List ℕ
 elements_if_opened e n [] = []
 elements_if_opened e n (x ∷ xs) = elements_opened e n (x ∷ xs)
+
+-- what a step is told of these words: elements, if it opens a value
+abbrev pub answers_of : Option Step → Machine → List ℕ → List ℕ
+answers_of (Some (Declassify d r)) m told = elements_if_opened (m.registers r).shape.element (length (m.registers r).words) told
+answers_of step m told = told
 
 -- ---- WHAT IS TOLD
 

@@ -2,9 +2,8 @@
 ghost use Rattle.std.specs.Prelude.{◌≡◌, IfOk, option_map};
 ghost use Rattle.bytecode.specs.Raw.{RawCode};
 ghost use Rattle.verified_code.specs.InMemory.{step_in};
-ghost use Rattle.own_code.specs.Places.{answers_told};
 ghost use Rattle.code_machine.specs.Views.{machine_seen};
-ghost use Rattle.miner_core.specs.TurnViews.{elements_if_opened};
+ghost use Rattle.miner_core.specs.TurnViews.{elements_if_opened, answers_of};
 
 use code_machine::Machine;
 use program_trees::DataType;
@@ -39,7 +38,7 @@ pub(crate) fn answers_told(
     told: &[u64],
 ) -> Result<Vec<u64>, AllocError>
     ensures { IfOk result (λ answers. (code : RawCode) →
-        answers.items ≡ answers_told told.now (option_map step_in coming.entry) (machine_seen code machine.now)) }
+        answers.items ≡ answers_of (option_map step_in coming.entry) (machine_seen code machine.now) told.now) }
 {
     match coming {
         Some(Step::Declassify { source, .. }) => {

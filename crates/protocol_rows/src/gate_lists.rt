@@ -48,10 +48,7 @@ fn listed() -> [Gate; 8] {
             index: 1,
             element: 4,
         },
-        Gate::Unpack {
-            operand: 5,
-            count: 128,
-        },
+        Gate::Spread { operand: 5 },
         Gate::Part {
             operand: 6,
             from: 0,
