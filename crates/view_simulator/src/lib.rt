@@ -13,6 +13,7 @@ mod entries;
 mod errors;
 mod gate_by_gate;
 mod laws;
+mod learned;
 mod made;
 mod made_gates;
 mod mails;
