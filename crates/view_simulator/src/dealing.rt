@@ -21,7 +21,7 @@ fn left_behind(value: &PublicValue, words: u64) -> Option<u64>
 }
 
 /// Whether so many words of the dealer suffice for the inputs.
-pub(crate) fn suffices(part: &[PublicEntry], words: usize) -> bool
+pub fn suffices(part: &[PublicEntry], words: usize) -> bool
     ensures { result ≡ nat_le (hidden_need part.now) words }
 {
     let mut left = words as u64;
