@@ -2,6 +2,7 @@ pub mod Lexed
 pub mod Spelled
 pub mod Accepted
 pub mod Accepting
+pub mod CodeFaults
 pub mod Codes
 pub mod Deals
 pub mod EvalRefusals
