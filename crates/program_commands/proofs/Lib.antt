@@ -17,3 +17,4 @@ pub mod Refusals
 pub mod Sizes
 pub mod Still
 pub mod Texts
+pub mod Upgrades
