@@ -1,6 +1,0 @@
-use Rattle.command_frame.proofs.Said.{says_error}
-use Rattle.miner_command.proofs.Said.{node_fault_is_error}
-use Rattle.miner_command.proofs.code_file.byte_stop.Goals as goal
-
-pub refused-requires-clause-says : goal.refused-requires-clause-says
-refused-requires-clause-says c = says_error c.byte_line.result _ (node_fault_is_error _) c.byte_line.ensures

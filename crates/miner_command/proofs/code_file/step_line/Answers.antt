@@ -1,7 +1,0 @@
-use Rattle.std.proofs.lemmas.List.{append_assoc}
-use Rattle.command_frame.specs.Faults.{node_fault_line, node_fault_text}
-use Rattle.miner_command.proofs.code_file.step_line.Goals as goal
-
-pub returns : goal.returns
-unfolding node_fault_line node_fault_text
-returns c = simp append_assoc c.format.ensures.ok
