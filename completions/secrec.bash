@@ -20,7 +20,7 @@ _secrec() {
   local current=${COMP_WORDS[COMP_CWORD]} before=$((COMP_CWORD - 1)) options used=' ' left='' option program='' miner=none list='' code='' k
   COMPREPLY=()
   if [ "$COMP_CWORD" -eq 1 ]; then
-    _secrec_words 'check compile eval need run deal map simulate twin load gather join miner trio help'
+    _secrec_words 'check compile eval need run deal map simulate twin load gather join miner trio upgrade help'
     return
   fi
   case ${COMP_WORDS[1]} in
@@ -37,7 +37,8 @@ _secrec() {
     join) options='' list=yes ;;
     miner) options='--me --share --tape --port --out --budget --wait --log' code=yes ;;
     trio) options='--input --tape --to --port --budget' ;;
-    help) [ "$COMP_CWORD" -ne 2 ] || _secrec_words 'check compile eval need run deal map simulate twin load gather join miner trio'; return ;;
+    upgrade) options='--code' code=yes ;;
+    help) [ "$COMP_CWORD" -ne 2 ] || _secrec_words 'check compile eval need run deal map simulate twin load gather join miner trio upgrade'; return ;;
     *) return ;;
   esac
   # (`--name=value` comes in three words)
