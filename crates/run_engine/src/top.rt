@@ -15,9 +15,7 @@ use gather_command::plan_gather;
 use miner_command::plan_miner;
 use miner_commands::{plan_load, plan_run};
 use outside::{Files, Links, Sink, Spawner};
-use program_commands::{
-    plan_check, plan_compile, plan_deal, plan_eval, plan_need, plan_upgrade,
-};
+use program_commands::{plan_check, plan_compile, plan_deal, plan_eval, plan_need, plan_upgrade};
 use std::alloc::Global;
 use tape_commands::{plan_map, plan_simulate, plan_twin};
 use trio_command::{plan_join, plan_trio};
