@@ -3,7 +3,7 @@
 #![tactic(auto)]
 
 mod check;
-mod codes;
+mod code_stops;
 mod compile;
 mod deal;
 mod deliveries;
@@ -18,7 +18,7 @@ mod upgrade;
 mod writes;
 
 pub use check::plan_check;
-pub use codes::{byte_stop, step_stop};
+pub use code_stops::{byte_stop, step_stop};
 pub use compile::plan_compile;
 pub use deal::{deal_writes, plan_deal};
 pub use deliveries::delivery_stop;

@@ -7,7 +7,7 @@ ghost use Rattle.bytecode.specs.Decoded.{decoded_v1};
 ghost use Rattle.program_commands.specs.Codes.{judged, Judges};
 ghost use Rattle.program_commands.specs.Upgrade.{old_code_at, upgrade_of, upgrade_paths, upgraded_paths};
 
-use crate::codes::{byte_stop, step_stop};
+use crate::code_stops::{byte_stop, step_stop};
 use crate::compile::code_plan;
 use bytecode::{DecodeErr, decode_v1};
 use command_frame::{Plan, Stop, read_file};
