@@ -8,7 +8,7 @@ use Rattle.code_machine.specs.Machine.{Machine, step}
 use Rattle.driven_nodes.specs.Steps as turns
 use Rattle.driven_nodes.specs.Steps.{Went, Wants, place_of}
 use Rattle.own_code.proofs.Again.{wants_before_it_tells, gates_stand}
-use Rattle.own_code.specs.Places.{Place, telling_stage, stopped, went, next_step, step_told}
+use Rattle.own_code.specs.Places.{Place, telling_stage, stopped, went, next_step, answers_told, step_told}
 use Rattle.miner_core.specs.declared.outcome.Turned.{Turned}
 use Rattle.miner_core.specs.declared.outcome.Turned.TheVariants as turned
 use Rattle.miner_core.specs.TurnViews.{went_as}
@@ -33,8 +33,12 @@ no_wants_over : (p q : Place) → turns.Over p ≡ Wants q → ⊥
 no_wants_over p q e = cc
 
 module _ (w : World) (c : List Function) (p : Place) where
+  -- where it stands with what it is told of these words
+  abbrev heard : List ℕ → Stage
+  heard told = telling_stage (answers_told told (next_step p.machine) p.machine) p.stage
+
   abbrev run_told : List ℕ → Run Machine
-  run_told told = step w c (next_step p.machine) p.machine (telling_stage told p.stage)
+  run_told told = step w c (next_step p.machine) p.machine (heard told)
 
   stage_behind : (told : List ℕ) → (place_of (step_told w c p told)).stage ≡ telling_stage [] (stage_of (run_told told))
   stage_behind told = went_stage p.machine (run_told told)
@@ -43,7 +47,7 @@ module _ (w : World) (c : List Function) (p : Place) where
   pub gates_grow : (told : List ℕ) → Begins p.stage.gates (place_of (step_told w c p told)).stage.gates
   gates_grow told =
       subst (λ (s : Stage). Begins p.stage.gates s.gates) (sym (stage_behind told))
-      (gates_stand w c (next_step p.machine) p.machine (telling_stage told p.stage))
+      (gates_stand w c (next_step p.machine) p.machine (heard told))
 
   stopped_machine : (u : Stage) (z : RunStop) → (place_of (stopped p.machine u z)).machine ≡ p.machine
   stopped_machine u (Ended e) = refl
@@ -66,7 +70,7 @@ module _ (w : World) (c : List Function) (p : Place) where
           (q.stage.events ≡ p.stage.events) × (q.stage.opened ≡ p.stage.opened)
       by (Ended z) u same e = absurd (no_wants_over _ q e)
       by Short u same e =
-          let more = wants_before_it_tells w c p.machine (telling_stage told p.stage) u same in (
+          let more = wants_before_it_tells w c p.machine (heard told) u same in (
             sym (ap (λ (z : Went Place). (place_of z).stage.events) e) ∙ more.events,
             sym (ap (λ (z : Went Place). (place_of z).stage.opened) e) ∙ more.opened,
           )

@@ -12,8 +12,8 @@ returns-clause-step c =
     let code = task.code in
     let machine = c.args.machine.now in
     let told = c.args.told.now in
-    told_if_ok (task_world task) (task_code task) (place_in code machine c.args.stage.now) told c.in_ok-answers.answers.items code
+    told_if_ok (task_world task) (task_code task) (place_in code machine c.args.stage.now) told c.deref.result.now code
     c.step_answered.new.machine c.step_answered.new.stage c.step_answered.result
-    (c.in_ok-answers.ensures code
+    (c.deref.ensures.value ∙ c.in_ok-answers.ensures code
     ∙ ap (λ o. answers_of o (machine_seen code machine) told) (c.requires.comes.step ∙ comes_next code machine))
     c.step_answered.ensures.step
