@@ -159,7 +159,7 @@ held_so Bits words share size small = (small, size ∙ length-packed words)
 
 paid_number : (form : Form) (words : List ℕ) (end : End) → length (elements_told form words) ≤ end.cost → IsEnd end → length words < 2 ^ 64
 paid_number form words end le fits =
-    let told = length-map (element_of (type_of form.element)) words in
+    let told = length-map words (element_of (type_of form.element)) in
     let small = fits.1 in
     omega (arith, le, told, small)
 

@@ -83,7 +83,7 @@ costs_onward : {w : World} {A : Type 0} {m : Effect A} → Onward w m → Costs 
 costs_onward {A = A} {m = m} h = record { from = λ s. go s (m s) (h.from s).left }
   where
     go : (s : Stage) (r : Run A) → (stage_of r).left ≤ s.left → CostsAt 0 s r
-    go s (Ok x) c = c
+    go s (Ok x) c = omega (arith, c)
     go s (Err e) c = tt
 
 costs_charged : (n : ℕ) → Costs n (charged no_traps n)
@@ -153,7 +153,7 @@ module _ (o : Offered) where
     told_paid (Some (Publish text r)) m s u h le cost t =
         let v = m.registers r in
         let within = h.within in
-        let count = length-map (element_of v.shape.element) v.words in
+        let count = length-map v.words (element_of v.shape.element) in
         paid_so s u _ h le t.events (publication_paid (budget - u.left) v.secrecy text (elements_of v) (omega (arith, cost, within, count)))
     told_paid i m s u h le cost t = same_paid s u h le t
 
