@@ -22,7 +22,7 @@ use Rattle.program_commands.proofs.Refusals.{not_done, not_missing, refusing, st
 
 -- ---- bytes that are refused as code have one status
 
-status_in_result : Result RawCode Cause → Status
+abbrev status_in_result : Result RawCode Cause → Status
 status_in_result (Ok code) = statuses.Program
 status_in_result (Err c) = c.status
 
