@@ -18,6 +18,8 @@ use Rattle.language_model.specs.Reports.{Report}
 use Rattle.program_run.specs.Offers.{offered}
 use Rattle.program_run.specs.Reports.{eval_with, lengths_of}
 use Rattle.view_laws.proofs.Named.{events_named}
+use Rattle.honest_miners.specs.Texts.{ArePaid}
+use Rattle.honest_miners.proofs.Paid.{events_paid}
 use Rattle.miner_text.specs.Lines.{text_of}
 use Rattle.honest_miners.specs.Told.{lines_told}
 use Rattle.miner_node.specs.Serving.{Outcome, Serving}
@@ -117,7 +119,8 @@ module _ (p : TypedProgramTree) (entries : List Entry) (t : FourTapes) (budget :
     each = λ i. by_stand i (agree.each i);
     end_fits = agree.end_fits;
     texts = three_served_miners.texts_make_the_run_text report.events agree.all agree.end agree.tells
-        (events_named p (offered entries (lengths_of t)) budget h.accepted);
+        (events_named p (offered entries (lengths_of t)) budget h.accepted)
+        (subst (λ (cost : ℕ). ArePaid cost report.events) (sym agree.cost) (events_paid p (offered entries (lengths_of t)) budget h.accepted));
   }
 
 pub three_miners_answer : (p : TypedProgramTree) (entries : List Entry) (t : FourTapes) (budget : ℕ) (digest : List ℕ) (code : RawCode)
