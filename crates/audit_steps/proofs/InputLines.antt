@@ -13,15 +13,15 @@ use Rattle.audit_steps.specs.Places.{one_later}
 use Rattle.audit_steps.specs.Shares.{is_first_share, no_more, share_then, wrong_share_at}
 use Rattle.audit_steps.proofs.Places.{drop_rest, here_first, later_by, later_none, one_more}
 
-pub past_all : (shares : List InputShare) (name : List ℕ) (shape : Shape) (place : ℕ) → place ≡ length shares
-    → false ≡ is_first_share name shape (drop place shares)
-past_all shares name shape place e = sym (ap (is_first_share name shape) (drop_all place shares (omega arith)))
+pub past_all : (shares : List InputShare) (name : List ℕ) (kind : DataType) (shape : Shape) (place : ℕ) → place ≡ length shares
+    → false ≡ is_first_share name kind shape (drop place shares)
+past_all shares name kind shape place e = sym (ap (is_first_share name kind shape) (drop_all place shares (omega arith)))
 
-share_there : (shares : List InputShare) (name : List ℕ) (shape : Shape) (p : ℕ) → is_first_share name shape (drop p shares) ≡ true → p < length shares
-share_there [] name shape zero e = absurd cc
-share_there [] name shape (suc p) e = absurd cc
-share_there (s ∷ ss) name shape zero e = omega arith
-share_there (s ∷ ss) name shape (suc p) e = let h = share_there ss name shape p e in omega arith
+share_there : (shares : List InputShare) (name : List ℕ) (kind : DataType) (shape : Shape) (p : ℕ) → is_first_share name kind shape (drop p shares) ≡ true → p < length shares
+share_there [] name kind shape zero e = absurd cc
+share_there [] name kind shape (suc p) e = absurd cc
+share_there (s ∷ ss) name kind shape zero e = omega arith
+share_there (s ∷ ss) name kind shape (suc p) e = let h = share_there ss name kind shape p e in omega arith
 
 -- how far the walk has come: a number of inputs, and of lines
 pub record Compared (part : List PublicEntry) (shares : List InputShare) (n p : ℕ) : Type 0 where
@@ -52,12 +52,12 @@ module _ (part : List PublicEntry) (shares : List InputShare) (n p : ℕ) (w : C
       abbrev tested : Bool → Option ℕ
       tested b = later_by p (if b then one_later (wrong_share_at (drop (n + 1) part) (drop 1 (drop p shares))) else Some 0)
 
-      hidden : wrong_share_at part shares ≡ tested (is_first_share e.name shape (drop p shares))
+      hidden : wrong_share_at part shares ≡ tested (is_first_share e.name kind shape (drop p shares))
       hidden = opened ∙ ap next is
 
-      takes_line : is_first_share e.name shape (drop p shares) ≡ true → Compared part shares (n + 1) (p + 1)
+      takes_line : is_first_share e.name kind shape (drop p shares) ≡ true → Compared part shares (n + 1) (p + 1)
       takes_line so =
-          let there = share_there shares e.name shape p so in
+          let there = share_there shares e.name kind shape p so in
           record {
             so_far =
                 hidden
@@ -67,10 +67,10 @@ module _ (part : List PublicEntry) (shares : List InputShare) (n p : ℕ) (w : C
             within = omega arith;
           }
 
-      pub took_line : is_first_share e.name shape (drop p shares) ≡ true → (taken : ℕ) → taken ≡ p + 1 → Compared part shares (n + 1) taken
+      pub took_line : is_first_share e.name kind shape (drop p shares) ≡ true → (taken : ℕ) → taken ≡ p + 1 → Compared part shares (n + 1) taken
       took_line so taken same = subst (Compared part shares (n + 1)) (sym same) (takes_line so)
 
-      pub stops : is_first_share e.name shape (drop p shares) ≡ false → wrong_share_at part shares ≡ Some p
+      pub stops : is_first_share e.name kind shape (drop p shares) ≡ false → wrong_share_at part shares ≡ Some p
       stops not_so = hidden ∙ ap tested not_so ∙ here_first p
 
   compared_end : length part ≤ n → wrong_share_at part shares ≡ later_by p (no_more (drop p shares))
