@@ -1,0 +1,6 @@
+mod Dealt
+mod Judging
+mod Merging
+mod Named
+mod Runs
+mod Undealt
