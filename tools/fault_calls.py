@@ -19,6 +19,8 @@ Outcome = collections.namedtuple("Outcome", "status out err files")
 
 SUM = ["sum.sc", "--input", "sum.json"]
 VIEWS = ["v.1", "v.2", "v.3"]
+# Code of the first version of a program that does nothing.
+FIRST_CODE = bytes.fromhex("53433350010000010000 00ff0000010018")
 # The texts that three miners write of a run.
 TEXTS = ["share s uint64 3\nend done cost 7\n", "share s uint64 4\nend done cost 7\n", "share s uint64 6\nend done cost 7\n"]
 
@@ -48,6 +50,7 @@ CALLS = [
     Call(["deal", "--input", "sum.json", "--tape", "words.tape", "--to", "d"], ["d.1", "d.2", "d.3", "d.t1", "d.t2", "d.t3"], 0),
     Call(["gather", "--me", "1", "--to", "all.1", "dealt.1"], ["all.1"], 0),
     Call(["join", "text.1", "text.2", "text.3"], [], 0),
+    Call(["upgrade", "first.code", "--code", "second.code"], ["second.code"], 0),
     *(served(number, 47340 + 10 * number) for number in (1, 2, 3)),
     Call(["trio", *SUM, "--tape", "words.tape", "--to", "t", "--port", "47380"], ["t.code", "t.1", "t.2", "t.3", "t.t1", "t.t2", "t.t3"], 0,
          others=["t.o1", "t.o2", "t.o3"]),
@@ -64,6 +67,8 @@ def make_files(program, folder):
     compiled = ["compile", "sum.sc", "--code", "sum.code"]
     for words in (mapped, dealt, compiled):
         subprocess.run([program, *words], cwd=folder, check=True, stdout=subprocess.DEVNULL)
+    with open(f"{folder}/first.code", "wb") as file:
+        file.write(FIRST_CODE)
     for number, text in enumerate(TEXTS, 1):
         with open(f"{folder}/text.{number}", "w", encoding="utf-8") as file:
             file.write(text)

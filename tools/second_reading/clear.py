@@ -6,7 +6,7 @@ from dataclasses import dataclass, replace
 from functools import lru_cache
 
 import tree
-from gates import DRAWN, MASK, Gate, GateList, Kind, Ring
+from gates import DRAWN, MASK, Gate, GateList, Kind, Ring, packed, words_for
 from tree import Data, TypeName
 from word_lists import changed
 
@@ -27,10 +27,23 @@ class ValueType:
     def ring(self) -> Ring:
         return Ring.ADDITIVE if self.data is Data.NUMBER else Ring.BITWISE
 
+    def gate_size(self, count: int) -> int:
+        """How many words gates have of so many elements."""
+        return count if self.data is Data.NUMBER else words_for(count)
+
+    def gate_words(self, elements) -> tuple[int, ...]:
+        """The words that gates have of elements."""
+        return gate_words(self.data, elements)
+
+
+def gate_words(data: Data, elements) -> tuple[int, ...]:
+    """Numbers are their own words; truth values are packed."""
+    return tuple(elements) if data is Data.NUMBER else tuple(packed(elements))
+
 
 @dataclass(frozen=True)
 class Value:
-    """A value: its type, its words, and its number among the gates' values where it is private."""
+    """A value: its type, its elements, each as a word, and its number among the gates' values where it is private."""
 
     type: ValueType
     words: tuple[int, ...]
@@ -86,6 +99,10 @@ class Report:
     def open_lines(self) -> list[str]:
         return [event.line() for event in self.events if event.name is None]
 
+    def opened_by_gates(self) -> list[int]:
+        """The words that gates open: `opened` has one for each element, and of truth values these are packed."""
+        return [word for event in self.events if event.name is None for word in gate_words(event.data, event.words)]
+
     def text(self) -> str:
         return "".join(line + "\n" for line in [event.line() for event in self.events] + [self.end_line()])
 
@@ -120,7 +137,7 @@ class Returning(Exception):
 
 def dealer_need(inputs: list[Input]) -> int:
     """Words that dealing draws."""
-    return sum(2 * len(entry.words) for entry in inputs if entry.type.private)
+    return sum(2 * entry.type.gate_size(len(entry.words)) for entry in inputs if entry.type.private)
 
 
 @dataclass(eq=False)
@@ -421,10 +438,12 @@ class Evaluation:
         if size > ARRAY_LIMIT:
             self.trap("Large", node)
         self.charge_rest(size)
-        number = None
-        if wanted.private:
-            number = self.making(lambda made: made.make(Kind.REPEAT, (start.number,), size))
-        return Value(wanted, start.words * size, number)
+        return self.filled(start, size)
+
+    def filled(self, start: Value, size: int) -> Value:
+        """An array of so many times a scalar."""
+        number = self.making(lambda made: repeated(made, start, size)) if start.type.private else None
+        return Value(replace(start.type, array=True), start.words * size, number)
 
     def store(self, value: Value) -> Value:
         self.charge(1)
@@ -445,10 +464,7 @@ class Evaluation:
         self.charge(1)
         if index >= len(array.words):
             self.trap("Index", node)
-        number = None
-        if array.type.private:
-            operands = (array.number, value.number)
-            number = self.making(lambda made: made.make(Kind.PUT, operands, len(array.words), None, (index,)))
+        number = self.making(lambda made: stored(made, array, index, value)) if array.type.private else None
         scope[name] = Value(array.type, changed(array.words, index, self.stored_word(name, value.words[0])), number)
 
     def stored_word(self, _name: str, word: int) -> int:
@@ -489,13 +505,14 @@ class Evaluation:
             return value
         self.charge(1)
         self.charge_rest(len(value.words))
-        number = self.making(lambda made: made.make(Kind.CONSTANT, (), len(value.words), None, value.words))
+        words = value.type.gate_words(value.words)
+        number = self.making(lambda made: made.make(Kind.CONSTANT, (), len(words), None, words))
         return Value(replace(value.type, private=True), value.words, number)
 
     def flip(self, value: Value) -> Value:
         self.charge(1)
         self.charge_rest(len(value.words))
-        number = self.making(lambda made: made.flip(value.number)) if value.type.private else None
+        number = self.making(lambda made: made.flip(value.number, len(value.words))) if value.type.private else None
         return Value(value.type, tuple(1 - word for word in value.words), number)
 
     def cast(self, data: Data, value: Value) -> Value:
@@ -506,15 +523,16 @@ class Evaluation:
         if value.type.data is not data:
             words = tuple(int(word != 0) for word in words)
             if value.type.private:
-                number = self.making(lambda made: self.cast_gates(made, data, value.number))
+                number = self.making(lambda made: self.cast_gates(made, data, value))
         return Value(replace(value.type, data=data), words, number)
 
     @staticmethod
-    def cast_gates(made: GateList, data: Data, number: int) -> int:
+    def cast_gates(made: GateList, data: Data, value: Value) -> int:
         """The gates of a private cast."""
+        count = len(value.words)
         if data is Data.NUMBER:
-            return made.one(Kind.CONVERT, number)
-        return made.flip(made.equal_to_zero(number))
+            return made.one(Kind.CONVERT, made.unpack(value.number, count))
+        return made.flip(made.pack(made.equal_to_zero(value.number)), count)
 
     def element(self, node: tree.Index, frame: Frame) -> Value:
         array = self.expression(node.array, frame)
@@ -522,7 +540,11 @@ class Evaluation:
         self.charge(1)
         if index >= len(array.words):
             self.trap("Index", node)
-        number = self.making(lambda made: made.part(array.number, index, 1)) if array.type.private else None
+        return self.taken(array, index)
+
+    def taken(self, array: Value, index: int) -> Value:
+        """An element of an array that has so many."""
+        number = self.making(lambda made: element(made, array, index)) if array.type.private else None
         return Value(replace(array.type, array=False), (array.words[index],), number)
 
     def declassify(self, value: Value) -> Value:
@@ -532,7 +554,7 @@ class Evaluation:
         public = replace(value.type, private=False)
         if not value.type.private:
             return Value(public, value.words)
-        self.making(lambda made: made.make(Kind.OPEN, (value.number,), len(value.words), value.type.ring))
+        self.making(lambda made: handed_over(made, Kind.OPEN, value))
         words = tuple(value.words) if self.answers is None else self.answer(value)
         self.events.append(Event(None, value.type.data, words))
         self.opened.extend(words)
@@ -550,7 +572,7 @@ class Evaluation:
         self.charge(1)
         self.charge_rest(len(value.words))
         if value.type.private:
-            self.making(lambda made: made.make(Kind.RESULT, (value.number,), len(value.words), value.type.ring))
+            self.making(lambda made: handed_over(made, Kind.RESULT, value))
         self.events.append(Event(name, value.type.data, tuple(value.words)))
 
     def argument(self, node: tree.Argument, wanted: ValueType) -> Value:
@@ -566,7 +588,8 @@ class Evaluation:
         number = None
         if wanted.private:
             place = self.private_names.index(name)
-            number = self.making(lambda made: made.make(Kind.INPUT, (), len(entry.words), wanted.ring, (place,)))
+            size = wanted.gate_size(len(entry.words))
+            number = self.making(lambda made: made.make(Kind.INPUT, (), size, wanted.ring, (place,)))
         return Value(wanted, entry.words, number)
 
     # Operators
@@ -620,29 +643,30 @@ class Evaluation:
         size = len(words[0])
         u, v = left.number, right.number
         if array and left.type.private and not left.type.array:
-            u = made.make(Kind.REPEAT, (u,), size)
+            u = repeated(made, left, size)
         if array and right.type.private and not right.type.array:
-            v = made.make(Kind.REPEAT, (v,), size)
+            v = repeated(made, right, size)
         if u is None or v is None:
             number, public = (u, words[1]) if v is None else (v, words[0])
-            return made.make(Kind.MULTIPLY_PUBLIC, (number,), size, left.type.ring, public)
+            known = left.type.gate_words(public)
+            return made.make(Kind.MULTIPLY_PUBLIC, (number,), len(known), left.type.ring, known)
         if left.type.data is Data.TRUTH:
-            return self.truth_gates(made, operator, u, v)
-        return self.number_gates(made, operator, u, v)
+            return self.truth_gates(made, operator, u, v, size)
+        return self.number_gates(made, operator, u, v, size)
 
     @staticmethod
-    def truth_gates(made: GateList, operator: str, u: int, v: int) -> int:
+    def truth_gates(made: GateList, operator: str, u: int, v: int, size: int) -> int:
         if operator in ("^", "!="):
             return made.two(Kind.XOR, u, v)
         if operator == "==":
-            return made.flip(made.two(Kind.XOR, u, v))
+            return made.flip(made.two(Kind.XOR, u, v), size)
         if operator == "&":
             return made.conjunction(u, v)
         both, either = made.conjunction(u, v), made.two(Kind.XOR, u, v)
         return made.two(Kind.XOR, either, both)
 
     @staticmethod
-    def number_gates(made: GateList, operator: str, u: int, v: int) -> int:
+    def number_gates(made: GateList, operator: str, u: int, v: int, size: int) -> int:
         if operator == "+":
             return made.two(Kind.ADD, u, v)
         if operator == "-":
@@ -650,12 +674,12 @@ class Evaluation:
         if operator == "*":
             return made.two(Kind.MULTIPLY, u, v, Ring.ADDITIVE)
         if operator in ("==", "!="):
-            equal = made.equal_to_zero(made.two(Kind.SUBTRACT, u, v))
-            return equal if operator == "==" else made.flip(equal)
+            equal = made.pack(made.equal_to_zero(made.two(Kind.SUBTRACT, u, v)))
+            return equal if operator == "==" else made.flip(equal, size)
         if operator not in ("<", "<=", ">", ">="):
             raise ValueError(operator)
-        less = made.less(u, v) if operator in ("<", ">=") else made.less(v, u)
-        return less if operator in ("<", ">") else made.flip(less)
+        less = made.pack(made.less(u, v) if operator in ("<", ">=") else made.less(v, u))
+        return less if operator in ("<", ">") else made.flip(less, size)
 
     # Calls
 
@@ -682,12 +706,16 @@ class Evaluation:
         left = self.wanted(self.expression(node.arguments[0], frame), private)
         right = self.wanted(self.expression(node.arguments[1], frame), private)
         self.charge(1)
-        words = left.words + right.words
-        if len(words) > ARRAY_LIMIT:
+        size = len(left.words) + len(right.words)
+        if size > ARRAY_LIMIT:
             self.trap("Large", node)
-        self.charge_rest(len(words))
-        number = self.making(lambda made: made.cat(left.number, right.number)) if private else None
-        return Value(left.type, words, number)
+        self.charge_rest(size)
+        return self.joined(left, right)
+
+    def joined(self, left: Value, right: Value) -> Value:
+        """Two arrays of one type, end to end."""
+        number = self.making(lambda made: joined(made, left, right)) if left.type.private else None
+        return Value(left.type, left.words + right.words, number)
 
     def bit_extract(self, node: tree.Call, operand: Value) -> Value:
         size = 64 * len(operand.words)
@@ -697,8 +725,7 @@ class Evaluation:
         words = tuple((word >> place) & 1 for word in operand.words for place in range(64))
         number = None
         if operand.type.private:
-            build = lambda made: made.make(Kind.SPREAD, (made.bits(operand.number),), size)
-            number = self.making(build)
+            number = self.making(lambda made: made.bits(operand.number))
         return Value(ValueType(operand.type.private, Data.TRUTH, True), words, number)
 
     def call_function(self, node: tree.Call, frame: Frame) -> Value | None:
@@ -718,6 +745,36 @@ class Evaluation:
         result = self.enter(function, values, bound)
         self.depth -= 1
         return result
+
+
+# Gates of one operation on a value's number, chosen by its type.
+
+
+def repeated(made: GateList, scalar: Value, size: int) -> int:
+    if scalar.type.data is Data.TRUTH:
+        return made.repeat_bit(scalar.number, size)
+    return made.make(Kind.REPEAT, (scalar.number,), size)
+
+
+def element(made: GateList, array: Value, index: int) -> int:
+    return made.part_bit(array.number, index) if array.type.data is Data.TRUTH else made.part(array.number, index, 1)
+
+
+def stored(made: GateList, array: Value, index: int, value: Value) -> int:
+    if array.type.data is Data.TRUTH:
+        return made.put_bit(array.number, index, value.number)
+    return made.make(Kind.PUT, (array.number, value.number), len(array.words), None, (index,))
+
+
+def joined(made: GateList, left: Value, right: Value) -> int:
+    if left.type.data is Data.TRUTH:
+        return made.cat_bit(left.number, len(left.words), right.number, len(right.words))
+    return made.cat(left.number, right.number)
+
+
+def handed_over(made: GateList, kind: Kind, value: Value) -> int:
+    """Opens a value, or hands it out."""
+    return made.make(kind, (value.number,), value.type.gate_size(len(value.words)), value.type.ring)
 
 
 @lru_cache(maxsize=16)

@@ -10,10 +10,20 @@ PRIVATE, TRUTH, ARRAY = 1, 2, 4
 NOTHING = 255
 NO_RESULT = 65535
 SIGNATURE = b"SC3P"
-VERSION = 1
 OPERATORS = tuple("+ - * / % == != < <= > >= & | ^".split())
 COMPARISONS = tuple("== != < <= > >=".split())
 NAME_FORM = re.compile(rb"[A-Za-z0-9_]{1,64}")
+
+
+@dataclass(frozen=True)
+class Rules:
+    """What changed between versions: the fifth byte, and whether a call says how many arguments it has; else they are as many as its function's parameters."""
+
+    version: int
+    counts_arguments: bool
+
+
+FIRST, SECOND = Rules(1, False), Rules(2, True)
 
 
 class Tag(IntEnum):
@@ -45,7 +55,7 @@ class Tag(IntEnum):
 
 
 # Each letter is an operand: r a register, n a name, f a function, t a target, o an operator, v the value of a branch, l a line, w a word;
-# the arguments of a call stand where its `a` does.
+# the arguments of a call stand where its `a` does, and before them their number, where that is said.
 LAYOUTS = {
     Tag.LITERAL: "rw", Tag.MOVE: "rr", Tag.STORE: "rr", Tag.BINARY: "orrrl", Tag.NOT: "rr", Tag.CAST: "rr", Tag.CLASSIFY: "rr",
     Tag.FILL: "rrrl", Tag.AT: "rrrl", Tag.PUT: "rrrl", Tag.SIZE: "rr", Tag.CAT: "rrrl", Tag.SUM: "rr", Tag.BITS: "rrl",
@@ -89,8 +99,8 @@ class Code:
 class ByteReader:
     """Reads numbers, the lowest byte first."""
 
-    def __init__(self, data: bytes):
-        self.data, self.place = data, 0
+    def __init__(self, data: bytes, rules: Rules):
+        self.data, self.rules, self.place = data, rules, 0
 
     def take(self, count: int) -> bytes:
         if self.place + count > len(self.data):
@@ -111,7 +121,7 @@ class ByteReader:
     def header(self):
         for place in range(len(SIGNATURE)):
             self.bounded(1, lambda byte: byte == SIGNATURE[place])
-        if self.number(1) != VERSION:
+        if self.number(1) != self.rules.version:
             raise CodeFault(f"B3 place {self.place - 1}")
 
     def names(self) -> list[str]:
@@ -136,16 +146,21 @@ class ByteReader:
         operands: list[int] = []
         for letter in LAYOUTS[tag]:
             if letter == "a":
-                called = operands[0]
-                operands += [self.number(2) for _ in range(functions[called].parameters if called < len(functions) else 0)]
+                operands += [self.number(2) for _ in range(self.arguments(operands[0], functions))]
             else:
                 operands.append(self.bounded(WIDTHS[letter], lambda value: value <= BOUNDS.get(letter, value)))
         return Instruction(tag, tuple(operands))
 
+    def arguments(self, called: int, functions: list[Function]) -> int:
+        """How many arguments a call has; by the first rules one of a function that isn't there has none."""
+        if self.rules.counts_arguments:
+            return self.number(2)
+        return functions[called].parameters if called < len(functions) else 0
 
-def decode(data: bytes) -> Code:
+
+def decode(data: bytes, rules: Rules = SECOND) -> Code:
     """The code that the bytes say."""
-    reader = ByteReader(data)
+    reader = ByteReader(data, rules)
     reader.header()
     names = reader.names()
     heads = [reader.head() for _ in range(reader.bounded(2, lambda count: count > 0))]
@@ -157,25 +172,35 @@ def decode(data: bytes) -> Code:
     return Code(names, functions)
 
 
-def encode(code: Code) -> bytes:
+def encode(code: Code, rules: Rules = SECOND) -> bytes:
     """The bytes of code."""
-    parts = [SIGNATURE, bytes([VERSION]), struct.pack("<H", len(code.names))]
+    parts = [SIGNATURE, bytes([rules.version]), struct.pack("<H", len(code.names))]
     parts += [bytes([len(name)]) + name.encode() for name in code.names]
     parts.append(struct.pack("<H", len(code.functions)))
     for function in code.functions:
         parts.append(struct.pack("<HBH", function.parameters, function.result, len(function.kinds)) + bytes(function.kinds))
         parts.append(struct.pack("<H", len(function.instructions)))
     for function in code.functions:
-        for instruction in function.instructions:
-            parts.append(bytes([instruction.tag]))
-            layout = LAYOUTS[instruction.tag].replace("a", "r" * (len(instruction.operands) - 3))
-            parts += [value.to_bytes(WIDTHS[letter], "little") for letter, value in zip(layout, instruction.operands)]
+        parts += [bytes([instruction.tag]) + operand_bytes(instruction, rules) for instruction in function.instructions]
+    return b"".join(parts)
+
+
+def layout_of(instruction: Instruction) -> str:
+    """The layout of an instruction, with an `r` for each argument of a call."""
+    return LAYOUTS[instruction.tag].replace("a", "r" * (len(instruction.operands) - 3))
+
+
+def operand_bytes(instruction: Instruction, rules: Rules) -> bytes:
+    """The operands as bytes."""
+    parts = [value.to_bytes(WIDTHS[letter], "little") for letter, value in zip(layout_of(instruction), instruction.operands)]
+    if instruction.tag is Tag.CALL and rules.counts_arguments:
+        parts.insert(2, struct.pack("<H", len(instruction.operands) - 3))
     return b"".join(parts)
 
 
 def registers_of(instruction: Instruction) -> list[int]:
     """The registers that an instruction names, in the order of its bytes."""
-    layout = LAYOUTS[instruction.tag].replace("a", "r" * (len(instruction.operands) - 3))
+    layout = layout_of(instruction)
     named = [value for letter, value in zip(layout, instruction.operands) if letter == "r"]
     return named[1:] if instruction.tag is Tag.CALL and named[0] == NO_RESULT else named
 

@@ -5,7 +5,7 @@ from collections.abc import Callable
 from dataclasses import dataclass, replace
 
 import code_file
-from clear import ARRAY_LIMIT, DEPTH_LIMIT, End, Ended, Evaluation, Input, Report, Value, ValueType
+from clear import ARRAY_LIMIT, DEPTH_LIMIT, End, Ended, Evaluation, Input, Report, Value, ValueType, stored
 from code_file import OPERATORS, Code, Tag
 from gates import MASK, Kind
 from tree import Data
@@ -121,26 +121,21 @@ class CodeRun(Evaluation):
         if count > ARRAY_LIMIT:
             self.trap("Large", line)
         self.charge_rest(count)
-        number = self.making(lambda made: made.make(Kind.REPEAT, (start.number,), count)) if start.type.private else None
-        self.put(to, Value(replace(start.type, array=True), start.words * count, number))
+        self.put(to, self.filled(start, count))
 
     def do_at(self, to: int, array: int, index: int, line: int):
         whole, place = self.numbered(array), self.value(index).words[0]
         self.charge(1)
         if place >= len(whole.words):
             self.trap("Index", line)
-        number = self.making(lambda made: made.part(whole.number, place, 1)) if whole.type.private else None
-        self.put(to, Value(replace(whole.type, array=False), (whole.words[place],), number))
+        self.put(to, self.taken(whole, place))
 
     def do_put(self, array: int, index: int, value: int, line: int):
         whole, place, new = self.numbered(array), self.value(index).words[0], self.numbered(value)
         self.charge(1)
         if place >= len(whole.words):
             self.trap("Index", line)
-        number = None
-        if whole.type.private:
-            operands = (whole.number, new.number)
-            number = self.making(lambda made: made.make(Kind.PUT, operands, len(whole.words), None, (place,)))
+        number = self.making(lambda made: stored(made, whole, place, new)) if whole.type.private else None
         self.put(array, Value(whole.type, whole.words[:place] + new.words + whole.words[place + 1 :], number))
 
     def do_size(self, to: int, source: int):
@@ -150,12 +145,11 @@ class CodeRun(Evaluation):
     def do_cat(self, to: int, left: int, right: int, line: int):
         first, second = self.numbered(left), self.numbered(right)
         self.charge(1)
-        words = first.words + second.words
-        if len(words) > ARRAY_LIMIT:
+        size = len(first.words) + len(second.words)
+        if size > ARRAY_LIMIT:
             self.trap("Large", line)
-        self.charge_rest(len(words))
-        number = self.making(lambda made: made.cat(first.number, second.number)) if first.type.private else None
-        self.put(to, Value(first.type, words, number))
+        self.charge_rest(size)
+        self.put(to, self.joined(first, second))
 
     def do_sum(self, to: int, source: int):
         whole = self.numbered(source)

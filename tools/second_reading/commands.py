@@ -5,13 +5,14 @@ from dataclasses import dataclass, field
 from functools import lru_cache
 
 from chacha import tape_words
+from code_file import encode
 from clear import UNBOUNDED, Input, OpenedShort, Report, Runnable, ValueType, dealer_need, evaluate, evaluate_blind, runnable_of
 from entries import read_inputs, read_public
 from files import (
     read_opened, read_schedule, read_tapes, write_opened, write_own_tape, write_public, write_schedule, write_share, write_tapes,
     write_view,
 )
-from miner_files import read_code, read_own_tape
+from miner_files import read_code, read_first_code, read_own_tape
 from miner_texts import joined, lines_of
 from joint import Direction, JointRun, SimulatedMiner, map_tapes
 from network import Outcome, default_delivery, listed_delivery, shuffled_delivery
@@ -70,7 +71,7 @@ class Caller:
         commands = {
             "check": self.check, "compile": self.compile, "eval": self.eval, "need": self.need, "run": self.run, "map": self.map,
             "simulate": self.simulate, "twin": self.twin, "deal": self.deal, "load": self.load,
-            "gather": self.gather, "join": self.join, "miner": self.miner, "trio": self.trio,
+            "gather": self.gather, "join": self.join, "miner": self.miner, "trio": self.trio, "upgrade": self.upgrade,
         }
         try:
             asked = read_words(words)
@@ -195,7 +196,7 @@ class Caller:
             raise CallRefused(f"V2 have {len(opened)}", 15) from None
         self.reports.append(report)
         outcome = accepted(delivery(report.gates))
-        seen = SimulatedMiner(miner, report.gates, inputs if report.inputs_dealt else [], report.opened, tapes)
+        seen = SimulatedMiner(miner, report.gates, inputs if report.inputs_dealt else [], report.opened_by_gates(), tapes)
         view = write_view(miner, inputs, seen.dealt, seen.drawn(), outcome.delivered, seen.received, report)
         return Answer(written=[(words["view"], view)])
 
@@ -242,6 +243,11 @@ class Caller:
         share = read_share(self.read(words["share"]), words.number("me"))
         read_own_tape(self.read(words["tape"]), share.lengths[words.number("me")])
         raise NeedsPeers
+
+    def upgrade(self, words: Words) -> Answer:
+        """Code of the first version, written by the rules of the second."""
+        code = read_first_code(self.read(words["old"]))
+        return Answer(out=f"functions {len(code.functions)}\n".encode(), written=[(words["code"], encode(code))])
 
     def trio(self, words: Words) -> Answer:
         """What it refuses before it writes; with too few words for the dealer it writes nothing at all."""

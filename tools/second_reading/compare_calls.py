@@ -36,6 +36,7 @@ DIRECTED = {
     "tapes": (faulty_files.tape_files, file_calls.play_tapes),
     "opened": (faulty_files.opened_files, file_calls.play_opened),
     "schedules": (faulty_files.schedule_files, file_calls.play_schedule),
+    "shares": (faulty_files.share_files, file_calls.play_share),
     "orders": (file_calls.combined, file_calls.play_combined),
     "writes": (file_calls.writing_cases, file_calls.play_writing),
     "streams": (file_calls.streams, file_calls.play_streams),

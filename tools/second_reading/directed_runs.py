@@ -16,7 +16,10 @@ from runs import Case, random_word
 from tree import Data
 
 HEAD = "import stdlib; import shared3p; domain p shared3p;\nvoid main() {\n"
-SIZES = (0, 1, 2, 511, 512, 513, 1024, 1025)
+SIZES = (0, 1, 2, 63, 64, 65, 511, 512, 513, 1024, 1025)
+# Truth values whose words are about a block, and about one word.
+TRUTH_BLOCKS = (32_768, 32_769)
+TRUTH_SIZES = (1, 2, 63, 64, 65, 127, 128, 129, 513)
 PRIVATE = {"a": (Data.NUMBER, True), "b": (Data.NUMBER, True), "c": (Data.TRUTH, True), "d": (Data.TRUTH, True),
            "s": (Data.NUMBER, False), "t": (Data.TRUTH, False)}
 PUBLIC = {"k": (Data.NUMBER, True), "l": (Data.TRUTH, True), "n": (Data.NUMBER, False), "f": (Data.TRUTH, False)}
@@ -30,6 +33,17 @@ OPERATIONS = (
     "(uint64) c", "(uint64) t", "(bool) a", "(bool) s", "(uint64) a", "(bool) c",
     "cat(a, b)", "cat(c, d)", "cat(a, k)", "cat(l, d)", "sum(a)", "sum(a * b)", "sum((uint64) c)", "bitExtract(s)", "a[0]", "c[0]",
     "bitExtract(s * s)[63]", "a[size(a) - 1]", "(uint64) (a < b)", "a * (uint64) c", "(bool) (a * b)", "!(a == b)",
+)
+OF_TRUTHS = (
+    'c[0] = t; c[size(c) - 1] = d[0]; publish("c", c); publish("d", declassify(c ^ d));',
+    'for (uint64 i = 0; i < size(c); i++) { c[i] = d[size(c) - 1 - i]; } publish("c", declassify(c)); publish("d", d);',
+    'p bool[[1]] v (size(c)) = t; v[size(c) / 2] = !t; publish("v", v); publish("w", declassify(v & c));',
+    'p bool[[1]] v = cat(c, d); v = cat(v, cat(c, v)); publish("v", v); publish("l", v[size(c)]); publish("n", declassify(sum((uint64) v)));',
+    'p bool[[1]] v = cat(c, c); v = cat(v, l); publish("v", declassify(!v)); publish("w", v[size(v) - 1] == t);',
+    'p bool[[1]] v; v = cat(v, c); p bool[[1]] w = cat(c, v); publish("w", w); publish("e", declassify(v == c));',
+    'publish("r", (t & c) ^ (c | f)); publish("q", declassify(t == d)); publish("l", l & c); publish("m", l & t);',
+    'p bool[[1]] v = bitExtract(s); publish("v", v); publish("w", declassify(v[63] ^ v[0])); v[63] = t; publish("u", declassify(v & v));',
+    'p bool[[1]] v = !c; for (uint64 i = 0; i < size(v); i += 3) { v[i] = c[i] & t; } publish("v", declassify(v)); publish("n", sum((uint64) v));',
 )
 SMALL_PROGRAMS = (
     'publish("x", declassify(s * s)); publish("y", t); uint64 z = declassify(s); publish("z", z);',
@@ -93,6 +107,10 @@ def operations(source: random.Random) -> Iterator[Case]:
             continue
         result = operation if source.random() < 0.5 else f"declassify({operation})"
         yield case_of(source, f'publish("r", {result});', size)
+    for body, size in product(OF_TRUTHS, TRUTH_SIZES):
+        yield case_of(source, body, size)
+    for operation, size in product(("c & d", "declassify(c | d)", "c", "declassify(!c)", "declassify(f & c)", "cat(c, d)[size(c)]"), TRUTH_BLOCKS):
+        yield case_of(source, f'publish("r", {operation});', size)
 
 
 def whole_report(case: Case) -> Report:

@@ -17,6 +17,7 @@ sys.dont_write_bytecode = True
 from dataclasses import dataclass, field
 
 from clear import dealer_need
+from code_file import FIRST, decode, encode
 from commands import Answer, Caller
 from entries import read_inputs
 from files import read_tapes, write_inputs, write_tapes
@@ -156,7 +157,7 @@ def model_files() -> dict[str, bytes]:
         "sum.sc": SUM.encode(), "wrong.sc": of_main("x = 1;").encode(), "sum.json": write_inputs(SIX_SEVEN),
         "second.json": write_inputs([number("a", 5), number("b", 8)]), "other.json": write_inputs([number("a", 6), number("b", 8)]),
         "sum.tape": write_tapes([[0] * 4, [0], [0], [0]]), "short.tape": write_tapes([[0] * 3, [0], [0], [0]]),
-        "cut.tape": write_tapes([[0] * 4, [0], [0], [0]])[:32], "none": b"",
+        "cut.tape": write_tapes([[0] * 4, [0], [0], [0]])[:32], "none": b"", "first.code": encode(decode(PRODUCT.code), FIRST), "second.code": PRODUCT.code,
     }
     for words in ("map 1 sum.sc --input sum.json --tape sum.tape --sim sum.sim --public sum.public --opened sum.opened",
                   "run sum.sc --input sum.json --tape sum.tape --record sum.order",
@@ -181,6 +182,7 @@ COMMANDS = (
     ("load", "load --number 2"),
     ("deal", "deal --input sum.json --tape sum.tape --to d"),
     ("gather", "gather --me 2 --to all dealt.2 more.2"),
+    ("upgrade", "upgrade first.code --code code"),
 )
 REFUSED = (
     ("no command", "run"),
@@ -191,6 +193,7 @@ REFUSED = (
     ("opened words that are too few", "simulate 1 sum.sc --public sum.public --opened none --sim sum.sim --view view"),
     ("inputs that are not alike", "twin 3 sum.sc --input sum.json --second other.json --tape sum.tape --to other.tape"),
     ("a name that stands twice", "gather --me 2 --to all dealt.2 again.2"),
+    ("code that is upgraded already", "upgrade second.code --code code"),
 )
 
 

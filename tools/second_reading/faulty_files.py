@@ -1,6 +1,7 @@
 """Files that are refused, and good ones in odd forms: by hand for each rule and its edges, and good ones that were changed at random."""
 from __future__ import annotations
 
+import itertools
 import json
 import random
 import struct
@@ -152,6 +153,20 @@ def entry_files(has_shapes: bool) -> Iterator[bytes]:
         yield whole(base, other, second, "0")
     yield from large_files(has_shapes)
     yield from deep_files()
+
+
+SHARE_WORDS = (0, 1, (1 << 64) - 1, 5)
+SHARED_SHAPES = ('"scalar"', 0, 1, 2, 63, 64, 65, 127, 128, 129)
+
+
+def share_files() -> Iterator[bytes]:
+    """Share files of one value of each type, with words that are as many as its elements, as the words that hold so many truth values, and others."""
+    for kind, shape in itertools.product(("bool", "uint64"), SHARED_SHAPES):
+        count = shape if isinstance(shape, int) else 1
+        for size in sorted({0, 1, 2, 3, count, count + 1, -(-count // 64), count // 64}):
+            words = ",".join(str(SHARE_WORDS[place % 4 if size > 1 else 2]) for place in range(size))
+            entry_text = f'{{"name":"a","domain":"private","type":"{kind}","shape":{shape},"share":[{words}]}}'
+            yield f'{{"inputs":[{entry_text}],"lens":[4,25,18,18],"miner":2}}'.encode()
 
 
 TOKENS = tuple(text.encode() for text in (

@@ -76,7 +76,7 @@ def play_share(data: bytes, source: random.Random, folder: Folder):
 
 LONG_PROGRAM = b"void main() { " + b'publish("x", 1); ' * 1365 + b"}"
 WRONG = {
-    "program": (b"", b"$", b"void main() {", b"void main() { x; }", b"void f() { }", b"\xff", LONG_PROGRAM),
+    "program": (b"", b"$", b"void main() {", b"void main() { x; }", b"void f() { }", b"\xff", LONG_PROGRAM, GOOD_FILES["code.m"]),
     "input": (b"", b"{", b'{"inputs":0}', b'{"inputs":[0]}', faulty_files.whole(faulty_files.entry(type='"uint"')),
               faulty_files.whole(faulty_files.entry(value=faulty_files.long_value(65_537)))),
     "tape": (b"", bytes(31), bytes(33), b"\xff" * 32, GOOD_FILES["t"][:-1], GOOD_FILES["t"] + b"\x00"),

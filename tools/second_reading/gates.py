@@ -7,6 +7,23 @@ from enum import Enum, auto
 MODULUS = 1 << 64
 MASK = MODULUS - 1
 BLOCK = 512
+WORD_BITS = 64
+
+
+def words_for(count: int) -> int:
+    """How many words hold so many truth values."""
+    return -(-count // WORD_BITS)
+
+
+def packed(truths) -> list[int]:
+    """Truth values as words: value k is bit k mod 64 of word k div 64, and the last word's other bits are 0."""
+    listed = list(truths)
+    return [sum(1 << place for place, truth in enumerate(listed[begin : begin + WORD_BITS]) if truth & 1) for begin in range(0, len(listed), WORD_BITS)]
+
+
+def unpacked(words: list[int], count: int) -> list[int]:
+    """The first truth values that words hold."""
+    return [words[place // WORD_BITS] >> place % WORD_BITS & 1 for place in range(count)]
 
 
 class Ring(Enum):
@@ -43,8 +60,13 @@ class Kind(Enum):
     PART = auto()
     PUT = auto()
     REPEAT = auto()
-    SPREAD = auto()
     SUM = auto()
+    PACK = auto()
+    UNPACK = auto()
+    REPEAT_BIT = auto()
+    PART_BIT = auto()
+    PUT_BIT = auto()
+    CAT_BIT = auto()
     SPLIT = auto()
     CONVERT = auto()
     OPEN = auto()
@@ -63,7 +85,7 @@ DRAWN = {
 
 @dataclass(frozen=True)
 class Gate:
-    """One gate: its operands' numbers, the number of its first result, its elements, and what else it has."""
+    """One gate: its operands' numbers, the number of its first result, its words, and what else it has."""
 
     kind: Kind
     operands: tuple[int, ...]
@@ -74,12 +96,12 @@ class Gate:
 
     def drawn(self) -> tuple[int, int, int]:
         """The words that each miner draws for it."""
-        per_element = DRAWN.get(self.kind, (0, 0, 0))
-        return tuple(self.size * count for count in per_element)
+        per_word = DRAWN.get(self.kind, (0, 0, 0))
+        return tuple(self.size * count for count in per_word)
 
 
 class GateList:
-    """Gates in order of making, with the element count of each value."""
+    """Gates in order of making, with how many words each value has."""
 
     def __init__(self):
         self.gates: list[Gate] = []
@@ -112,13 +134,37 @@ class GateList:
     def part(self, operand: int, start: int, count: int) -> int:
         return self.make(Kind.PART, (operand,), count, None, (start,))
 
-    def flip(self, operand: int) -> int:
-        """Turns truth values round."""
-        ones = self.make(Kind.CONSTANT, (), self.sizes[operand], None, [1] * self.sizes[operand])
-        return self.two(Kind.XOR, operand, ones)
+    def pack(self, operand: int) -> int:
+        """The lowest bits of all words, as packed truth values."""
+        return self.make(Kind.PACK, (operand,), words_for(self.sizes[operand]))
+
+    def unpack(self, operand: int, count: int) -> int:
+        """So many packed truth values, each as a word."""
+        return self.make(Kind.UNPACK, (operand,), count)
+
+    def repeat_bit(self, operand: int, count: int) -> int:
+        """A truth value so many times."""
+        return self.make(Kind.REPEAT_BIT, (operand,), words_for(count), None, (count,))
+
+    def part_bit(self, operand: int, index: int) -> int:
+        """One of the packed truth values."""
+        return self.make(Kind.PART_BIT, (operand,), 1, None, (index,))
+
+    def put_bit(self, operand: int, index: int, value: int) -> int:
+        """Packed truth values with another one at an index."""
+        return self.make(Kind.PUT_BIT, (operand, value), self.sizes[operand], None, (index,))
+
+    def cat_bit(self, left: int, count: int, right: int, other: int) -> int:
+        """So many packed truth values, and so many others after them."""
+        return self.make(Kind.CAT_BIT, (left, right), words_for(count + other), None, (count, other))
+
+    def flip(self, operand: int, count: int) -> int:
+        """Turns so many packed truth values round."""
+        ones = packed([1] * count)
+        return self.two(Kind.XOR, operand, self.make(Kind.CONSTANT, (), len(ones), None, ones))
 
     def equal_to_zero(self, operand: int) -> int:
-        """1 exactly where the number is 0."""
+        """1 exactly where the number is 0, in a word for each."""
         left, right = self.split(operand, True)
         passing = self.one(Kind.NOT, self.two(Kind.XOR, left, right))
         for shift in (32, 16, 8, 4, 2, 1):
@@ -141,7 +187,7 @@ class GateList:
         return self.two(Kind.XOR, half, self.one(Kind.SHIFT_LEFT, made, (1,)))
 
     def less(self, left: int, right: int) -> int:
-        """1 exactly where left is below right."""
+        """1 exactly where left is below right, in a word for each."""
         size = self.sizes[left]
         words = self.bits(self.cat(left, right))
         first, second = self.part(words, 0, size), self.part(words, size, size)
@@ -186,10 +232,29 @@ def local_share(gate: Gate, operands: list[list[int]], miner: int) -> list[int]:
         return first[: extra[0]] + operands[1] + first[extra[0] + 1 :]
     if kind is Kind.REPEAT:
         return first * gate.size
-    if kind is Kind.SPREAD:
-        return [(u >> place) & 1 for u in first for place in range(64)]
     if kind is Kind.SUM:
         return [sum(first) & MASK]
+    return bit_share(gate, operands)
+
+
+def bit_share(gate: Gate, operands: list[list[int]]) -> list[int]:
+    """Likewise of gates on packed truth values, whose miners all do the same; a share may have other bits set after its last truth value."""
+    kind, extra, first = gate.kind, gate.extra, operands[0]
+    if kind is Kind.PACK:
+        return packed(first)
+    if kind is Kind.UNPACK:
+        return unpacked(first, gate.size)
+    if kind is Kind.REPEAT_BIT:
+        return packed([first[0]] * extra[0])
+    if kind is Kind.PART_BIT:
+        return [first[extra[0] // WORD_BITS] >> extra[0] % WORD_BITS & 1]
+    if kind is Kind.PUT_BIT:
+        word, place = divmod(extra[0], WORD_BITS)
+        made = list(first)
+        made[word] = made[word] & ~(1 << place) | (operands[1][0] & 1) << place
+        return made
+    if kind is Kind.CAT_BIT:
+        return packed(unpacked(first, extra[0]) + unpacked(operands[1], extra[1]))
     raise ValueError(kind)
 
 

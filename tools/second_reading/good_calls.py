@@ -18,11 +18,11 @@ publish("s", declassify(a * sum((uint64) b) + k)); for (uint64 i = 0; i < k; i++
 }
 """
 SEED = "000102030405060708090a0b0c0d0e0f101112131415161718191a1b1c1d1e1f"
-LENGTHS = (8, 25, 18, 18)
+LENGTHS = (4, 25, 18, 18)
 
 
-# A function that multiplies two private numbers, publishes, counts down and calls another one, by hand.
-CODE = code_file.encode(Code(["a", "s"], [
+# A function that multiplies two private numbers, publishes, counts down and calls another one, by hand; and the same as code of the first version.
+MULTIPLYING = Code(["a", "s"], [
     Function(0, NOTHING, (1, 1, 0, 2, 0), [
         Instruction(Tag.ARGUMENT, (0, 0, 3)), Instruction(Tag.BINARY, (2, 1, 0, 0, 3)), Instruction(Tag.PUBLISH, (1, 1)),
         Instruction(Tag.LITERAL, (2, 2)), Instruction(Tag.LITERAL, (4, 1)), Instruction(Tag.CALL, (1, 2, 2, 4)),
@@ -31,7 +31,8 @@ CODE = code_file.encode(Code(["a", "s"], [
     Function(1, 0, (0, 0), [
         Instruction(Tag.LITERAL, (1, 1)), Instruction(Tag.BINARY, (1, 0, 0, 1, 8)), Instruction(Tag.RETURN, (0,)),
     ]),
-]))
+])
+CODE, FIRST_CODE = code_file.encode(MULTIPLYING), code_file.encode(MULTIPLYING, code_file.FIRST)
 
 
 @dataclass(frozen=True)
@@ -67,20 +68,22 @@ LINES = (
     Line("load", (), (("number", "2"),)),
     Line("gather", ("first.2", "second.2"), (("me", "2"), ("to", "g"))),
     Line("join", ("text.1", "text.2", "text.3")),
+    Line("upgrade", ("code.first",), (("code", "code"),)),
     # (these two end at a file that isn't there: else they would wait for peers, or start some)
     Line("miner", ("gone",), (("me", "2"), ("share", "first.2"), ("tape", "first.t2"), ("port", "47310"), ("out", "y"), ("budget", "100"))),
     Line("trio", ("gone",), (("input", "i.json"), ("tape", "t"), ("to", "d"), ("port", "47310"), ("budget", "100"))),
 )
 # The same two with all files, for calls that are made only where one of these is refused.
 WAITING = (replace(LINES[-2], places=("code.m",)), replace(LINES[-1], places=("p.sc",)))
-# The texts of three miners.
+# The texts of three miners. Words of truth values may have bits after the last one.
 TEXTS = [
-    f"open 42 0\nshare t uint64 {first} {second}\npublish s true\nopen\nshare b bool {bit}\nshare none bool\npublish n\nend done cost 9\n".encode()
-    for first, second, bit in ((MASK, 7, 1), (5, 18, 3), (3, 0, 4))
+    f"open 42 0\nshare t uint64 {first} {second}\npublish s true\nopen\nshare b bool 1 {bits}\nshare none bool 0\nshare c bool 65 {first} {bits}\n"
+    "publish n\nend done cost 9\n".encode()
+    for first, second, bits in ((MASK, 7, 1), (5, 18, 3), (3, 0, 4))
 ]
 WRITTEN = {
     "compile": ("code",), "run": ("views", "record"), "map": ("sim", "public", "opened"), "simulate": ("view",), "twin": ("to",),
-    "deal": ("to",), "gather": ("to",),
+    "deal": ("to",), "gather": ("to",), "upgrade": ("code",),
 }
 FILE_OPTIONS = ("input", "second", "public", "opened", "tape", "sim", "schedule")
 
@@ -112,7 +115,7 @@ def made_files() -> dict[str, bytes]:
         dealt = Caller(files, set()).call(["deal", "--input", given, "--tape", "t", "--to", prefix])
         files.update({path: data for path, data in dealt.written if path in ("first.1", "first.2", "first.t2", "second.2")})
     files.update({f"text.{miner}": text for miner, text in enumerate(TEXTS, 1)})
-    files["code.m"] = CODE
+    files |= {"code.m": CODE, "code.first": FIRST_CODE}
     return files
 
 

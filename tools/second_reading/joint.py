@@ -99,12 +99,13 @@ class JointRun:
         """The shares of the private inputs."""
         dealt = []
         for entry in private:
-            size, ring, start = len(entry.words), entry.type.ring, self.starts[0]
+            words, ring, start = entry.type.gate_words(entry.words), entry.type.ring, self.starts[0]
+            size = len(words)
             if before_dealing:
                 before_dealing(entry, start)
             first = self.tapes[0][start : start + size]
             second = self.tapes[0][start + size : start + 2 * size]
-            third = [ring.subtract(ring.subtract(x, u), v) for x, u, v in zip(entry.words, first, second)]
+            third = [ring.subtract(ring.subtract(x, u), v) for x, u, v in zip(words, first, second)]
             self.starts[0] += 2 * size
             dealt.append([[], first, second, third])
         return dealt
@@ -245,8 +246,9 @@ def map_tapes(miner: int, direction: Direction, gates: list[Gate], inputs: list[
     def before_dealing(entry: Input, start: int):
         if miner != 3:
             return
-        size, ring = len(entry.words), entry.type.ring
-        for place, word in enumerate(entry.words):
+        words, ring = entry.type.gate_words(entry.words), entry.type.ring
+        size = len(words)
+        for place, word in enumerate(words):
             first, second = source[0][start + place], source[0][start + size + place]
             target[0][start + place] = ring.subtract(ring.subtract(word, first), second)
 
@@ -258,7 +260,7 @@ def map_tapes(miner: int, direction: Direction, gates: list[Gate], inputs: list[
 
 
 class SimulatedMiner:
-    """What one miner sees, made of a tape and the opened words; no private word is known here."""
+    """What one miner sees, made of a tape and the words that gates open; no private word is known here."""
 
     def __init__(self, miner: int, gates: list[Gate], inputs: list[Input], opened: list[int], tapes: list[list[int]]):
         self.miner, self.tapes, self.opened = miner, tapes, opened
@@ -271,7 +273,7 @@ class SimulatedMiner:
         start = 0
         for entry in inputs:
             if entry.type.private:
-                size = len(entry.words)
+                size = entry.type.gate_size(len(entry.words))
                 begin = start + size if miner == 2 else start
                 self.dealt.append(tapes[0][begin : begin + size])
                 start += 2 * size

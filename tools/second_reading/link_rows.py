@@ -5,9 +5,11 @@ from __future__ import annotations
 import sys
 
 sys.dont_write_bytecode = True
+from code_file import FIRST, decode, encode
+from files import compact
 from served import GREETING, Hello, Setting, frame
 from served_programs import (
-    CONVERSION, INDEXED, KEPT_PRODUCT, NOTHING_DONE, PRODUCT, TOLD, Served, number, numbers, public_number, truth,
+    CONVERSION, INDEXED, KEPT_PRODUCT, NOTHING_DONE, PRODUCT, TOLD, TRUTHS, Served, number, numbers, public_number, truth, truths,
 )
 
 ZEROS = [[0] * 4 for _ in range(4)]
@@ -130,14 +132,14 @@ def product_rows(rows: MinerRows):
     hello = setting.hello(1, me)
     good_higher = arriving(3, higher)
     for field, fields in (
-        ("version", {"version": 2}), ("sender", {"sender": 3}), ("receiver", {"receiver": 3}), ("code", {"code": bytes(32)}),
+        ("version", {"version": 1}), ("sender", {"sender": 3}), ("receiver", {"receiver": 3}), ("code", {"code": bytes(32)}),
         ("public", {"public": bytes(32)}),
     ):
         rows.refused(f"a hello with another {field}", 11, f"N2 {field}", me, *arriving(1, changed(hello, **fields)), *good_higher, *greeted(setting, me))
     everything = changed(hello, version=0, sender=0, receiver=9, code=bytes(32), public=bytes(32))
     rows.refused("a hello with all fields wrong", 11, "N2 version", me, *arriving(1, everything), *good_higher, *greeted(setting, me))
     rows.refused(
-        "a hello with all fields but the first wrong", 11, "N2 sender", me, *arriving(1, everything[:1] + b"\x01" + everything[2:]), *good_higher,
+        "a hello with all fields but the first wrong", 11, "N2 sender", me, *arriving(1, everything[:1] + b"\x02" + everything[2:]), *good_higher,
         *greeted(setting, me),
     )
     seven = b"\x07" + hello.bytes()[1:]
@@ -189,7 +191,10 @@ def file_rows(rows: MinerRows):
     code = setting.code
     rows.refused("the code has one byte more", 3, f"B4 place {len(code)}", me, *file("p.code", hexed(code + b"\x00")))
     rows.refused("the code has one byte fewer", 3, f"B1 place {len(code) - 1}", me, *file("p.code", hexed(code[:-1])))
-    rows.refused("the code has another version", 3, "B3 place 4", me, *file("p.code", hexed(code[:4] + b"\x02" + code[5:])))
+    rows.refused("the code is of the first version", 3, "B3 place 4", me, *file("p.code", hexed(code[:4] + b"\x01" + code[5:])))
+    rows.refused("the code has a version that there isn't", 3, "B3 place 4", me, *file("p.code", hexed(code[:4] + b"\x03" + code[5:])))
+    rows.refused("the code of a program that does nothing, of the first version", 3, "B3 place 4", me,
+                 *file("p.code", hexed(encode(decode(NOTHING_DONE.code), FIRST))))
     rows.refused("a register that is not there", 3, "B5 function 0 instruction 0", me, *file("p.code", hexed(first_register(code, 9))))
     rows.refused("the code of a program that does nothing, with one byte more", 3, "B4 place 17", me, *file("p.code", hexed(NOTHING_DONE.code + b"\x00")))
     rows.refused("the code is wrong, and the share file, too", 3, "B1 place 0", me, "file p.code", "file p.2")
@@ -253,7 +258,16 @@ def kinds_of_runs() -> list[tuple[str, Served, list, list[list[int]]]]:
         ("two values that are handed out, and a public one", TOLD, [numbers("a", 1, 2, (1 << 64) - 1), public_number("p", 5), truth("b", True)], rich),
         ("an empty array that is handed out", TOLD, [truth("b", False), numbers("a")], rich),
         ("nothing", NOTHING_DONE, [], [[], [], [], []]),
+        ("65 truth values", TRUTHS, [truths("a", 65), truths("b", 65, 2)], MASKS),
     ]
+
+
+# Tapes whose words have all bits somewhere, as shares of packed truth values may have them.
+ALL_ONES = (1 << 64) - 1
+MASKS = [
+    [ALL_ONES, 2, 3 << 62, 1 << 63, 5, ALL_ONES - 5, 7, 1 << 40],
+    *([place * miner << 33 ^ ALL_ONES - place for place in range(10)] for miner in (1, 2, 3)),
+]
 
 
 def ended_rows(rows: MinerRows):
@@ -528,12 +542,39 @@ def join_rows() -> Rows:
         status = one.report.end.status
         rows.group(title, "call join p.o1 p.o2 p.o3", *texts(*[one.text(miner) for miner in (1, 2, 3)]))
         rows.row("it is told", *([f"status {status}"] if status else []), *common_text(one))
-    rows.group("shares of truth values", "call join p.o1 p.o2 p.o3",
-               *texts(*[f"share b bool {words}\nend done cost 5\n".encode() for words in ("3 0 7", "2 0 1", "6 1 0")]))
-    rows.row("their lowest bits count", "out", "|publish b true true false", "|end done cost 5")
+    truth_rows(rows)
     rows.group("the same text three times", "call join p.o1 p.o1 p.o1", "file p.o1", "|share c uint64 9223372036854775809", "|end done cost 5")
     rows.row("it is put together with itself", "out", "|publish c 9223372036854775811", "|end done cost 5")
     return rows
+
+
+def truth_rows(rows: Rows):
+    """Shares of truth values: how many they are, and then the words that hold them. Bits after the last one say nothing."""
+
+    def three(*lines: str) -> list[str]:
+        return texts(*[f"share b bool {line}\nend done cost 5\n".encode() for line in lines])
+
+    def told(title: str, shown: str, *lines: str):
+        rows.row(title, *three(*lines), "out", f"|publish b{shown}", "|end done cost 5")
+
+    ones = ALL_ONES
+    rows.group("shares of truth values", "call join p.o1 p.o2 p.o3")
+    told("a bit each, the lowest first", " true true false", "3 3", "3 2", "3 2")
+    told("bits after the last one say nothing", " true true false", f"3 {ones}", f"3 {ones - 8}", f"3 {1 << 63 | 11}")
+    told("one, with all bits of all words set", " true", *[f"1 {ones}"] * 3)
+    told("none", "", *["0"] * 3)
+    told("63", " false" * 62 + " true", f"63 {ones}", f"63 {ones}", f"63 {1 << 62}")
+    told("64", " true" + " false" * 62 + " true", f"64 {ones}", f"64 {1 << 63}", f"64 {ones - 1}")
+    told("65", " false" * 64 + " true", f"65 {ones} 1", f"65 {ones} 4", "65 0 6")
+    told("129 in three words", " true" * 128 + " false", f"129 {ones} {ones} 1", "129 0 0 1", "129 0 0 2")
+    for title, line in (
+        ("a word too few", "65 1"), ("a word too many", "64 1 1"), ("no word", "1"), ("a word of none", "0 0"), ("a word for each truth value", "2 1 1"),
+        ("2^64 - 1 and no word", str(ones)), ("2^64 - 1 and a word", f"{ones} 1"), ("2^64", f"{1 << 64} 1"), ("no number of truth values", "true 1"),
+        ("the number begins with 0", "01 1"), ("no number, and no word", ""),
+    ):
+        rows.row(f"the second text has {title}", *three("1 1", line, "1 1"), *ends(12, "C4 miner 2 line 1"))
+    rows.row("numbers of truth values that differ, in as many words", *three("63 1", "64 1", "64 1"), *ends(13, "C2 line 1"))
+    rows.row("one text is of numbers", *three("1 1", "1 1", "1 1")[:-3], "file p.o3", "|share b uint64 1 1", "|end done cost 5", *ends(13, "C2 line 1"))
 
 
 def main(words: list[str]):

@@ -1,4 +1,4 @@
-"""Calls of `join` on texts of all kinds, and of `miner` and `trio` where they are refused before they need peers or children."""
+"""Calls of `join` on texts of all kinds, of `upgrade` on code, and of `miner` and `trio` where they are refused before they need peers or children."""
 from __future__ import annotations
 
 import random
@@ -8,7 +8,7 @@ from collections.abc import Iterator
 import faulty_files
 from comparison import Folder
 from faulty_files import changed_bytes
-from good_calls import CODE, GOOD_FILES, LENGTHS, TEXTS, WAITING
+from good_calls import CODE, FIRST_CODE, GOOD_FILES, LENGTHS, TEXTS, WAITING
 
 MINER, TRIO = WAITING
 NAME = "n" * 64
@@ -19,9 +19,14 @@ ODD_LINES = (
     "publish ", "publish s", "publish s ", "publish  s", "publish s true", "publish a-b 1", f"publish {NAME} 1", f"publish {NAME}n 1",
     f"publish {OVER} 1", "publish open 1", "publish s t", "share", "share t", "share t uint64", "share t uint64 ", "share t uint64 5",
     "share t uint64 5 18", "share t uint64 5 18 1", "share t uint64 05 18", f"share t uint64 {LARGEST} 1", f"share t uint64 {OVER} 1",
-    "share t bool 5 18", "share t bool true", "share t uint 5 18", "share t int64 5", "share b bool 1", "share b bool 1 1", "share b",
-    f"share {NAME}n bool 1", "share a-b bool 1", "view 1", "in a 1", "drew 1", "got 12 1", "end", "end ", "end done", "end done cost",
-    "end done cost 9", "end done cost 09", f"end done cost {LARGEST}", f"end done cost {OVER}", "end done  cost 9", "end budget cost 0",
+    "share t bool 2 18", "share t bool true", "share t uint 5 18", "share t int64 5", "share b", "share b bool", "share b bool ", "share b bool 1",
+    "share b bool 1 1", "share b bool 1 3", "share b bool 1  1", "share b bool 1 1 1", "share b bool 01 1", "share b bool 2 1", "share b bool 63 1",
+    "share b bool 64 1", f"share b bool 64 {LARGEST}", f"share b bool 64 {OVER}", "share b bool 64 1 1", "share b bool 65 1", "share b bool 65 1 1",
+    f"share b bool 65 {LARGEST} {LARGEST}", "share b bool 128 1 1", "share b bool 129 1 1", "share b bool 0", "share b bool 0 ", "share b bool 0 0",
+    "share b bool 00", f"share b bool {LARGEST}", f"share b bool {LARGEST} 1", f"share b bool {OVER}", f"share b bool {OVER} 1", "share b bool -1",
+    "share b bool 1 true", f"share {NAME}n bool 1 1", f"share {NAME} bool 1 1", "share a-b bool 1 1", "share bool bool 1 1", "view 1",
+    "in a 1", "drew 1", "got 12 1", "end", "end ", "end done", "end done cost", "end done cost 9",
+    "end done cost 09", f"end done cost {LARGEST}", f"end done cost {OVER}", "end done  cost 9", "end budget cost 0",
     "end budget", "end trap Div line 3 cost 4", "end trap div line 3 cost 4", "end trap Depth line 4294967295 cost 4",
     "end trap Depth line 4294967296 cost 4", "end trap Large cost 4", "end trap Length line 0 cost 4", "end trap Sum line 3 cost 4",
     "end tape 0 need 2 have 1 cost 0", "end tape 3 need 2 have 1 cost 5", "end tape 4 need 2 have 1 cost 5",
@@ -29,7 +34,7 @@ ODD_LINES = (
     "end tape need 2 have 1 cost 5", "\u00e9", "open \x00", "# open 1",
 )
 TEXT_TOKENS = (
-    b"\n", b" ", b"open 1\n", b"publish s ", b"share ", b"share t uint64 1 2\n", b"bool", b"uint64", b"end done cost 9\n",
+    b"\n", b" ", b"open 1\n", b"publish s ", b"share ", b"share t uint64 1 2\n", b"share c bool 64 1\n", b"bool", b"bool 65", b"uint64", b"end done cost 9\n",
     b"end trap Div line 3 cost 4\n", b"true", b"0", b"1", b"18446744073709551616", b"\r", b"\xff", b"\x00",
 )
 CODE_TOKENS = (
@@ -96,25 +101,28 @@ def own_tapes() -> Iterator[bytes]:
 def random_codes(source: random.Random, count: int) -> Iterator[bytes]:
     """Code with bytes that were changed."""
     for _ in range(count):
-        data = CODE
+        data = source.choice((CODE, FIRST_CODE))
         for _ in range(source.choice((1, 1, 1, 2))):
             data = changed_bytes(data, source, CODE_TOKENS)
         yield data
 
 
 def odd_codes() -> Iterator[bytes]:
-    """Code that ends at each byte, or in which one byte is another."""
-    for size in range(len(CODE)):
-        yield CODE[:size]
-        for byte in (0, 1, 2, 5, 7, 8, 0x15, 0x19, 255, CODE[size] ^ 1):
-            yield CODE[:size] + bytes([byte]) + CODE[size + 1 :]
-    yield CODE + b"\x00"
+    """Code of both versions that ends at each byte, or in which one byte is another."""
+    for code in (CODE, FIRST_CODE):
+        for size in range(len(code)):
+            yield code[:size]
+            for byte in (0, 1, 2, 5, 7, 8, 0x15, 0x19, 255, code[size] ^ 1):
+                yield code[:size] + bytes([byte]) + code[size + 1 :]
+        yield code + b"\x00"
+        yield code[:4] + b"\x03" + code[5:]
 
 
 def play_code(data: bytes, _source: random.Random, folder: Folder):
-    """Code; where it is good the call ends at a tape that isn't there."""
+    """Code; where it is good the call of a miner ends at a tape that isn't there. Either version is read by one command alone."""
     folder.put("x", data)
     folder.call("miner", "x", *MINER.having("tape", "gone").words()[2:])
+    folder.call("upgrade", "x", "--code", "y")
 
 
 def play_own_tape(data: bytes, source: random.Random, folder: Folder):

@@ -7,16 +7,21 @@ from refusals import CallRefused
 from wire import read_words
 
 
-def read_code(data: bytes) -> code_file.Code:
+def read_code(data: bytes, rules: code_file.Rules = code_file.SECOND) -> code_file.Code:
     """The code in a file, which may run; else its first fault."""
     try:
-        code = code_file.decode(data)
+        code = code_file.decode(data, rules)
     except code_file.CodeFault as fault:
         raise CallRefused(str(fault), 3) from None
     wrong = code_file.Verifier(code).fault()
     if wrong:
         raise CallRefused(wrong, 3)
     return code
+
+
+def read_first_code(data: bytes) -> code_file.Code:
+    """Likewise of the first version."""
+    return read_code(data, code_file.FIRST)
 
 
 def read_own_tape(data: bytes, length: int) -> list[int]:

@@ -2,16 +2,18 @@
 from __future__ import annotations
 
 import re
+from dataclasses import dataclass
 from itertools import zip_longest
 
-from gates import MASK
+from gates import MASK, unpacked, words_for
 from refusals import CallRefused
 
 NAME, WORD = r"[A-Za-z0-9_]{1,64}", r"(?:0|[1-9][0-9]*)"
 ELEMENTS = rf"(?: {WORD}| true| false)*"
 KINDS = "Length|Div|Index|Argument|Depth|Assert|Large"
 TOLD = re.compile(rf"open{ELEMENTS}|publish {NAME}{ELEMENTS}")
-SHARE = re.compile(rf"share ({NAME}) (uint64|bool)((?: {WORD})*)")
+# Of a number its words; of truth values how many they are, and then their words.
+SHARE = re.compile(rf"share ({NAME}) (?:(uint64)|(bool) ({WORD}))((?: {WORD})*)")
 END = re.compile(rf"end (?:(done)|(trap) (?:{KINDS}) line {WORD}|(budget)|(tape) [0-3] need {WORD} have {WORD}) cost {WORD}")
 STATUSES = (0, 1, 7, 8)
 # How large a word may be that stands after such a one.
@@ -26,13 +28,44 @@ def are_bounded(line: str) -> bool:
     return all(not word.isdigit() or int(word) < BOUNDS.get(before, 1 << 64) for before, word in zip(words, words[1:]))
 
 
+@dataclass(frozen=True)
+class Share:
+    """A line with a miner's share: the name, how many truth values there are (None of numbers), and the words."""
+
+    name: str
+    count: int | None
+    words: tuple[int, ...]
+
+    def is_whole(self) -> bool:
+        """Whether the words are as many as the truth values take."""
+        return self.count is None or len(self.words) == words_for(self.count)
+
+    def compared(self) -> str:
+        """The line as it is compared: of the words only how many they are."""
+        kind = "uint64" if self.count is None else f"bool {self.count}"
+        return f"share {self.name} {kind} {len(self.words)}"
+
+
+def share_in(line: str) -> Share | None:
+    """The share in a line, where it is one."""
+    found = SHARE.fullmatch(line)
+    return found and Share(found[1], None if found[2] else int(found[4]), tuple(int(word) for word in found[5].split()))
+
+
+def is_good(line: str) -> bool:
+    """Whether a line is one of a miner's text."""
+    share = share_in(line)
+    told = share.is_whole() if share else TOLD.fullmatch(line) or END.fullmatch(line)
+    return bool(told) and are_bounded(line)
+
+
 def lines_of(miner: int, data: bytes) -> list[str]:
     """The lines of a miner's text; refused for the first that is wrong."""
     text = data.decode("latin-1")
     lines, ended = text.split("\n"), False
     rest = lines.pop()
     for number, line in enumerate(lines, 1):
-        if ended or not (TOLD.fullmatch(line) or SHARE.fullmatch(line) or END.fullmatch(line)) or not are_bounded(line):
+        if ended or not is_good(line):
             raise CallRefused(f"C4 miner {miner} line {number}", 12)
         ended = END.fullmatch(line) is not None
     if rest or not ended:
@@ -41,22 +74,23 @@ def lines_of(miner: int, data: bytes) -> list[str]:
 
 
 def without_words(line: str) -> str:
-    """A line as it is compared: of shares only their count."""
-    found = SHARE.fullmatch(line)
-    return f"share {found[1]} {found[2]} {found[3].count(' ')}" if found else line
+    """A line as it is compared."""
+    share = share_in(line)
+    return share.compared() if share else line
 
 
 def together(three: tuple[str, str, str]) -> str:
     """The line that three make."""
-    found = [SHARE.fullmatch(line) for line in three]
-    if not found[0]:
+    shares = [share_in(line) for line in three]
+    first = shares[0]
+    if not first:
         return three[0]
-    columns = zip(*([int(word) for word in one[3].split()] for one in found))
-    if found[0][2] == "uint64":
+    columns = list(zip(*(share.words for share in shares)))
+    if first.count is None:
         shown = [str(sum(words) & MASK) for words in columns]
     else:
-        shown = ["true" if (x ^ y ^ z) & 1 else "false" for x, y, z in columns]
-    return " ".join(["publish", found[0][1], *shown])
+        shown = ["true" if truth else "false" for truth in unpacked([x ^ y ^ z for x, y, z in columns], first.count)]
+    return " ".join(["publish", first.name, *shown])
 
 
 def joined(parts: list[list[str]]) -> tuple[str, int]:

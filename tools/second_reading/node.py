@@ -6,7 +6,7 @@ from collections.abc import Callable
 from clear import Input, Value, ValueType
 from code_file import Code
 from code_meaning import CodeRun
-from gates import INTERACTIVE, MASK, Gate, Kind, Ring, blocks_of, local_share
+from gates import INTERACTIVE, MASK, Gate, Kind, Ring, blocks_of, local_share, unpacked
 from joint import bit, cross, next_of, previous_of
 from shares import ShareFile
 from tree import Data
@@ -25,7 +25,8 @@ def inputs_of(share: ShareFile) -> tuple[list[Input], list[list[int]]]:
     for entry in share.entries:
         private, data = entry["domain"] == "private", Data(entry["type"])
         if private:
-            array, words = entry["shape"] != "scalar", [0] * len(entry["share"])
+            array = entry["shape"] != "scalar"
+            words = [0] * (entry["shape"] if array else 1)
             shares.append(entry["share"])
         else:
             array = isinstance(entry["value"], list)
@@ -131,15 +132,17 @@ class Node(CodeRun):
         self.done, self.lines = 0, []
 
     def answer(self, value: Value) -> tuple[int, ...]:
-        words = self.run_gates()
-        words = tuple(word & 1 if value.type.data is Data.TRUTH else word for word in words)
+        words = tuple(self.run_gates())
+        if value.type.data is Data.TRUTH:
+            words = tuple(unpacked(words, len(value.words)))
         self.lines.append(" ".join(["open", *shown(value, words)]))
         return words
 
     def publish(self, name: str, value: Value) -> None:
         super().publish(name, value)
         if value.type.private:
-            self.lines.append(" ".join(["share", name, value.type.data.value, *map(str, self.run_gates())]))
+            kind = ["uint64"] if value.type.data is Data.NUMBER else ["bool", str(len(value.words))]
+            self.lines.append(" ".join(["share", name, *kind, *map(str, self.run_gates())]))
         else:
             self.lines.append(" ".join(["publish", name, *shown(value, value.words)]))
 

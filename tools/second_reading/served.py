@@ -27,7 +27,7 @@ class Hello:
     receiver: int
     code: bytes
     public: bytes
-    version: int = 1
+    version: int = 2
 
     def bytes(self) -> bytes:
         return bytes([0, self.version, self.sender, self.receiver]) + self.code + self.public
@@ -105,5 +105,5 @@ class Setting:
 
     @staticmethod
     def share_line(event: Event, words: list[int]) -> str:
-        kind = "uint64" if event.data is Data.NUMBER else "bool"
+        kind = "uint64" if event.data is Data.NUMBER else f"bool {len(event.words)}"
         return " ".join(["share", event.name, kind, *map(str, words)])

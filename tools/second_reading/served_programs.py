@@ -10,7 +10,7 @@ from commands import DEFAULT_BUDGET, runnable
 from served import Setting
 from tree import Data
 
-TIMES = 2
+TIMES, BOTH = 2, 11
 LINE = 2
 HEAD = "import stdlib; import shared3p; domain p shared3p; void main() {\n"
 TWO = 'p uint64 a = argument("a"); p uint64 b = argument("b"); '
@@ -55,6 +55,11 @@ def truth(name: str, word: bool) -> Input:
     return Input(name, ValueType(True, Data.TRUTH, False), (int(word),))
 
 
+def truths(name: str, count: int, period: int = 3) -> Input:
+    """So many truth values, of which every third one, or that of another period, is true."""
+    return Input(name, ValueType(True, Data.TRUTH, True), tuple(int(place % period == 0) for place in range(count)))
+
+
 def public_number(name: str, word: int) -> Input:
     return Input(name, ValueType(False, Data.NUMBER, False), (word,))
 
@@ -85,6 +90,14 @@ TOLD = Served(
     code_of(["a", "b"], (PRIVATE | ARRAY, PRIVATE | ARRAY, PRIVATE | TRUTH, PRIVATE | TRUTH), (Tag.ARGUMENT, 1, 0, LINE), (Tag.STORE, 0, 1),
             (Tag.ARGUMENT, 3, 1, LINE), (Tag.STORE, 2, 3), (Tag.PUBLISH, 0, 0), (Tag.PUBLISH, 1, 2), (Tag.RETURN_NONE,)),
     ("a", "b"),
+)
+# Truth values in arrays: both are opened, and one of them handed out after an element of the other was stored in it.
+TRUTHS = Served(
+    of_main('p bool[[1]] a = argument("a"); p bool[[1]] b = argument("b"); publish("o", declassify(a & b)); b[0] = a[1]; publish("b", b);'),
+    code_of(["a", "b", "o"], (PRIVATE | TRUTH | ARRAY,) * 3 + (TRUTH | ARRAY, 0, PRIVATE | TRUTH, 0), (Tag.ARGUMENT, 2, 0, LINE), (Tag.STORE, 0, 2),
+            (Tag.ARGUMENT, 2, 1, LINE), (Tag.STORE, 1, 2), (Tag.BINARY, BOTH, 2, 0, 1, LINE), (Tag.DECLASSIFY, 3, 2), (Tag.PUBLISH, 2, 3),
+            (Tag.LITERAL, 4, 0), (Tag.LITERAL, 6, 1), (Tag.AT, 5, 0, 6, LINE), (Tag.PUT, 1, 4, 5, LINE), (Tag.PUBLISH, 1, 1), (Tag.RETURN_NONE,)),
+    ("b",),
 )
 INDEXED = Served(
     of_main('uint64[[1]] a (5); publish("x", a[5]);'),

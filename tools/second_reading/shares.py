@@ -5,6 +5,7 @@ from dataclasses import dataclass
 
 from entries import EntryFault, EntryReader
 from files import compact, public_entry
+from gates import words_for
 from json_text import WORD_BOUND, NoJson, json_value
 from refusals import CallRefused
 
@@ -22,14 +23,15 @@ def is_words(value, count: int) -> bool:
     return isinstance(value, list) and len(value) == count and all(type(one) is int for one in value)
 
 
-def share_words(reader: EntryReader) -> tuple[bool, int, list[int]]:
-    """Of a private entry whether it is an array, and its words; the shape is tested first, and the limit after the words."""
+def share_words(reader: EntryReader, kind: str) -> tuple[bool, int, list[int]]:
+    """Of a private entry whether it is an array, its elements, and its words, of truth values one for 64; the shape is tested first, and the limit
+    after the words."""
     shape = reader.fields.get("shape")
     array = type(shape) is int
     if not array and shape != "scalar":
         raise reader.bad("shape")
     count, words = shape if array else 1, reader.fields.get("share")
-    if not is_words(words, count):
+    if not is_words(words, count if kind == "uint64" else words_for(count)):
         raise reader.bad("share")
     reader.count(count)
     return array, count, words
@@ -41,7 +43,7 @@ def read_entry(reader: EntryReader, taken: set[str]) -> dict:
         return public_entry(reader.read(taken, False))
     name = reader.name(taken)
     kind = reader.one_of("type", ("uint64", "bool"))
-    array, count, words = share_words(reader)
+    array, count, words = share_words(reader, kind)
     return {"name": name, "domain": "private", "type": kind, "shape": count if array else "scalar", "share": words}
 
 

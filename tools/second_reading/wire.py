@@ -7,7 +7,7 @@ import struct
 from dataclasses import dataclass, replace
 
 HELLO_TAG, FRAME_TAG = 0, 1
-VERSION = 1
+VERSION = 2
 HELLO_SIZE, HEADER_SIZE = 68, 5
 MOST_WORDS = 2048
 FIELDS = ("version", "sender", "receiver", "code", "public")

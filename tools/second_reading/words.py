@@ -37,6 +37,7 @@ FORMS = {
     "load": Form((), ("number",)),
     "gather": Form((), ("me", "to"), has_list=True),
     "join": Form(("first", "second", "third")),
+    "upgrade": Form(("old",), ("code",)),
     "miner": Form(("code",), ("me", "share", "tape", "port", "out"), ("budget",)),
     "trio": Form(("program",), ("input", "tape", "to", "port"), ("budget",)),
 }

@@ -22,11 +22,11 @@ fn is_share(
         return false;
     }
     let share = &shares[place];
-    share.name().as_str() == name.as_str() && share.words().len() as u64 == shared_size(data_type, shape.count())
+    let count = shared_size(data_type, shape.count());
+    share.name().as_str() == name.as_str() && share.words().len() as u64 == count
 }
 
-/// The place of the first `in` line that isn't the next hidden input's, by its name and its number of words (of truth values
-/// 64 share a word). Where the last ones are
+/// The place of the first `in` line that isn't the next hidden input's, by its name and its number of words. Where the last ones are
 /// missing, it is the place after the lines; where every line is as it must be, there is none.
 pub fn wrong_share_at(part: &[PublicEntry], shares: &[InputShare]) -> Option<u64>
     ensures { result ≡ wrong_share_at part.now shares.now }

@@ -15,7 +15,8 @@ use Rattle.program_trees.specs.declared.operators.BinaryOperator.TheVariants.{Wo
 use Rattle.program_trees.specs.declared.operators.Cast.{Cast}
 use Rattle.program_trees.specs.declared.operators.Cast.TheVariants.{WordToWord, WordToBool, BoolToWord, BoolToBool}
 use Rattle.language_model.specs.Values.{Value, gate_words}
-use Rattle.language_model.specs.Operations.{number_of, repeated_gate, stretched, flip, zero_gates, equal_gates, less_gates, or_gates, operator_gates, cast_gates}
+use Rattle.language_model.specs.Operations.{number_of, repeated_gate, stretched, flip, zero_gates, equal_gates, less_gates, or_gates}
+use Rattle.language_model.specs.Operations.{operator_gates, cast_gates}
 use Rattle.blind_evaluation.proofs.Alike.{Alike, Same, same_bind, alike_done, gate_alike, number_alike, planned_alike}
 use Rattle.blind_evaluation.proofs.AlikeValues.{LikeValues, plains, unmade, made}
 

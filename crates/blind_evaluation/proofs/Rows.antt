@@ -22,7 +22,8 @@ use Rattle.program_trees.specs.declared.operators.Cast.TheVariants.{WordToWord, 
 use Rattle.program_trees.specs.Shapes.{shape_of}
 use Rattle.language_model.specs.Effects.{Words, words_each, Clear, Answers, World, Stage, Short, Effect, ◌>>=◌, carry, done, test, gate, draw}
 use Rattle.language_model.specs.Effects.{planned, emit, next_answers, show}
-use Rattle.language_model.specs.Values.{Secrecy, Private, Value, plain, is_secret, size, visible_words, is_true, ring_for, gate_words, gate_size, element_of, elements_of}
+use Rattle.language_model.specs.Values.{Secrecy, Private, Value, plain, is_secret, size, visible_words, is_true, element_of, elements_of}
+use Rattle.language_model.specs.Values.{ring_for, gate_words, gate_size}
 use Rattle.language_model.specs.Words as W
 use Rattle.language_model.specs.Operations.{charged, no_traps, largest, not_too_large, number_of, made_private, classified, wanted, read_answer}
 use Rattle.language_model.specs.Operations.{repeated_gate, element_gate, stored_gate, joined_gate}
@@ -113,7 +114,8 @@ summed_alike l = any_bind (charge_alike 1) (λ _ _. summed_from_alike l)
 cat_alike : {x x' y y' : Value} → LikeValues x x' → LikeValues y y'
     → Alike LikeValues (number_of x >>= λ u. number_of y >>= λ v. gate (joined_gate x.shape.element u (size x) v (size y)) >>= λ r.
     made_private x.shape (x.words ++ y.words) r)
-    (number_of x' >>= λ u. number_of y' >>= λ v. gate (joined_gate x'.shape.element u (size x') v (size y')) >>= λ r. made_private x'.shape (x'.words ++ y'.words) r)
+    (number_of x' >>= λ u. number_of y' >>= λ v. gate (joined_gate x'.shape.element u (size x') v (size y')) >>= λ r.
+    made_private x'.shape (x'.words ++ y'.words) r)
 cat_alike {x = x} {x' = x'} {y = y} {y' = y'} l m =
     same_bind (value_number_alike l) (λ u. same_bind (value_number_alike m) (λ v.
     same_bind (gate_equal (λ d. joined_gate (like_shape l d).element u (like_size l d) v (like_size m d))) (λ r.
@@ -149,7 +151,8 @@ inside_alike line {v = v} {i' = i'} l m =
 element_private : (k : Option ℕ) (i : ℕ) {v v' : Value} → LikeValues v v' → Alike LikeValues (element_from (Private k) v i) (element_from (Private k) v' i)
 element_private k i l =
     same_bind (value_number_alike l)
-    (λ u. same_bind (gate_equal (ap (λ (s : Shape). element_gate s.element u i) (like_shape l))) (λ r. result_alike (ap (λ (s : Shape). shape_of s.element false) (like_shape l)) refl r))
+    (λ u. same_bind (gate_equal (ap (λ (s : Shape). element_gate s.element u i) (like_shape l))) (λ r.
+    result_alike (ap (λ (s : Shape). shape_of s.element false) (like_shape l)) refl r))
 
 element_from_alike : (i : ℕ) {v v' : Value} → LikeValues v v' → Alike LikeValues (element_from v.secrecy v i) (element_from v'.secrecy v' i)
 element_from_alike i (plains shape words) = plain_alike (shape_of shape.element false) (get_or words i 0 ∷ [])
@@ -165,7 +168,7 @@ element_alike line {v' = v'} {i = i} l m =
 with_element_private : (k : Option ℕ) (i : ℕ) {v v' x x' : Value} → LikeValues v v' → LikeValues x x'
     → Alike LikeValues (with_element_from (Private k) v i x) (with_element_from (Private k) v' i x')
 with_element_private k i {v = v} {v' = v'} {x = x} {x' = x'} l m =
-    same_bind (value_number_alike l) (λ u. same_bind (value_number_alike m) (λ e. 
+    same_bind (value_number_alike l) (λ u. same_bind (value_number_alike m) (λ e.
     same_bind (gate_equal (ap (λ (s : Shape). stored_gate s.element u i e) (like_shape l))) (λ r.
     result_alike (like_shape l) (set_length i (first_word x.words) (first_word x'.words) v.words v'.words (like_size l)) r)))
 

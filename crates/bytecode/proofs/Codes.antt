@@ -10,7 +10,9 @@ use Rattle.bytecode.specs.declared.kind.Kind.{Kind}
 use Rattle.bytecode.specs.Kinds.{kind_byte, is_kind, kind_of, return_byte, is_return, return_of}
 use Rattle.bytecode.specs.Raw.{Raw, RawFunction, RawCode}
 use Rattle.bytecode.specs.Written.{Number, byte, short, bytes_of, instruction_numbers, head_numbers, body_numbers, name_numbers, code_numbers, written_code}
-use Rattle.bytecode.specs.Writable.{Fits, parameters_of, IsProper, AreNewNames, AreProper, IsWritable}
+use Rattle.bytecode.specs.Versions.{Counted}
+use Rattle.bytecode.specs.declared.version.CodeVersion.TheVariants.{Second}
+use Rattle.bytecode.specs.Writable.{Fits, IsProper, AreNewNames, AreProper, IsWritable}
 use Rattle.bytecode.specs.Layouts.{is_name_length, Layout, Makes, Field, Read, read, behind}
 use Rattle.bytecode.specs.Decoded.{repeated, kind_layout, instruction_layout, body_layout, Head, kinds, head_layout, heads_layout, names_layout}
 use Rattle.bytecode.specs.Decoded.{function_of, bodies_layout, functions_layout, code_layout, ended, whole, decoded}
@@ -227,84 +229,77 @@ names_told earlier (suc n) ns names h =
 
 -- ---- bodies
 
-body_spells : (ps : List ℕ) (is : List Raw) → Each (IsProper ps) is → Spells (body_layout ps (length is)) (flat_map instruction_numbers is) is
-body_spells ps [] h = (refl, refl)
-body_spells ps (i ∷ is) h =
-    behind_spells (instruction_layout ps) _ (instruction_numbers i) (flat_map instruction_numbers is) i (i ∷ is) (instruction_spells ps i h.0)
-    (subst (λ z. Spells (behind (body_layout ps (length is)) (λ js. Makes (i ∷ js))) z (i ∷ is)) (append-nil (flat_map instruction_numbers is))
-    (behind_spells (body_layout ps (length is)) _ (flat_map instruction_numbers is) [] is (i ∷ is) (body_spells ps is h.1) (refl, refl)))
+body_spells : (is : List Raw) → Each IsProper is → Spells (body_layout Counted (length is)) (flat_map instruction_numbers is) is
+body_spells [] h = (refl, refl)
+body_spells (i ∷ is) h =
+    behind_spells (instruction_layout Counted) _ (instruction_numbers i) (flat_map instruction_numbers is) i (i ∷ is) (instruction_spells i h.0)
+    (subst (λ z. Spells (behind (body_layout Counted (length is)) (λ js. Makes (i ∷ js))) z (i ∷ is)) (append-nil (flat_map instruction_numbers is))
+    (behind_spells (body_layout Counted (length is)) _ (flat_map instruction_numbers is) [] is (i ∷ is) (body_spells is h.1) (refl, refl)))
 
-body_told : (ps : List ℕ) (n : ℕ) (ns : List Number) (is : List Raw) → Spells (body_layout ps n) ns is
-    → (ns ≡ flat_map instruction_numbers is) × (length is ≡ n) × Each (IsProper ps) is
-body_told ps zero ns is h = (h.0 ∙ ap (λ z. flat_map instruction_numbers z) h.1, ap length (sym h.1), subst (Each (IsProper ps)) h.1 tt)
-body_told ps (suc n) ns is h =
-    let r = behind_apart (instruction_layout ps) (λ i. behind (body_layout ps n) (λ is. Makes (i ∷ is))) ns is h in
-    let q = behind_apart (body_layout ps n) (λ is. Makes (r.value ∷ is)) r.second is r.seconds in
-    let ih = body_told ps n q.first q.value q.firsts in
-    let i = instruction_told ps r.first r.value r.firsts in
+body_told : (n : ℕ) (ns : List Number) (is : List Raw) → Spells (body_layout Counted n) ns is
+    → (ns ≡ flat_map instruction_numbers is) × (length is ≡ n) × Each IsProper is
+body_told zero ns is h = (h.0 ∙ ap (λ z. flat_map instruction_numbers z) h.1, ap length (sym h.1), subst (Each IsProper) h.1 tt)
+body_told (suc n) ns is h =
+    let r = behind_apart (instruction_layout Counted) (λ i. behind (body_layout Counted n) (λ is. Makes (i ∷ is))) ns is h in
+    let q = behind_apart (body_layout Counted n) (λ is. Makes (r.value ∷ is)) r.second is r.seconds in
+    let ih = body_told n q.first q.value q.firsts in
+    let i = instruction_told r.first r.value r.firsts in
     let e : (r.value ∷ q.value) ≡ is = q.seconds.1 in
     let tail : r.second ≡ flat_map instruction_numbers q.value = q.apart ∙ ap (λ z. q.first ++ z) q.seconds.0 ∙ append-nil q.first ∙ ih.0 in (
       r.apart ∙ ap (λ z. z ++ r.second) i.0 ∙ ap (λ z. instruction_numbers r.value ++ z) tail ∙ ap (λ z. flat_map instruction_numbers z) e,
       ap length (sym e) ∙ ap suc ih.1,
-      subst (Each (IsProper ps)) e (i.1, ih.2),
+      subst (Each IsProper) e (i.1, ih.2),
     )
 
-bodies_spell : (ps : List ℕ) (fs : List RawFunction) → AreProper ps fs → Spells (bodies_layout ps (map head_of fs)) (flat_map body_numbers fs) fs
-bodies_spell ps [] h = (refl, refl)
-bodies_spell ps (f ∷ fs) h =
-    behind_spells (body_layout ps (length f.body)) _ (body_numbers f) (flat_map body_numbers fs) f.body (f ∷ fs) (body_spells ps f.body h.0)
-    (subst (λ z. Spells (behind (bodies_layout ps (map head_of fs)) (λ gs. Makes (f ∷ gs))) z (f ∷ fs)) (append-nil (flat_map body_numbers fs))
-    (behind_spells (bodies_layout ps (map head_of fs)) _ (flat_map body_numbers fs) [] fs (f ∷ fs) (bodies_spell ps fs h.1) (refl, refl)))
+bodies_spell : (fs : List RawFunction) → AreProper fs → Spells (bodies_layout Counted (map head_of fs)) (flat_map body_numbers fs) fs
+bodies_spell [] h = (refl, refl)
+bodies_spell (f ∷ fs) h =
+    behind_spells (body_layout Counted (length f.body)) _ (body_numbers f) (flat_map body_numbers fs) f.body (f ∷ fs) (body_spells f.body h.0)
+    (subst (λ z. Spells (behind (bodies_layout Counted (map head_of fs)) (λ gs. Makes (f ∷ gs))) z (f ∷ fs)) (append-nil (flat_map body_numbers fs))
+    (behind_spells (bodies_layout Counted (map head_of fs)) _ (flat_map body_numbers fs) [] fs (f ∷ fs) (bodies_spell fs h.1) (refl, refl)))
 
-record BodiesTold (ps : List ℕ) (hs : List Head) (ns : List Number) (fs : List RawFunction) : Type 0 where
+record BodiesTold (hs : List Head) (ns : List Number) (fs : List RawFunction) : Type 0 where
   numbers : ns ≡ flat_map body_numbers fs
   heads : flat_map numbers_of_head hs ≡ flat_map head_numbers fs
-  parameters : map (λ h. h.parameters) hs ≡ parameters_of fs
   long : length fs ≡ length hs
-  proper : AreProper ps fs
+  proper : AreProper fs
 
-bodies_told : (ps : List ℕ) (hs : List Head) (ns : List Number) (fs : List RawFunction) → Spells (bodies_layout ps hs) ns fs → BodiesTold ps hs ns fs
-bodies_told ps [] ns fs h = subst (BodiesTold ps [] ns) h.1 (record { numbers = h.0; heads = refl; parameters = refl; long = refl; proper = tt })
-bodies_told ps (head ∷ hs) ns fs h =
-    let r = behind_apart (body_layout ps head.instructions) (λ is. behind (bodies_layout ps hs) (λ fs. Makes (function_of head is ∷ fs))) ns fs h in
-    let q = behind_apart (bodies_layout ps hs) (λ fs. Makes (function_of head r.value ∷ fs)) r.second fs r.seconds in
-    let ih = bodies_told ps hs q.first q.value q.firsts in
-    let b = body_told ps head.instructions r.first r.value r.firsts in
+bodies_told : (hs : List Head) (ns : List Number) (fs : List RawFunction) → Spells (bodies_layout Counted hs) ns fs → BodiesTold hs ns fs
+bodies_told [] ns fs h = subst (BodiesTold [] ns) h.1 (record { numbers = h.0; heads = refl; long = refl; proper = tt })
+bodies_told (head ∷ hs) ns fs h =
+    let r = behind_apart (body_layout Counted head.instructions) (λ is. behind (bodies_layout Counted hs) (λ fs. Makes (function_of head is ∷ fs))) ns fs h in
+    let q = behind_apart (bodies_layout Counted hs) (λ fs. Makes (function_of head r.value ∷ fs)) r.second fs r.seconds in
+    let ih = bodies_told hs q.first q.value q.firsts in
+    let b = body_told head.instructions r.first r.value r.firsts in
     let f = function_of head r.value in
     let tail : r.second ≡ flat_map body_numbers q.value = q.apart ∙ ap (λ z. q.first ++ z) q.seconds.0 ∙ append-nil q.first ∙ ih.numbers in
     let own : numbers_of_head head ≡ head_numbers f =
     ap (λ n. short head.parameters ∷ byte (return_byte head.gives) ∷ short (length head.registers) ∷ (kind_numbers head.registers ++ short n ∷ [])) (sym b.1) in
-    let told : BodiesTold ps (head ∷ hs) ns (f ∷ q.value) = record {
+    let told : BodiesTold (head ∷ hs) ns (f ∷ q.value) = record {
       numbers = r.apart ∙ ap (λ z. z ++ r.second) b.0 ∙ ap (λ z. body_numbers f ++ z) tail;
       heads = ap (λ z. z ++ flat_map numbers_of_head hs) own ∙ ap (λ z. head_numbers f ++ z) ih.heads;
-      parameters = ap (λ z. head.parameters ∷ z) ih.parameters;
       long = ap suc ih.long;
       proper = (b.2, ih.proper);
     } in
-    subst (BodiesTold ps (head ∷ hs) ns) q.seconds.1 told
-
-same_parameters : (fs : List RawFunction) → map (λ h. h.parameters) (map head_of fs) ≡ parameters_of fs
-same_parameters [] = refl
-same_parameters (f ∷ fs) = ap (λ z. f.parameters ∷ z) (same_parameters fs)
+    subst (BodiesTold (head ∷ hs) ns) q.seconds.1 told
 
 abbrev functions_numbers : List RawFunction → List Number
 functions_numbers fs = flat_map head_numbers fs ++ flat_map body_numbers fs
 
-functions_spell : (fs : List RawFunction) → AreProper (parameters_of fs) fs → Spells (functions_layout (length fs)) (functions_numbers fs) fs
+functions_spell : (fs : List RawFunction) → AreProper fs → Spells (functions_layout Second (length fs)) (functions_numbers fs) fs
 functions_spell fs h =
-    behind_spells (heads_layout (length fs)) (λ hs. bodies_layout (map (λ h. h.parameters) hs) hs) (flat_map head_numbers fs)
-    (flat_map body_numbers fs) (map head_of fs) fs (heads_spell fs)
-    (subst (λ ps. Spells (bodies_layout ps (map head_of fs)) (flat_map body_numbers fs) fs) (sym (same_parameters fs)) (bodies_spell (parameters_of fs) fs h))
+    behind_spells (heads_layout (length fs)) (bodies_layout Counted) (flat_map head_numbers fs)
+    (flat_map body_numbers fs) (map head_of fs) fs (heads_spell fs) (bodies_spell fs h)
 
-functions_told : (n : ℕ) (ns : List Number) (fs : List RawFunction) → Spells (functions_layout n) ns fs
-    → (ns ≡ functions_numbers fs) × (length fs ≡ n) × AreProper (parameters_of fs) fs
+functions_told : (n : ℕ) (ns : List Number) (fs : List RawFunction) → Spells (functions_layout Second n) ns fs
+    → (ns ≡ functions_numbers fs) × (length fs ≡ n) × AreProper fs
 functions_told n ns fs h =
-    let r = behind_apart (heads_layout n) (λ hs. bodies_layout (map (λ h. h.parameters) hs) hs) ns fs h in
+    let r = behind_apart (heads_layout n) (bodies_layout Counted) ns fs h in
     let heads = heads_told n r.first r.value r.firsts in
-    let b = bodies_told (map (λ h. h.parameters) r.value) r.value r.second fs r.seconds in (
+    let b = bodies_told r.value r.second fs r.seconds in (
       r.apart ∙ ap (λ z. z ++ r.second) (heads.0 ∙ b.heads) ∙ ap (λ z. flat_map head_numbers fs ++ z) b.numbers,
       b.long ∙ heads.1,
-      subst (λ ps. AreProper ps fs) b.parameters b.proper,
+      b.proper,
     )
 
 -- ---- code
@@ -312,7 +307,7 @@ functions_told n ns fs h =
 abbrev counted : RawCode → List Number
 counted code = short (length code.functions) ∷ functions_numbers code.functions
 
-code_spells : (code : RawCode) → IsWritable code → Spells code_layout (code_numbers code) code
+code_spells : (code : RawCode) → IsWritable code → Spells (code_layout Second) (code_numbers code) code
 code_spells code w = (
   _,
   _,
@@ -349,9 +344,9 @@ code_spells code w = (
                   _,
                   refl,
                   lt-ltb 0 (length code.functions) w.some_function,
-                  subst (λ z. Spells (behind (functions_layout (length code.functions)) (λ fs. Makes (record { names = code.names; functions = fs }))) z
+                  subst (λ z. Spells (behind (functions_layout Second (length code.functions)) (λ fs. Makes (record { names = code.names; functions = fs }))) z
                       code) (append-nil (functions_numbers code.functions))
-                      (behind_spells (functions_layout (length code.functions)) _ (functions_numbers code.functions) [] code.functions code
+                      (behind_spells (functions_layout Second (length code.functions)) _ (functions_numbers code.functions) [] code.functions code
                       (functions_spell code.functions w.instructions) (refl, refl)),
                 ),
           ),
@@ -365,20 +360,20 @@ record CodeTold (ns : List Number) (code : RawCode) : Type 0 where
   numbers : ns ≡ code_numbers code
   names : AreNewNames [] code.names
   some_function : 0 < length code.functions
-  instructions : AreProper (parameters_of code.functions) code.functions
+  instructions : AreProper code.functions
 
 opened : (x y : ℕ) (rest ns more : List Number) → (x == y) ≡ true → ns ≡ byte x ∷ rest → rest ≡ more → ns ≡ byte y ∷ more
 opened x y rest ns more t e s = e ∙ ap (λ z. byte z ∷ rest) (eqb-true x y t) ∙ ap (λ z. byte y ∷ z) s
 
-code_told : (ns : List Number) (code : RawCode) → Spells code_layout ns code → CodeTold ns code
+code_told : (ns : List Number) (code : RawCode) → Spells (code_layout Second) ns code → CodeTold ns code
 code_told ns code h =
     let version = h.4.4.4.4 in
     let count = version.4 in
     let r = behind_apart (names_layout [] count.0)
-    (λ ns. Field _ 2 _ (λ n. behind (functions_layout n) (λ fs. Makes (record { names = ns; functions = fs })))) count.1 code count.4 in
+    (λ ns. Field _ 2 _ (λ n. behind (functions_layout Second n) (λ fs. Makes (record { names = ns; functions = fs })))) count.1 code count.4 in
     let names = names_told [] count.0 r.first r.value r.firsts in
     let s = r.seconds in
-    let q = behind_apart (functions_layout s.0) (λ fs. Makes (record { names = r.value; functions = fs })) s.1 code s.4 in
+    let q = behind_apart (functions_layout Second s.0) (λ fs. Makes (record { names = r.value; functions = fs })) s.1 code s.4 in
     let functions = functions_told s.0 q.first q.value q.firsts in
     let e : ◌≡◌ {A = RawCode} (record { names = r.value; functions = q.value }) code = q.seconds.1 in
     let tail : s.1 ≡ functions_numbers q.value = q.apart ∙ ap (λ z. q.first ++ z) q.seconds.0 ∙ append-nil q.first ∙ functions.0 in
@@ -391,7 +386,7 @@ code_told ns code h =
           opened h.0 83 h.1 ns _ h.3 h.2
           (opened h.4.0 67 h.4.1 h.1 _ h.4.3 h.4.2
           (opened h.4.4.0 51 h.4.4.1 h.4.1 _ h.4.4.3 h.4.4.2 (opened h.4.4.4.0 80 h.4.4.4.1 h.4.4.1 _ h.4.4.4.3 h.4.4.4.2
-          (opened version.0 1 version.1 h.4.4.4.1 _ version.3 version.2
+          (opened version.0 2 version.1 h.4.4.4.1 _ version.3 version.2
           (count.2 ∙ ap (λ z. short z ∷ count.1) (sym names.1) ∙ ap (λ z. short (length r.value) ∷ z) all)))));
       names = names.2;
       some_function = subst (λ z. 0 < z) (sym functions.1) (ltb-true 0 s.0 s.3);
@@ -404,7 +399,7 @@ code_told ns code h =
 pub read_again : (code : RawCode) → IsWritable code → decoded (written_code code) ≡ Ok code
 read_again code w =
     ap (λ r. whole (length (written_code code)) r)
-    (ap (read code_layout) (sym (append-nil (written_code code))) ∙ layout_reads code_layout (code_numbers code) code (code_spells code w) w.fits [])
+    (ap (read (code_layout Second)) (sym (append-nil (written_code code))) ∙ layout_reads (code_layout Second) (code_numbers code) code (code_spells code w) w.fits [])
 
 pub are_bytes : (text : List ℕ) → All (λ byte. byte < 256) text → AreBytes text
 are_bytes [] h = tt
@@ -415,14 +410,14 @@ ended_whole size a b [] h = (cc, refl)
 ended_whole size a b (c ∷ left) h = cc
 
 pub read_is_written : (text : List ℕ) (code : RawCode) → AreBytes text → decoded text ≡ Ok code → (written_code code ≡ text) × IsWritable code
-read_is_written text code bs h = go (read code_layout text) refl h
+read_is_written text code bs h = go (read (code_layout Second) text) refl h
   where
-    go : (r : Read RawCode) → read code_layout text ≡ r → whole (length text) r ≡ Ok code → (written_code code ≡ text) × IsWritable code
+    go : (r : Read RawCode) → read (code_layout Second) text ≡ r → whole (length text) r ≡ Ok code → (written_code code ≡ text) × IsWritable code
     go (Err f) e h = cc
     go (Ok x) e h =
         let w = ended_whole (length text) x.0 code x.1 h in
-        let s : Spelled code_layout text code [] =
-        subst (λ z. Spelled code_layout text z []) w.0 (subst (λ z. Spelled code_layout text x.0 z) w.1 (layout_spelled code_layout text x.0 x.1 bs e)) in
+        let s : Spelled (code_layout Second) text code [] =
+        subst (λ z. Spelled (code_layout Second) text z []) w.0 (subst (λ z. Spelled (code_layout Second) text x.0 z) w.1 (layout_spelled (code_layout Second) text x.0 x.1 bs e)) in
         let t = code_told s.numbers code s.spells in (
           ap bytes_of (sym t.numbers) ∙ sym (append-nil (bytes_of s.numbers)) ∙ sym s.same,
           record { fits = subst (Each Fits) t.numbers s.fits; names = t.names; some_function = t.some_function; instructions = t.instructions },

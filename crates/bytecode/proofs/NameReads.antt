@@ -14,6 +14,7 @@ use Rattle.bytecode.specs.Layouts.{Truncated, BadTag, Layout, Makes, Field, Name
 use Rattle.bytecode.specs.Writable.{is_new_name}
 use Rattle.bytecode.specs.Decoded.{Head, body_layout, bodies_layout, function_of, names_layout}
 use Rattle.bytecode.specs.Decoding.{function_layout}
+use Rattle.bytecode.specs.Versions.{Counting}
 use Rattle.bytecode.specs.inner.Reading.{Refuses, Stops}
 use Rattle.bytecode.proofs.Reading.{stops_carry, read_behind, after, after_nothing, after_step}
 
@@ -160,39 +161,39 @@ pub nothing_left : {A : Type 0} (xs : List A) → length xs ≡ 0 → xs ≡ []
 nothing_left [] h = refl
 nothing_left (x ∷ xs) h = absurd (omega (arith, h))
 
-abbrev then_bodies : List ℕ → List Head → RawFunction → List ℕ → Read (List RawFunction)
-then_bodies ps hs f rest = carry (read (bodies_layout ps hs) rest) (λ fs left. Ok (f ∷ fs, left))
+abbrev then_bodies : Counting → List Head → RawFunction → List ℕ → Read (List RawFunction)
+then_bodies rule hs f rest = carry (read (bodies_layout rule hs) rest) (λ fs left. Ok (f ∷ fs, left))
 
-bodies_step : (ps : List ℕ) (h : Head) (hs : List Head) (t : List ℕ)
-    → read (bodies_layout ps (h ∷ hs)) t ≡ carry (read (function_layout ps h) t) (then_bodies ps hs)
-bodies_step ps h hs t =
-    read_behind (body_layout ps h.instructions) next t ∙ go (read (body_layout ps h.instructions) t)
-    ∙ ap (λ r. carry r (then_bodies ps hs)) (sym (read_behind (body_layout ps h.instructions) (λ is. Makes (function_of h is)) t))
+bodies_step : (rule : Counting) (h : Head) (hs : List Head) (t : List ℕ)
+    → read (bodies_layout rule (h ∷ hs)) t ≡ carry (read (function_layout rule h) t) (then_bodies rule hs)
+bodies_step rule h hs t =
+    read_behind (body_layout rule h.instructions) next t ∙ go (read (body_layout rule h.instructions) t)
+    ∙ ap (λ r. carry r (then_bodies rule hs)) (sym (read_behind (body_layout rule h.instructions) (λ is. Makes (function_of h is)) t))
   where
     next : List Raw → Layout (List RawFunction)
-    next is = behind (bodies_layout ps hs) (λ fs. Makes (function_of h is ∷ fs))
+    next is = behind (bodies_layout rule hs) (λ fs. Makes (function_of h is ∷ fs))
 
-    go : (r : Read (List Raw)) → carry r (λ is rest. read (next is) rest) ≡ carry (carry r (λ is rest. Ok (function_of h is, rest))) (then_bodies ps hs)
+    go : (r : Read (List Raw)) → carry r (λ is rest. read (next is) rest) ≡ carry (carry r (λ is rest. Ok (function_of h is, rest))) (then_bodies rule hs)
     go (Err e) = refl
-    go (Ok y) = read_behind (bodies_layout ps hs) (λ fs. Makes (function_of h y.0 ∷ fs)) y.1
+    go (Ok y) = read_behind (bodies_layout rule hs) (λ fs. Makes (function_of h y.0 ∷ fs)) y.1
 
-pub bodies_begin : (ps : List ℕ) (hs : List Head) (t : List ℕ) → read (bodies_layout ps hs) t ≡ after [] (read (bodies_layout ps hs) t)
-bodies_begin ps hs t = after_nothing (read (bodies_layout ps hs) t)
+pub bodies_begin : (rule : Counting) (hs : List Head) (t : List ℕ) → read (bodies_layout rule hs) t ≡ after [] (read (bodies_layout rule hs) t)
+bodies_begin rule hs t = after_nothing (read (bodies_layout rule hs) t)
 
-pub bodies_more : (ps : List ℕ) (all hs : List Head) (h : Head) (fs : List RawFunction) (f : RawFunction) (t left : List ℕ)
+pub bodies_more : (rule : Counting) (all hs : List Head) (h : Head) (fs : List RawFunction) (f : RawFunction) (t left : List ℕ)
     (r : Read (List RawFunction)) → all ≡ h ∷ hs
-    → read (function_layout ps h) t ≡ Ok (f, left) → r ≡ after fs (read (bodies_layout ps all) t) → r ≡ after (fs ++ f ∷ []) (read (bodies_layout ps hs) left)
-bodies_more ps all hs h fs f t left r a e q =
-    q ∙ ap (λ z. after fs (read (bodies_layout ps z) t)) a ∙ ap (after fs) (bodies_step ps h hs t ∙ ap (λ r. carry r (then_bodies ps hs)) e)
-    ∙ after_step fs f (read (bodies_layout ps hs) left)
+    → read (function_layout rule h) t ≡ Ok (f, left) → r ≡ after fs (read (bodies_layout rule all) t) → r ≡ after (fs ++ f ∷ []) (read (bodies_layout rule hs) left)
+bodies_more rule all hs h fs f t left r a e q =
+    q ∙ ap (λ z. after fs (read (bodies_layout rule z) t)) a ∙ ap (after fs) (bodies_step rule h hs t ∙ ap (λ r. carry r (then_bodies rule hs)) e)
+    ∙ after_step fs f (read (bodies_layout rule hs) left)
 
-pub bodies_stop : (ps : List ℕ) (all hs : List Head) (h : Head) (fs : List RawFunction) (t : List ℕ) (r : Read (List RawFunction)) (e : Stopped) → all ≡ h ∷ hs
-    → Stops (read (function_layout ps h) t) e → r ≡ after fs (read (bodies_layout ps all) t) → Stops r e
-bodies_stop ps all hs h fs t r e a s q =
-    subst (λ r. Stops r e) (sym (q ∙ ap (λ z. after fs (read (bodies_layout ps z) t)) a ∙ ap (after fs) (bodies_step ps h hs t)))
-    (stops_carry (carry (read (function_layout ps h) t) (then_bodies ps hs)) (λ ys rest. Ok (fs ++ ys, rest)) e
-    (stops_carry (read (function_layout ps h) t) (then_bodies ps hs) e s))
+pub bodies_stop : (rule : Counting) (all hs : List Head) (h : Head) (fs : List RawFunction) (t : List ℕ) (r : Read (List RawFunction)) (e : Stopped) → all ≡ h ∷ hs
+    → Stops (read (function_layout rule h) t) e → r ≡ after fs (read (bodies_layout rule all) t) → Stops r e
+bodies_stop rule all hs h fs t r e a s q =
+    subst (λ r. Stops r e) (sym (q ∙ ap (λ z. after fs (read (bodies_layout rule z) t)) a ∙ ap (after fs) (bodies_step rule h hs t)))
+    (stops_carry (carry (read (function_layout rule h) t) (then_bodies rule hs)) (λ ys rest. Ok (fs ++ ys, rest)) e
+    (stops_carry (read (function_layout rule h) t) (then_bodies rule hs) e s))
 
-pub bodies_end : (ps : List ℕ) (all : List Head) (fs : List RawFunction) (t : List ℕ) (r : Read (List RawFunction)) → all ≡ []
-    → r ≡ after fs (read (bodies_layout ps all) t) → r ≡ Ok (fs, t)
-bodies_end ps all fs t r a q = q ∙ ap (λ z. after fs (read (bodies_layout ps z) t)) a ∙ ap (λ z. Ok (z, t)) (append-nil fs)
+pub bodies_end : (rule : Counting) (all : List Head) (fs : List RawFunction) (t : List ℕ) (r : Read (List RawFunction)) → all ≡ []
+    → r ≡ after fs (read (bodies_layout rule all) t) → r ≡ Ok (fs, t)
+bodies_end rule all fs t r a q = q ∙ ap (λ z. after fs (read (bodies_layout rule z) t)) a ∙ ap (λ z. Ok (z, t)) (append-nil fs)

@@ -4,11 +4,11 @@ use Rattle.bytecode.specs.declared.tag.Tag.{Tag}
 use Rattle.bytecode.specs.declared.tag.Tag.TheVariants as tags
 use Rattle.bytecode.specs.Raw.{Raw, Call}
 use Rattle.bytecode.specs.Layouts.{behind, Layout, Makes, Field, BadTag, read}
-use Rattle.bytecode.specs.Decoded.{operands, short_layout, repeated, any, is_operator, is_truth}
+use Rattle.bytecode.specs.Versions.{Counting}
+use Rattle.bytecode.specs.Decoded.{argument_count, operands, short_layout, repeated, any, is_operator, is_truth}
 use Rattle.bytecode.specs.declared.fault.Stopped.{Stopped}
 use Rattle.bytecode.specs.inner.Reading.{optional, Stops}
 use Rattle.bytecode.proofs.Reading.{step_ok, step_stops, seven, seven_ok, seven_stops-3, seven_stops-4, seven_stops-5, seven_stops-6}
-use Rattle.bytecode.specs.Writable.{arguments_at}
 use Rattle.bytecode.specs.inner.Tags.{tag_byte, operands_of, made, has_operator, has_first, has_truth, has_second, has_third, has_line, has_word}
 
 -- a tag with plain operands
@@ -37,30 +37,30 @@ IsPlain tags.Call = ⊥
 IsPlain tags.Return = Unit {0}
 IsPlain tags.ReturnNone = Unit {0}
 
-pub same_operands : (ps : List ℕ) (tag : Tag) → IsPlain tag → operands_of tag ≡ operands ps (tag_byte tag)
-same_operands ps tags.Literal h = refl
-same_operands ps tags.Move h = refl
-same_operands ps tags.Store h = refl
-same_operands ps tags.Binary h = refl
-same_operands ps tags.Not h = refl
-same_operands ps tags.Cast h = refl
-same_operands ps tags.Classify h = refl
-same_operands ps tags.Fill h = refl
-same_operands ps tags.At h = refl
-same_operands ps tags.Put h = refl
-same_operands ps tags.Size h = refl
-same_operands ps tags.Cat h = refl
-same_operands ps tags.Sum h = refl
-same_operands ps tags.Bits h = refl
-same_operands ps tags.Declassify h = refl
-same_operands ps tags.Argument h = refl
-same_operands ps tags.Publish h = refl
-same_operands ps tags.Assert h = refl
-same_operands ps tags.Branch h = refl
-same_operands ps tags.Jump h = refl
-same_operands ps tags.Call h = absurd h
-same_operands ps tags.Return h = refl
-same_operands ps tags.ReturnNone h = refl
+pub same_operands : (rule : Counting) (tag : Tag) → IsPlain tag → operands_of tag ≡ operands rule (tag_byte tag)
+same_operands rule tags.Literal h = refl
+same_operands rule tags.Move h = refl
+same_operands rule tags.Store h = refl
+same_operands rule tags.Binary h = refl
+same_operands rule tags.Not h = refl
+same_operands rule tags.Cast h = refl
+same_operands rule tags.Classify h = refl
+same_operands rule tags.Fill h = refl
+same_operands rule tags.At h = refl
+same_operands rule tags.Put h = refl
+same_operands rule tags.Size h = refl
+same_operands rule tags.Cat h = refl
+same_operands rule tags.Sum h = refl
+same_operands rule tags.Bits h = refl
+same_operands rule tags.Declassify h = refl
+same_operands rule tags.Argument h = refl
+same_operands rule tags.Publish h = refl
+same_operands rule tags.Assert h = refl
+same_operands rule tags.Branch h = refl
+same_operands rule tags.Jump h = refl
+same_operands rule tags.Call h = absurd h
+same_operands rule tags.Return h = refl
+same_operands rule tags.ReturnNone h = refl
 
 -- seven operands with these flags
 abbrev pub flagged : Tag → (b0 b1 b2 b3 b4 b5 b6 : Bool) → Layout Raw
@@ -176,29 +176,46 @@ line_layout = Field BadTag 4 any Makes
 abbrev last : ℕ → ℕ → List ℕ → Layout Raw
 last f d xs = behind line_layout (λ line. Makes (Call f d xs line))
 
-abbrev arguments : List ℕ → ℕ → ℕ → Layout Raw
-arguments ps f d = behind (repeated short_layout (arguments_at ps f)) (last f d)
+abbrev arguments : ℕ → ℕ → ℕ → Layout Raw
+arguments f d n = behind (repeated short_layout n) (last f d)
 
-abbrev result : List ℕ → ℕ → Layout Raw
-result ps f = behind short_layout (arguments ps f)
+abbrev with_count : Counting → ℕ → ℕ → Layout Raw
+with_count rule f d = behind (argument_count rule f) (arguments f d)
 
-pub call_ok : (ps : List ℕ) (f d : ℕ) (xs : List ℕ) (line : ℕ) (t0 t1 t2 t3 t4 : List ℕ) → read short_layout t0 ≡ Ok (f, t1) → read short_layout t1 ≡ Ok (d, t2)
-    → read (repeated short_layout (arguments_at ps f)) t2 ≡ Ok (xs, t3) → read line_layout t3 ≡ Ok (line, t4)
-    → read (operands ps 0x16) t0 ≡ Ok (Call f d xs line, t4)
-call_ok ps f d xs line t0 t1 t2 t3 t4 e0 e1 e2 e3 =
-    step_ok short_layout (result ps) t0 f t1 e0 ∙ step_ok short_layout (arguments ps f) t1 d t2 e1
-    ∙ step_ok (repeated short_layout (arguments_at ps f)) (last f d) t2 xs t3 e2 ∙ step_ok line_layout (λ line. Makes (Call f d xs line)) t3 line t4 e3
+abbrev result : Counting → ℕ → Layout Raw
+result rule f = behind short_layout (with_count rule f)
 
-pub call_stops_at_arguments : (ps : List ℕ) (f d : ℕ) (t0 t1 t2 : List ℕ) (e : Stopped) → read short_layout t0 ≡ Ok (f, t1) → read short_layout t1 ≡ Ok (d, t2)
-    → Stops (read (repeated short_layout (arguments_at ps f)) t2) e → Stops (read (operands ps 0x16) t0) e
-call_stops_at_arguments ps f d t0 t1 t2 e e0 e1 s =
-    subst (λ r. Stops r e) (sym (step_ok short_layout (result ps) t0 f t1 e0 ∙ step_ok short_layout (arguments ps f) t1 d t2 e1))
-    (step_stops (repeated short_layout (arguments_at ps f)) (last f d) t2 e s)
+to_count : (rule : Counting) (f d : ℕ) (t0 t1 t2 : List ℕ) → read short_layout t0 ≡ Ok (f, t1) → read short_layout t1 ≡ Ok (d, t2)
+    → read (operands rule 0x16) t0 ≡ read (with_count rule f d) t2
+to_count rule f d t0 t1 t2 e0 e1 = step_ok short_layout (result rule) t0 f t1 e0 ∙ step_ok short_layout (with_count rule f) t1 d t2 e1
 
-pub call_stops_at_line : (ps : List ℕ) (f d : ℕ) (xs : List ℕ) (t0 t1 t2 t3 : List ℕ) (e : Stopped) → read short_layout t0 ≡ Ok (f, t1)
+to_arguments : (rule : Counting) (f d n : ℕ) (t0 t1 t2 t3 : List ℕ) → read short_layout t0 ≡ Ok (f, t1) → read short_layout t1 ≡ Ok (d, t2)
+    → read (argument_count rule f) t2 ≡ Ok (n, t3) → read (operands rule 0x16) t0 ≡ read (arguments f d n) t3
+to_arguments rule f d n t0 t1 t2 t3 e0 e1 e2 = to_count rule f d t0 t1 t2 e0 e1 ∙ step_ok (argument_count rule f) (arguments f d) t2 n t3 e2
+
+pub call_ok : (rule : Counting) (f d n : ℕ) (xs : List ℕ) (line : ℕ) (t0 t1 t2 t3 t4 t5 : List ℕ) → read short_layout t0 ≡ Ok (f, t1)
+    → read short_layout t1 ≡ Ok (d, t2) → read (argument_count rule f) t2 ≡ Ok (n, t3)
+    → read (repeated short_layout n) t3 ≡ Ok (xs, t4) → read line_layout t4 ≡ Ok (line, t5)
+    → read (operands rule 0x16) t0 ≡ Ok (Call f d xs line, t5)
+call_ok rule f d n xs line t0 t1 t2 t3 t4 t5 e0 e1 e2 e3 e4 =
+    to_arguments rule f d n t0 t1 t2 t3 e0 e1 e2
+    ∙ step_ok (repeated short_layout n) (last f d) t3 xs t4 e3 ∙ step_ok line_layout (λ line. Makes (Call f d xs line)) t4 line t5 e4
+
+pub call_stops_at_count : (rule : Counting) (f d : ℕ) (t0 t1 t2 : List ℕ) (e : Stopped) → read short_layout t0 ≡ Ok (f, t1)
     → read short_layout t1 ≡ Ok (d, t2)
-    → read (repeated short_layout (arguments_at ps f)) t2 ≡ Ok (xs, t3) → Stops (read line_layout t3) e → Stops (read (operands ps 0x16) t0) e
-call_stops_at_line ps f d xs t0 t1 t2 t3 e e0 e1 e2 s =
-    subst (λ r. Stops r e) (sym (step_ok short_layout (result ps) t0 f t1 e0 ∙ step_ok short_layout (arguments ps f) t1 d t2 e1
-    ∙ step_ok (repeated short_layout (arguments_at ps f)) (last f d) t2 xs t3 e2))
-    (step_stops line_layout (λ line. Makes (Call f d xs line)) t3 e s)
+    → Stops (read (argument_count rule f) t2) e → Stops (read (operands rule 0x16) t0) e
+call_stops_at_count rule f d t0 t1 t2 e e0 e1 s =
+    subst (λ r. Stops r e) (sym (to_count rule f d t0 t1 t2 e0 e1)) (step_stops (argument_count rule f) (arguments f d) t2 e s)
+
+pub call_stops_at_arguments : (rule : Counting) (f d n : ℕ) (t0 t1 t2 t3 : List ℕ) (e : Stopped) → read short_layout t0 ≡ Ok (f, t1)
+    → read short_layout t1 ≡ Ok (d, t2) → read (argument_count rule f) t2 ≡ Ok (n, t3)
+    → Stops (read (repeated short_layout n) t3) e → Stops (read (operands rule 0x16) t0) e
+call_stops_at_arguments rule f d n t0 t1 t2 t3 e e0 e1 e2 s =
+    subst (λ r. Stops r e) (sym (to_arguments rule f d n t0 t1 t2 t3 e0 e1 e2)) (step_stops (repeated short_layout n) (last f d) t3 e s)
+
+pub call_stops_at_line : (rule : Counting) (f d n : ℕ) (xs : List ℕ) (t0 t1 t2 t3 t4 : List ℕ) (e : Stopped) → read short_layout t0 ≡ Ok (f, t1)
+    → read short_layout t1 ≡ Ok (d, t2) → read (argument_count rule f) t2 ≡ Ok (n, t3)
+    → read (repeated short_layout n) t3 ≡ Ok (xs, t4) → Stops (read line_layout t4) e → Stops (read (operands rule 0x16) t0) e
+call_stops_at_line rule f d n xs t0 t1 t2 t3 t4 e e0 e1 e2 e3 s =
+    subst (λ r. Stops r e) (sym (to_arguments rule f d n t0 t1 t2 t3 e0 e1 e2 ∙ step_ok (repeated short_layout n) (last f d) t3 xs t4 e3))
+    (step_stops line_layout (λ line. Makes (Call f d xs line)) t4 e s)

@@ -4,7 +4,10 @@ use Rattle.bytecode.specs.declared.kind.Kind.{Kind}
 use Rattle.bytecode.specs.Kinds.{is_kind, kind_of, is_return, return_of}
 use Rattle.bytecode.specs.Raw.{Raw, Literal, Move, Store, Binary, Not, Cast, Classify, Fill, At, Put, Size, Cat, Sum, Bits, Declassify, Argument}
 use Rattle.bytecode.specs.Raw.{Publish, Assert, Branch, Jump, Call, Return, ReturnNone, RawFunction, RawCode}
-use Rattle.bytecode.specs.Writable.{arguments_at, is_new_name}
+use Rattle.bytecode.specs.Writable.{is_new_name}
+use Rattle.bytecode.specs.Versions.{arguments_at, version_byte, Counting, ByHeads, Counted, counting}
+use Rattle.bytecode.specs.declared.version.CodeVersion.{CodeVersion}
+use Rattle.bytecode.specs.declared.version.CodeVersion.TheVariants.{First, Second}
 use Rattle.bytecode.specs.declared.fault.DecodeFault.{DecodeFault}
 use Rattle.bytecode.specs.Layouts.{BadTag, BadVersion, Trailing, Layout, Makes, Field, NameField, Read, read, behind}
 
@@ -45,9 +48,14 @@ is_operator o = nat_lt o 14
 abbrev pub is_truth : ℕ → Bool
 is_truth v = nat_lt v 2
 
--- the operands after a tag, where the functions have so many parameters
-abbrev pub operands : List ℕ → ℕ → Layout Raw
-operands ps tag =
+-- the number of arguments of a call of this function
+abbrev pub argument_count : Counting → ℕ → Layout ℕ
+argument_count (ByHeads parameters) f = Makes (arguments_at parameters f)
+argument_count Counted f = short_layout
+
+-- the operands after a tag
+abbrev pub operands : Counting → ℕ → Layout Raw
+operands rule tag =
     if tag == 0x01 then short_field (λ d. Field BadTag 8 any (λ x. Makes (Literal d x)))
     else if tag == 0x02 then pair_layout Move
     else if tag == 0x03 then pair_layout Store
@@ -68,15 +76,15 @@ operands ps tag =
     else if tag == 0x12 then short_field (λ r. line_field (λ line. Makes (Assert r line)))
     else if tag == 0x13 then short_field (λ r. Field BadTag 1 is_truth (λ v. short_field (λ target. Makes (Branch r v target))))
     else if tag == 0x14 then short_field (λ target. Makes (Jump target))
-    else if tag == 0x16 then short_field (λ f. short_field (λ d. shorts (arguments_at ps f) (λ xs. line_field (λ line. Makes (Call f d xs line)))))
+    else if tag == 0x16 then short_field (λ f. short_field (λ d. behind (argument_count rule f) (λ n. shorts n (λ xs. line_field (λ line. Makes (Call f d xs line))))))
     else if tag == 0x17 then short_field (λ r. Makes (Return r))
     else Makes ReturnNone
 
-abbrev pub instruction_layout : List ℕ → Layout Raw
-instruction_layout ps = Field BadTag 1 is_tag (operands ps)
+abbrev pub instruction_layout : Counting → Layout Raw
+instruction_layout rule = Field BadTag 1 is_tag (operands rule)
 
-abbrev pub body_layout : List ℕ → ℕ → Layout (List Raw)
-body_layout ps = repeated (instruction_layout ps)
+abbrev pub body_layout : Counting → ℕ → Layout (List Raw)
+body_layout rule = repeated (instruction_layout rule)
 
 -- ---- what stands before the bodies
 
@@ -110,22 +118,22 @@ names_layout earlier (suc n) = NameField (is_new_name earlier) (λ name. behind 
 abbrev pub function_of : Head → List Raw → RawFunction
 function_of h is = record { parameters = h.parameters; gives = h.gives; registers = h.registers; body = is }
 
-abbrev pub bodies_layout : List ℕ → List Head → Layout (List RawFunction)
-bodies_layout ps [] = Makes []
-bodies_layout ps (h ∷ hs) = behind (body_layout ps h.instructions) (λ is. behind (bodies_layout ps hs) (λ fs. Makes (function_of h is ∷ fs)))
+abbrev pub bodies_layout : Counting → List Head → Layout (List RawFunction)
+bodies_layout rule [] = Makes []
+bodies_layout rule (h ∷ hs) = behind (body_layout rule h.instructions) (λ is. behind (bodies_layout rule hs) (λ fs. Makes (function_of h is ∷ fs)))
 
-abbrev pub functions_layout : ℕ → Layout (List RawFunction)
-functions_layout n = behind (heads_layout n) (λ hs. bodies_layout (map (λ h. h.parameters) hs) hs)
+abbrev pub functions_layout : CodeVersion → ℕ → Layout (List RawFunction)
+functions_layout version n = behind (heads_layout n) (λ hs. bodies_layout (counting version (map (λ h. h.parameters) hs)) hs)
 
 abbrev pub is_some_count : ℕ → Bool
 is_some_count n = nat_lt 0 n
 
 -- `SC3P`, the version, the names, the functions' heads, their bodies
-abbrev pub code_layout : Layout RawCode
-code_layout =
+abbrev pub code_layout : CodeVersion → Layout RawCode
+code_layout version =
     Field BadTag 1 (λ b. b == 83) (λ s. Field BadTag 1 (λ b. b == 67) (λ c. Field BadTag 1 (λ b. b == 51) (λ t. Field BadTag 1 (λ b. b == 80) (λ p.
-    Field BadVersion 1 (λ b. b == 1) (λ version. short_field (λ names. behind (names_layout [] names) (λ ns.
-    Field BadTag 2 is_some_count (λ functions. behind (functions_layout functions) (λ fs. Makes (record { names = ns; functions = fs }))))))))))
+    Field BadVersion 1 (λ b. b == version_byte version) (λ v. short_field (λ names. behind (names_layout [] names) (λ ns.
+    Field BadTag 2 is_some_count (λ functions. behind (functions_layout version functions) (λ fs. Makes (record { names = ns; functions = fs }))))))))))
 
 -- ---- a whole text
 
@@ -138,5 +146,13 @@ abbrev pub whole : {A : Type 0} → ℕ → Read A → Result A DecodeFault
 whole size (Ok x) = ended size x.0 x.1
 whole size (Err e) = Err (record { kind = e.0; place = size - length e.1 })
 
+abbrev pub decoded_by : CodeVersion → List ℕ → Result RawCode DecodeFault
+decoded_by version text = whole (length text) (read (code_layout version) text)
+
+-- by the rules of today's version
 abbrev pub decoded : List ℕ → Result RawCode DecodeFault
-decoded text = whole (length text) (read code_layout text)
+decoded = decoded_by Second
+
+-- by those of the first version
+abbrev pub decoded_v1 : List ℕ → Result RawCode DecodeFault
+decoded_v1 = decoded_by First

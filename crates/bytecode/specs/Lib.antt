@@ -7,4 +7,5 @@ pub mod Decoded
 pub mod Decoding
 pub mod InMemory
 pub mod Vectors
+pub mod Versions
 pub mod inner

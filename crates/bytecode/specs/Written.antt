@@ -53,7 +53,7 @@ instruction_numbers (Publish name r) = byte 0x11 ∷ short name ∷ short r ∷ 
 instruction_numbers (Assert r line) = byte 0x12 ∷ short r ∷ source_line line ∷ []
 instruction_numbers (Branch r v target) = byte 0x13 ∷ short r ∷ byte v ∷ short target ∷ []
 instruction_numbers (Jump target) = byte 0x14 ∷ short target ∷ []
-instruction_numbers (Call f d arguments line) = byte 0x16 ∷ short f ∷ short d ∷ (map short arguments ++ source_line line ∷ [])
+instruction_numbers (Call f d arguments line) = byte 0x16 ∷ short f ∷ short d ∷ short (length arguments) ∷ (map short arguments ++ source_line line ∷ [])
 instruction_numbers (Return r) = byte 0x17 ∷ short r ∷ []
 instruction_numbers ReturnNone = byte 0x18 ∷ []
 
@@ -71,7 +71,7 @@ name_numbers name = byte (length name) ∷ map byte name
 
 -- `SC3P`, then the version
 abbrev pub opening_numbers : List Number
-opening_numbers = byte 83 ∷ byte 67 ∷ byte 51 ∷ byte 80 ∷ byte 1 ∷ []
+opening_numbers = byte 83 ∷ byte 67 ∷ byte 51 ∷ byte 80 ∷ byte 2 ∷ []
 
 abbrev pub code_numbers : RawCode → List Number
 code_numbers code =

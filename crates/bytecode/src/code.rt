@@ -8,9 +8,6 @@ use sc_text::Name;
 /// The letters with which the text of code begins.
 pub(crate) const MAGIC: [u8; 4] = *b"SC3P";
 
-/// The version of code, which stands after them.
-pub(crate) const VERSION: u8 = 1;
-
 /// A function. Its parameters are its first registers.
 pub struct CodeFunction {
     pub parameters: u16,

@@ -1,13 +1,14 @@
 // How a whole text is read.
 ghost use Rattle.std.specs.Prelude.{◌≡◌, ◌-◌, IfOk, map};
 ghost use Rattle.bytecode.specs.declared.fault.DecodeErr.TheVariants.{Refused};
-ghost use Rattle.bytecode.specs.Decoded.{bodies_layout, code_layout, decoded};
+ghost use Rattle.bytecode.specs.Decoded.{bodies_layout, code_layout, decoded, decoded_by, decoded_v1};
 ghost use Rattle.bytecode.specs.Decoding.{IsDecoded, function_layout, opening_layout, settled, some_functions_layout};
 ghost use Rattle.bytecode.specs.InMemory.{raw_code, raw_function, raw_head};
 ghost use Rattle.bytecode.specs.Layouts.{read};
+ghost use Rattle.bytecode.specs.Versions.{counting, version_byte};
 ghost use Rattle.bytecode.specs.inner.Reading.{Reads};
 
-use crate::code::{Code, CodeFunction, MAGIC, VERSION};
+use crate::code::{Code, CodeFunction, MAGIC};
 use crate::fault::{DecodeErr, DecodeFault, FaultKind, Stopped};
 use crate::head::Head;
 use crate::heads::all_heads;
@@ -15,16 +16,17 @@ use crate::lists::push;
 use crate::names::all_names;
 use crate::operands::body;
 use crate::reader::Reader;
+use crate::version::CodeVersion;
 use std::alloc::{AllocError, Global};
 
-fn opening(reader: &mut Reader<'_>) -> Result<(), Stopped>
-    ensures { Reads (λ _. 1) (read opening_layout reader.old) result reader.new }
+fn opening(reader: &mut Reader<'_>, version: CodeVersion) -> Result<(), Stopped>
+    ensures { Reads (λ _. version_byte version) (read (opening_layout version) reader.old) result reader.new }
 {
     reader.expect(MAGIC[0], FaultKind::BadTag)?;
     reader.expect(MAGIC[1], FaultKind::BadTag)?;
     reader.expect(MAGIC[2], FaultKind::BadTag)?;
     reader.expect(MAGIC[3], FaultKind::BadTag)?;
-    reader.expect(VERSION, FaultKind::BadVersion)
+    reader.expect(version.byte(), FaultKind::BadVersion)
 }
 
 /// How many parameters the functions have.
@@ -41,12 +43,19 @@ fn parameters_of(alloc: Global, heads: &[Head]) -> Result<Vec<u16>, AllocError>
 fn function(
     alloc: Global,
     reader: &mut Reader<'_>,
+    version: CodeVersion,
     parameters: &[u16],
     head: Head,
 ) -> Result<CodeFunction, Stopped>
-    ensures { Reads raw_function (read (function_layout parameters.now (raw_head head)) reader.old) result reader.new }
+    ensures { Reads raw_function (read (function_layout (counting version parameters.now) (raw_head head)) reader.old) result reader.new }
 {
-    let body = body(alloc, reader, parameters, head.instructions as usize)?;
+    let body = body(
+        alloc,
+        reader,
+        version,
+        parameters,
+        head.instructions as usize,
+    )?;
     Ok(CodeFunction {
         parameters: head.parameters,
         gives: head.gives,
@@ -58,35 +67,41 @@ fn function(
 fn bodies(
     alloc: Global,
     reader: &mut Reader<'_>,
+    version: CodeVersion,
     parameters: &[u16],
     heads: Vec<Head>,
 ) -> Result<Vec<CodeFunction>, Stopped>
-    ensures { Reads (λ v. map raw_function v.items) (read (bodies_layout parameters.now (map raw_head heads.items)) reader.old) result reader.new }
+    ensures { Reads (λ v. map raw_function v.items)
+        (read (bodies_layout (counting version parameters.now) (map raw_head heads.items)) reader.old) result reader.new }
 {
     let mut functions = Vec::new(alloc);
     for head in heads {
-        let next = function(alloc, reader, parameters, head)?;
+        let next = function(alloc, reader, version, parameters, head)?;
         push(&mut functions, next)?;
     }
     Ok(functions)
 }
 
-fn functions(alloc: Global, reader: &mut Reader<'_>) -> Result<Vec<CodeFunction>, Stopped>
-    ensures { Reads (λ v. map raw_function v.items) (read some_functions_layout reader.old) result reader.new }
+fn functions(
+    alloc: Global,
+    reader: &mut Reader<'_>,
+    version: CodeVersion,
+) -> Result<Vec<CodeFunction>, Stopped>
+    ensures { Reads (λ v. map raw_function v.items) (read (some_functions_layout version) reader.old) result reader.new }
 {
     let count = reader.count()?;
     let heads = all_heads(alloc, reader, count as usize)?;
     let parameters = parameters_of(alloc, &heads)?;
-    bodies(alloc, reader, &parameters, heads)
+    bodies(alloc, reader, version, &parameters, heads)
 }
 
-fn code(alloc: Global, reader: &mut Reader<'_>) -> Result<Code, Stopped>
-    ensures { Reads raw_code (read code_layout reader.old) result reader.new }
+fn code(alloc: Global, reader: &mut Reader<'_>, version: CodeVersion) -> Result<Code, Stopped>
+    ensures { Reads raw_code (read (code_layout version) reader.old) result reader.new }
 {
-    opening(reader)?;
+    opening(reader, version)?;
     let count = reader.short()?;
     let names = all_names(alloc, reader, count as usize)?;
-    let functions = functions(alloc, reader)?;
+    let functions = functions(alloc, reader, version)?;
     Ok(Code { names, functions })
 }
 
@@ -111,12 +126,26 @@ fn settled(read: Result<Code, Stopped>, size: usize, left: usize) -> Result<Code
     }
 }
 
+fn decode_by(alloc: Global, version: CodeVersion, bytes: &[u8]) -> Result<Code, DecodeErr>
+    ensures { IsDecoded (decoded_by version bytes.now) result }
+{
+    let mut reader = Reader::new(bytes);
+    let code = code(alloc, &mut reader, version);
+    let left = reader.left();
+    settled(code, bytes.len(), left)
+}
+
 /// Reads code, or tells the first fault of the text.
 pub fn decode(alloc: Global, bytes: &[u8]) -> Result<Code, DecodeErr>
     ensures { IsDecoded (decoded bytes.now) result }
 {
-    let mut reader = Reader::new(bytes);
-    let code = code(alloc, &mut reader);
-    let left = reader.left();
-    settled(code, bytes.len(), left)
+    decode_by(alloc, CodeVersion::Second, bytes)
+}
+
+/// Reads code of the first version, or tells the first fault of the text. There the number of a call's arguments doesn't stand before
+/// them: it is that of the called function's parameters, and 0 where there is no such function.
+pub fn decode_v1(alloc: Global, bytes: &[u8]) -> Result<Code, DecodeErr>
+    ensures { IsDecoded (decoded_v1 bytes.now) result }
+{
+    decode_by(alloc, CodeVersion::First, bytes)
 }

@@ -5,10 +5,11 @@ ghost use Rattle.bytecode.specs.InMemory.{raw_code, raw_function, raw_instructio
 ghost use Rattle.bytecode.specs.Kinds.{kind_byte};
 ghost use Rattle.bytecode.specs.Written.{body_numbers, byte, bytes_of, head_numbers, instruction_numbers, name_numbers, written_code};
 
-use crate::code::{Code, CodeFunction, MAGIC, VERSION};
+use crate::code::{Code, CodeFunction, MAGIC};
 use crate::instruction::Instruction;
 use crate::kind::{Kind, return_byte};
 use crate::numbers::{Number, push_numbers};
+use crate::version::VERSION;
 use crate::writing::push_instruction;
 use sc_text::Name;
 use std::alloc::{AllocError, Global};

@@ -20,10 +20,11 @@ mod reader;
 mod registers;
 mod tag;
 mod test;
+mod version;
 mod writing;
 
 pub use code::{Code, CodeFunction};
-pub use decoding::decode;
+pub use decoding::{decode, decode_v1};
 pub use encoding::encode;
 pub use fault::{DecodeErr, DecodeFault, FaultKind};
 pub use instruction::{FunctionPlace, Instruction, JumpTarget, NO_RESULT, NamePlace, Register};

@@ -1,11 +1,11 @@
 // How an instruction is read.
 ghost use Rattle.std.specs.Prelude.{◌≡◌, ◌<◌, map};
-ghost use Rattle.bytecode.specs.Decoded.{body_layout, instruction_layout, operands, repeated, short_layout};
+ghost use Rattle.bytecode.specs.Decoded.{argument_count, body_layout, instruction_layout, operands, repeated, short_layout};
 ghost use Rattle.bytecode.specs.InMemory.{raw_instruction, result_register};
 ghost use Rattle.bytecode.specs.Layouts.{read};
+ghost use Rattle.bytecode.specs.Versions.{arguments_at, counting};
 ghost use Rattle.bytecode.specs.inner.Reading.{Reads};
 ghost use Rattle.bytecode.specs.inner.Tags.{made, operands_of};
-ghost use Rattle.bytecode.specs.Writable.{arguments_at};
 
 use crate::fault::Stopped;
 use crate::instruction::{FunctionPlace, Instruction, JumpTarget, NO_RESULT, NamePlace, Register};
@@ -14,6 +14,7 @@ use crate::operator::sign_of;
 use crate::reader::Reader;
 use crate::tag::{Tag, tag_of};
 use crate::test::Test;
+use crate::version::CodeVersion;
 use std::alloc::Global;
 
 /// What stands after a tag; 0 where it has no such operand.
@@ -170,13 +171,31 @@ fn registers(alloc: Global, reader: &mut Reader<'_>, count: usize) -> Result<Vec
     Ok(registers)
 }
 
-/// How many arguments a call of a function has.
+/// How many arguments a call of a function has by the heads.
 fn arguments_at(parameters: &[u16], function: u16) -> usize
     ensures { result ≡ arguments_at parameters.now function }
 {
     match parameters.get(function as usize) {
         Some(count) => *count as usize,
         None => 0,
+    }
+}
+
+/// The number of a call's arguments.
+fn argument_count(
+    reader: &mut Reader<'_>,
+    version: CodeVersion,
+    parameters: &[u16],
+    function: u16,
+) -> Result<usize, Stopped>
+    ensures { Reads (λ n. n) (read (argument_count (counting version parameters.now) function) reader.old) result reader.new }
+{
+    match version {
+        CodeVersion::First => Ok(arguments_at(parameters, function)),
+        CodeVersion::Second => {
+            let count = reader.short()?;
+            Ok(count as usize)
+        }
     }
 }
 
@@ -190,12 +209,17 @@ fn result_of(to: u16) -> Option<Register>
     }
 }
 
-fn call(alloc: Global, reader: &mut Reader<'_>, parameters: &[u16]) -> Result<Instruction, Stopped>
-    ensures { Reads raw_instruction (read (operands parameters.now 0x16) reader.old) result reader.new }
+fn call(
+    alloc: Global,
+    reader: &mut Reader<'_>,
+    version: CodeVersion,
+    parameters: &[u16],
+) -> Result<Instruction, Stopped>
+    ensures { Reads raw_instruction (read (operands (counting version parameters.now) 0x16) reader.old) result reader.new }
 {
     let function = reader.short()?;
     let to = reader.short()?;
-    let count = arguments_at(parameters, function);
+    let count = argument_count(reader, version, parameters, function)?;
     let arguments = registers(alloc, reader, count)?;
     let line = reader.line()?;
     Ok(Instruction::Call {
@@ -210,13 +234,14 @@ fn call(alloc: Global, reader: &mut Reader<'_>, parameters: &[u16]) -> Result<In
 pub(crate) fn instruction(
     alloc: Global,
     reader: &mut Reader<'_>,
+    version: CodeVersion,
     parameters: &[u16],
 ) -> Result<Instruction, Stopped>
-    ensures { Reads raw_instruction (read (instruction_layout parameters.now) reader.old) result reader.new }
+    ensures { Reads raw_instruction (read (instruction_layout (counting version parameters.now)) reader.old) result reader.new }
 {
     let tag = tag_of(reader.tested(Test::Tag)?);
     match tag {
-        Tag::Call => call(alloc, reader, parameters),
+        Tag::Call => call(alloc, reader, version, parameters),
         _ => plain(reader, tag),
     }
 }
@@ -225,14 +250,16 @@ pub(crate) fn instruction(
 pub(crate) fn body(
     alloc: Global,
     reader: &mut Reader<'_>,
+    version: CodeVersion,
     parameters: &[u16],
     count: usize,
 ) -> Result<Vec<Instruction>, Stopped>
-    ensures { Reads (λ v. map raw_instruction v.items) (read (body_layout parameters.now count) reader.old) result reader.new }
+    ensures { Reads (λ v. map raw_instruction v.items)
+        (read (body_layout (counting version parameters.now) count) reader.old) result reader.new }
 {
     let mut instructions = Vec::new(alloc);
     for place in 0..count {
-        let next = instruction(alloc, reader, parameters)?;
+        let next = instruction(alloc, reader, version, parameters)?;
         push(&mut instructions, next)?;
     }
     Ok(instructions)

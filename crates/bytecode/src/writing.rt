@@ -1,5 +1,5 @@
 // How an instruction is written: its tag, then its operands.
-ghost use Rattle.std.specs.Prelude.{◌≡◌, ◌++◌, ◌∷◌, [], OnOk, map};
+ghost use Rattle.std.specs.Prelude.{◌≡◌, ◌++◌, ◌∷◌, [], OnOk, map, length};
 ghost use Rattle.bytecode.specs.InMemory.{raw_instruction, result_register, truth_byte};
 ghost use Rattle.bytecode.specs.Written.{byte, bytes_of, instruction_numbers, short, source_line, word};
 ghost use Rattle.bytecode.specs.declared.instruction.Register.{Register};
@@ -121,10 +121,11 @@ fn push_call(
     arguments: &[Register],
     line: u32,
 ) -> Result<(), AllocError>
-    ensures { OnOk result (text.new.items ≡ text.old.items ++ bytes_of (byte 0x16 ∷ short function ∷ short to
+    ensures { OnOk result (text.new.items ≡ text.old.items ++ bytes_of (byte 0x16 ∷ short function ∷ short to ∷ short (length arguments.now)
         ∷ (map short (map (λ r. r.0) arguments.now) ++ source_line line ∷ []))) }
 {
     push_pair(text, 0x16, function, to)?;
+    push_numbers(text, &[Number(2, arguments.len() as u64)])?;
     push_registers(text, arguments)?;
     push_numbers(text, &[Number(4, line as u64)])?;
     Ok(())

@@ -1,6 +1,5 @@
 -- Shares that add up are what a dealer deals whose words are the first two miners' shares.
 use Rattle.std.proofs.Common.{◌≡◌, ℕ, suc, ◌*◌, ◌<◌, List, [], ◌∷◌, ◌++◌, length, take, drop, map, refl, sym, ◌∙◌, ap, arith, length-append}
-use Rattle.std.proofs.lemmas.List.{length-map}
 use Rattle.proto_core.specs.Ring.{Ring, RingLaws}
 use Rattle.proto_core.specs.RingsKeepLaws.{add_ring_laws, xor_ring_laws}
 use Rattle.proto_core.proofs.Sums.{left_of_three}
@@ -11,24 +10,17 @@ use Rattle.proto_core.proofs.MessageFields.{take-front, drop-front}
 use Rattle.shared_gates.specs.Shares.{sum_of}
 use Rattle.value_file.specs.declared.value.DataType.{DataType}
 use Rattle.value_file.specs.declared.value.DataType.TheVariants as data_type
-use Rattle.value_file.specs.declared.value.Value.{Value}
-use Rattle.value_file.specs.declared.value.Value.TheVariants as value
 use Rattle.value_file.specs.Values.{type_of, shape_of, count_of}
 use Rattle.input_share.specs.declared.entry.Part.TheVariants as part
 use Rattle.input_share.specs.declared.entry.ShareEntry.{ShareEntry}
-use Rattle.input_share.specs.Values.{elements_of, ring_of, bit_word}
+use Rattle.input_share.specs.Values.{shared_words, shared_size, ring_of}
 use Rattle.input_share.specs.Dealing.{left_of, share_of, dealt_entries, dealt}
+use Rattle.input_share.proofs.Elements.{length-shared_words}
 use Rattle.carried_shares.specs.Carrying.{Kept, IsShared, AllShared, carried_entry, input_of, tape_of, lens_of, carried}
 
 laws_for : (d : DataType) → RingLaws (ring_of d)
 laws_for data_type.Uint64 = add_ring_laws
 laws_for data_type.Bool = xor_ring_laws
-
-as_many : (v : Value) → length (elements_of v) ≡ count_of v
-as_many (value.Number n) = refl
-as_many (value.Truth b) = refl
-as_many (value.Numbers ns) = refl
-as_many (value.Truths bs) = length-map bs bit_word
 
 zero_less : (n : ℕ) → 0 < suc n
 zero_less n = omega arith
@@ -56,7 +48,7 @@ module _ {r : Ring} (laws : RingLaws r) where
 
 module _ (k : Kept) (shared : IsShared k) (rest : List ℕ) where
   abbrev n : ℕ
-  n = length (elements_of k.value)
+  n = length (shared_words k.value)
 
   abbrev words : List ℕ
   words = (k.shares One ++ k.shares Two) ++ rest
@@ -77,22 +69,26 @@ module _ (k : Kept) (shared : IsShared k) (rest : List ℕ) where
       ∙ ap (take n) (drop-front n (k.shares One) (k.shares Two ++ rest) (shared.sizes One))
       ∙ take-front n (k.shares Two) rest (shared.sizes Two)
 
-  dealt_share : (i : Number) → share_of i (ring_of (type_of k.value)) (elements_of k.value) words ≡ k.shares i
+  dealt_share : (i : Number) → share_of i (ring_of (type_of k.value)) (shared_words k.value) words ≡ k.shares i
   dealt_share One = firsts
   dealt_share Two = seconds
   dealt_share Three =
-      ap (λ d. left_of (ring_of (type_of k.value)) (elements_of k.value) d (take n (drop n words))) firsts
-      ∙ ap (left_of (ring_of (type_of k.value)) (elements_of k.value) (k.shares One)) seconds
-      ∙ left_is_third (laws_for (type_of k.value)) (elements_of k.value) (k.shares One) (k.shares Two) (k.shares Three)
+      ap (λ d. left_of (ring_of (type_of k.value)) (shared_words k.value) d (take n (drop n words))) firsts
+      ∙ ap (left_of (ring_of (type_of k.value)) (shared_words k.value) (k.shares One)) seconds
+      ∙ left_is_third (laws_for (type_of k.value)) (shared_words k.value) (k.shares One) (k.shares Two) (k.shares Three)
       (shared.sizes One) (shared.sizes Two) (shared.sizes Three) (shared.words Three) shared.sum
 
-  left_words : drop (2 * count_of k.value) words ≡ rest
+  -- what the dealer takes for it
+  abbrev m : ℕ
+  m = 2 * shared_size (type_of k.value) (count_of k.value)
+
+  left_words : drop m words ≡ rest
   left_words =
-      drop-front (2 * count_of k.value) (k.shares One ++ k.shares Two) rest
+      drop-front m (k.shares One ++ k.shares Two) rest
       (let l = length-append (k.shares One) (k.shares Two) in
       let a = shared.sizes One in
       let b = shared.sizes Two in
-      let c = as_many k.value in
+      let c = length-shared_words k.value in
       omega (arith, l, a, b, c))
 
 -- ---- all of them
@@ -105,7 +101,7 @@ carried_entries i [] h = refl
 carried_entries i (k ∷ ks) h =
     ap (λ (es : List ShareEntry). carried_entry i k ∷ es) (carried_entries i ks h.1)
     ∙ ap (λ w. carried_entry i k ∷ dealt_entries i (map input_of ks) w) (sym (left_words k h.0 (tape_of ks)))
-    ∙ ap (λ w. entry_with k w ∷ dealt_entries i (map input_of ks) (drop (2 * count_of k.value) (tape_of (k ∷ ks)))) (sym (dealt_share k h.0 (tape_of ks) i))
+    ∙ ap (λ w. entry_with k w ∷ dealt_entries i (map input_of ks) (drop (2 * shared_size (type_of k.value) (count_of k.value)) (tape_of (k ∷ ks)))) (sym (dealt_share k h.0 (tape_of ks) i))
 
 pub carried_is_dealt : (i : Number) (ks : List Kept) (miners : List ℕ) → AllShared ks
     → carried i ks miners ≡ dealt i (map input_of ks) (tape_of ks) (lens_of ks miners)

@@ -4,14 +4,16 @@ ghost use Rattle.language_model.specs.Reports.{words_dealt};
 ghost use Rattle.value_steps.specs.Views.{given_seen};
 
 use value_steps::GivenInput;
+use vector_ops::gate_size;
 
-/// The words that the dealer needs for an input: two for each element of a private one.
+/// The words that the dealer needs for an input: two for each word that a private one has in the gates.
 fn words_dealt(given: &GivenInput) -> u128
     ensures exact { result ≡ words_dealt (given_seen given.now) }
     ensures few { result ≤ 2097152 }
 {
     if given.private {
-        2 * given.words.len() as u128
+        let size = gate_size(given.shape.element, given.words.len() as u64);
+        2 * u128::from(size)
     } else {
         0
     }

@@ -1,5 +1,5 @@
 -- What three miners tell, laid beside one another, are the sightings of the client's view.
-use Rattle.std.proofs.Common.{◌≡◌, ℕ, ◌+◌, List, [], ◌∷◌, Some, refl, sym, ap, ◌∙◌}
+use Rattle.std.proofs.Common.{◌≡◌, ℕ, ◌+◌, List, [], ◌∷◌, length, Some, refl, sym, ap, ◌∙◌}
 use Rattle.sc_text.specs.declared.elements.Element.{Element}
 use Rattle.sc_text.specs.declared.end.Ending.{Ending}
 use Rattle.sc_text.specs.declared.event.Event.{Event}
@@ -23,8 +23,9 @@ use Rattle.tape_file.specs.Tapes.{FourTapes}
 use Rattle.value_file.specs.declared.inputs.Entry.{Entry}
 use Rattle.program_trees.specs.TypedPrograms.{TypedProgramTree}
 use Rattle.language_model.specs.Effects.{RunStop, Ended}
+use Rattle.language_model.specs.Values.{gate_words}
 use Rattle.language_model.specs.Reports.{Report}
-use Rattle.code_runs.specs.Telling.{elements_told, ring_told, AreOf, Tells, nothing as none, opened, published, handed}
+use Rattle.code_runs.specs.Telling.{type_of, elements_told, ring_told, AreOf, Tells, nothing as none, opened, published, handed}
 use Rattle.code_runs.specs.ClientTold.{all_added_up}
 use Rattle.code_runs.specs.Handing.{handed_in}
 use Rattle.code_runs.specs.Handing as handing
@@ -55,8 +56,9 @@ first_elements (Hand text elements ∷ es) = elements
 
 -- the three shares added up are the elements
 words_added :
-    (text : List ℕ) (form : Form) (words : List ℕ) (s : Number → List ℕ) → AreOf form words → AreShares (ring_told form) words s
-    → elements_told form (all_added_up form.element (s One) (s Two) (s Three)) ≡ elements_told form words
+    (text : List ℕ) (form : Form) (words : List ℕ) (s : Number → List ℕ) → AreOf form words
+    → AreShares (ring_told form) (gate_words (type_of form.element) words) s
+    → elements_told form (all_added_up form.element (length words) (s One) (s Two) (s Three)) ≡ elements_told form words
 unfolding first_elements
 words_added text form words s range are = ap first_elements (told_together_are_the_events _ _ (handed text form words s range are none))
 

@@ -1,5 +1,5 @@
 -- The elements that are told, cut as the events hand them over, and their words.
-use Rattle.std.proofs.Common.{◌≡◌, ℕ, zero, suc, ◌≤◌, ◌<◌, true, false, if◌then◌else◌, List, [], ◌∷◌, ◌++◌, length, map, drop, refl, sym}
+use Rattle.std.proofs.Common.{◌≡◌, ℕ, ◌≤◌, true, false, if◌then◌else◌, List, [], ◌∷◌, ◌++◌, length, map, drop, refl, sym}
 use Rattle.std.proofs.Common.{Option, Some, None, ap, ◌∙◌, ◌+◌, arith, append_assoc, length-append}
 use Rattle.std.specs.Prelude.{nat_le}
 use Rattle.std.proofs.lemmas.List.{map-append, length-map, drop_at}
@@ -12,16 +12,15 @@ use Rattle.sc_text.specs.declared.elements.Element.{Element}
 use Rattle.sc_text.specs.declared.elements.Element.TheVariants.{Word, Truth}
 use Rattle.sc_text.specs.declared.event.Event.{Event}
 use Rattle.sc_text.specs.declared.event.Event.TheVariants.{Open, Publish, Hand}
-use Rattle.program_trees.specs.declared.expression.DataType.{DataType}
-use Rattle.program_trees.specs.declared.expression.DataType.TheVariants as datatype
 use Rattle.language_model.specs.Values.{element_of}
+use Rattle.language_model.specs.Learned.{elements_words}
 use Rattle.blind_evaluation.specs.Courses.{is_truth, LikeEvents}
-use Rattle.gate_laws.specs.Dealt.{bound, InRange}
 use Rattle.gate_laws.specs.Facts as facts
+use Rattle.gate_laws.proofs.GateWords.{told_words}
 use Rattle.view_reader.specs.Opened.{element_word}
 use Rattle.view_model.proofs.Corresponding.{le_true}
 use Rattle.handed_shares.specs.Handed.{all_of, handed_values}
-use Rattle.client_view.specs.Views.{handed_elements, words_of, published_of, and_then, told_as, told_elements, told_events}
+use Rattle.client_view.specs.Views.{handed_elements, gate_words_of, published_of, and_then, told_as, told_elements, told_events}
 
 -- ---- TOLD EVENTS
 
@@ -101,42 +100,26 @@ told_exactly (Hand text elements ∷ es) (Publish text' others ∷ fs) h more = 
 
 -- ---- WORDS
 
-word_back : (e : DataType) (x : ℕ) → x < bound e → element_word (element_of e x) ≡ x
-word_back datatype.Uint64 x lt = refl
-word_back datatype.Bool zero lt = refl
-word_back datatype.Bool (suc zero) lt = refl
-word_back datatype.Bool (suc (suc x)) lt = absurd (too_large x lt)
-  where
-    too_large : (x : ℕ) → suc (suc x) < 2 → ⊥
-    too_large x lt = omega (arith, lt)
-
-words_back : (e : DataType) (words : List ℕ) → InRange e words → map element_word (map (element_of e) words) ≡ words
-words_back e [] h = refl
-words_back e (x ∷ words) h =
-    ap (λ y. y ∷ map element_word (map (element_of e) words)) (word_back e x (h zero))
-    ∙ ap (λ ys. x ∷ ys) (words_back e words (λ k. h (suc k)))
-
 pub handed_append : (es fs : List Event) → handed_elements (es ++ fs) ≡ handed_elements es ++ handed_elements fs
 handed_append [] fs = refl
 handed_append (Open elements ∷ es) fs = handed_append es fs
 handed_append (Publish text elements ∷ es) fs = handed_append es fs
 handed_append (Hand text elements ∷ es) fs = ap (λ (xs : List (List Element)). elements ∷ xs) (handed_append es fs)
 
-pub words_append : (es fs : List Event) → words_of (es ++ fs) ≡ words_of es ++ words_of fs
-words_append es fs =
-    ap (map (map element_word)) (handed_append es fs) ∙ map-append (map element_word) (handed_elements es) (handed_elements fs)
+words_append : (es fs : List Event) → gate_words_of (es ++ fs) ≡ gate_words_of es ++ gate_words_of fs
+words_append es fs = ap (map elements_words) (handed_append es fs) ∙ map-append elements_words (handed_elements es) (handed_elements fs)
 
--- the events that hand over have the words of what is handed over
-pub handed_words : (es : List Event) (vs : Values) → facts.Handed es vs → words_of es ≡ vs
+-- the events that hand over have the gates' words of what is handed over
+pub handed_words : (es : List Event) (vs : Values) → facts.Handed es vs → gate_words_of es ≡ vs
 handed_words _ _ facts.nothing_handed = refl
 handed_words _ _ (facts.and_opened {es = es} {vs = vs} elements h) =
-    words_append es (Open elements ∷ []) ∙ append-none (words_of es) ∙ handed_words es vs h
+    words_append es (Open elements ∷ []) ∙ append-none (gate_words_of es) ∙ handed_words es vs h
 handed_words _ _ (facts.and_published {es = es} {vs = vs} text elements h) =
-    words_append es (Publish text elements ∷ []) ∙ append-none (words_of es) ∙ handed_words es vs h
+    words_append es (Publish text elements ∷ []) ∙ append-none (gate_words_of es) ∙ handed_words es vs h
 handed_words _ _ (facts.and_handed {es = es} {vs = vs} text e words range h) =
     words_append es (Hand text (map (element_of e) words) ∷ [])
-    ∙ ap (λ (xs : Values). xs ++ map element_word (map (element_of e) words) ∷ []) (handed_words es vs h)
-    ∙ ap (λ (xs : List ℕ). vs ++ xs ∷ []) (words_back e words range)
+    ∙ ap (λ (xs : Values). xs ++ elements_words (map (element_of e) words) ∷ []) (handed_words es vs h)
+    ∙ ap (λ (xs : List ℕ). vs ++ xs ∷ []) (told_words e words range)
 
 -- ---- WHAT GATES HAND OVER
 

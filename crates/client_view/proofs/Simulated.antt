@@ -37,7 +37,7 @@ use Rattle.handed_shares.specs.Handed.{all_of, handed_values}
 use Rattle.client_model.specs.ClientMaps.{to_client}
 use Rattle.client_model.specs.Given.{Given, made_from}
 use Rattle.client_model.proofs.Given.{given-made}
-use Rattle.client_view.specs.Views.{ClientView, view_at, given_in, view_with, client_view_of, published_of, words_of, made_with, made_view}
+use Rattle.client_view.specs.Views.{ClientView, view_at, given_in, view_with, client_view_of, published_of, gate_words_of, made_with, made_view}
 use Rattle.client_view.specs.Views.{client_simulated}
 use Rattle.client_view.specs.TapeMaps.{client_mapped}
 use Rattle.client_view.specs.Laws.{ClientViewIsSimulated, ClientViewsAreSimulated}
@@ -57,7 +57,7 @@ module _
     mapped gates = to_client all_of (dealt_to entries t.dealer) (private_sizes entries) gates (miners_of t)
 
     abbrev IsMade : List Gate → Type 0
-    IsMade gates = made_from all_of 0 (private_sizes entries) [] gates (words_of r.events) (mapped gates) ≡ given_in entries gates t
+    IsMade gates = made_from all_of 0 (private_sizes entries) [] gates (gate_words_of r.events) (mapped gates) ≡ given_in entries gates t
 
     suited : need_of entries ≤ length t.dealer → GatesSuit (world_of Clear (offered entries (lengths_of t))) (dealt_of entries t.dealer) r
     suited h =
@@ -70,7 +70,7 @@ module _
         let reaches : Reaches entries r.gates t = can_run source p is entries given t are budget h in
         let ready : Ready (gates_dealt entries t.dealer r.gates) no_values (miners_of t) = ready_with entries r.gates t.dealer t are.miners h reaches in
         let c = run_computes entries r.gates t suits.kinds are given.inputs.words h reaches suits.formed.kinded in
-        let words : words_of r.events ≡ handed_values all_of 0 c.more r.gates =
+        let words : gate_words_of r.events ≡ handed_values all_of 0 c.more r.gates =
         handed_words r.events (facts.handed_values c.more r.gates) (suits.handed c.more c.fit) ∙ sym (all_handed c.more r.gates 0) in
         let shares : Number → Values = run_values (gates_dealt entries t.dealer r.gates) no_values (miners_of t) in
         ap (λ (ws : Values). made_from all_of 0 (private_sizes entries) [] r.gates ws (mapped r.gates))
@@ -98,10 +98,10 @@ module _
     same_view o course =
         ap
         (λ (gates : List Gate).
-        view_at r.events (made_from all_of 0 (hidden_sizes (part_of entries)) [] gates (words_of r.events) (miners_of s)) o.stop o.cost)
+        view_at r.events (made_from all_of 0 (hidden_sizes (part_of entries)) [] gates (gate_words_of r.events) (miners_of s)) o.stop o.cost)
         (sym course.gates)
-        ∙ ap (λ (ds : List ℕ). view_at r.events (made_from all_of 0 ds [] r.gates (words_of r.events) (miners_of s)) o.stop o.cost) (sizes_hidden entries)
-        ∙ ap (λ (ts : Tapes). view_at r.events (made_from all_of 0 (private_sizes entries) [] r.gates (words_of r.events) ts) o.stop o.cost)
+        ∙ ap (λ (ds : List ℕ). view_at r.events (made_from all_of 0 ds [] r.gates (gate_words_of r.events) (miners_of s)) o.stop o.cost) (sizes_hidden entries)
+        ∙ ap (λ (ts : Tapes). view_at r.events (made_from all_of 0 (private_sizes entries) [] r.gates (gate_words_of r.events) ts) o.stop o.cost)
         (miners_four t.dealer (mapped r.gates))
         ∙ ap (λ (gs : List Given). view_at r.events gs o.stop o.cost) made_all
         ∙ ap (λ (stop : RunStop). view_at r.events (given_in entries r.gates t) stop o.cost) (sym course.stop)

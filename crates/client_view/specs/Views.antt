@@ -10,6 +10,7 @@ use Rattle.value_file.specs.declared.public.PublicEntry.{PublicEntry}
 use Rattle.tape_file.specs.Tapes.{FourTapes}
 use Rattle.program_trees.specs.TypedPrograms.{TypedProgramTree}
 use Rattle.language_model.specs.Effects.{RunStop, Ended, Short}
+use Rattle.language_model.specs.Learned.{elements_words}
 use Rattle.language_model.specs.Reports.{Report}
 use Rattle.view_reader.specs.Opened.{element_word}
 use Rattle.view_model.specs.Dealing.{dealt_to, private_sizes, hidden_sizes}
@@ -58,7 +59,7 @@ handed_elements (Open elements ∷ events) = handed_elements events
 handed_elements (Publish text elements ∷ events) = handed_elements events
 handed_elements (Hand text elements ∷ events) = elements ∷ handed_elements events
 
--- their words
+-- their words, one for each element
 abbrev pub words_of : List Event → List (List ℕ)
 words_of events = map (map element_word) (handed_elements events)
 
@@ -69,6 +70,10 @@ all_words (words ∷ more) = words ++ all_words more
 
 abbrev pub published_of : List Event → List ℕ
 published_of events = all_words (words_of events)
+
+-- the words that the gates have for what is handed over, value by value
+abbrev pub gate_words_of : List Event → List (List ℕ)
+gate_words_of events = map elements_words (handed_elements events)
 
 -- ---- THE SIMULATOR: no private word but those that are handed over, and no share, among its arguments
 
@@ -101,7 +106,7 @@ told_events (Hand text elements ∷ events) published =
 abbrev pub made_with : List PublicEntry → FourTapes → Report → Option (List Event) → Option ClientView
 made_with part s r None = None
 made_with part s r (Some events) =
-    view_at events (made_from all_of 0 (hidden_sizes part) [] r.gates (words_of events) (miners_of s)) r.stop r.cost
+    view_at events (made_from all_of 0 (hidden_sizes part) [] r.gates (gate_words_of events) (miners_of s)) r.stop r.cost
 
 abbrev pub made_view : List PublicEntry → (published : List ℕ) → FourTapes → Report → Option ClientView
 made_view part published s r = made_with part s r (told_events r.events published)

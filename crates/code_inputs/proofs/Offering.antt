@@ -15,14 +15,14 @@ use Rattle.value_file.specs.declared.value.Value.TheVariants.{Number as One, Tru
 use Rattle.value_file.specs.declared.inputs.Entry.{Entry}
 use Rattle.value_file.specs.Input.{AreEntries, name_of, elements_of as count_in}
 use Rattle.value_file.specs.Values.{type_of, count_of}
-use Rattle.input_share.specs.Values.{bit_word, elements_of}
+use Rattle.input_share.specs.Values.{bit_word, elements_of, shared_as, shared_words}
 use Rattle.input_share.proofs.Elements.{length-elements_of}
 use Rattle.view_model.specs.Held.{ring_kind, kind_then, private_kinds, value_then, private_values}
 use Rattle.view_model.proofs.DealtSizes.{sizes_dealt}
 use Rattle.view_model.proofs.Holding.{dealt_held, sizes_values}
 use Rattle.language_model.specs.Effects.{GivenInput}
 use Rattle.language_model.specs.Evaluation.{behind}
-use Rattle.language_model.specs.Values.{ring_for}
+use Rattle.language_model.specs.Values.{ring_for, gate_words}
 use Rattle.code_model.specs.Kinded.{IsSingle, AreSingle}
 use Rattle.gate_laws.specs.Dealt.{InRange, Dealt}
 use Rattle.gate_laws.specs.Offers.{IsDealt, AreOffered}
@@ -73,6 +73,10 @@ ring_given : (t : told.DataType) → ring_for (element_given t) ≡ ring_kind t
 ring_given kind.Uint64 = refl
 ring_given kind.Bool = refl
 
+shared_given : (t : told.DataType) (elements : List ℕ) → shared_as t elements ≡ gate_words (element_given t) elements
+shared_given kind.Uint64 elements = refl
+shared_given kind.Bool elements = refl
+
 -- ---- WHAT IS OFFERED
 
 module _ (d : Dealt) where
@@ -97,7 +101,8 @@ module _ (d : Dealt) where
         let many = h.many in
         record {
           there = omega (arith, many);
-          words = ap (value d.inputs) (sym here) ∙ h.values 0 ∙ sym words;
+          words = ap (value d.inputs) (sym here) ∙ h.values 0 ∙ shared_given (type_of v) (elements_of v)
+              ∙ ap (gate_words (element_given (type_of v))) (sym words) ∙ ap (λ (s : Shape). gate_words s.element x.words) (sym shape);
           kind = ap (kind_at d.kinds) (sym here) ∙ h.kinds 0
               ∙ ap Shared (sym (ring_given (type_of v)) ∙ ap (λ (s : Shape). ring_for s.element) (sym shape));
         }
@@ -108,7 +113,7 @@ module _ (d : Dealt) where
         (λ e. absurd (clash e secret), subst (λ (b : Bool). Follow (if b then k + 1 else k) vs ks) (sym secret) h)
     offered_if k domain.Private vs ks secret h = (
       λ e. dealt_at k vs ks h,
-      subst (λ (b : Bool). Follow (if b then k + 1 else k) vs ks) (sym secret) (behind_one k (elements_of v) vs (Shared (ring_kind (type_of v))) ks h),
+      subst (λ (b : Bool). Follow (if b then k + 1 else k) vs ks) (sym secret) (behind_one k (shared_words v) vs (Shared (ring_kind (type_of v))) ks h),
     )
 
     range_of : All (λ n. n < 2 ^ 64) (elements_of v) → InRange x.shape.element x.words

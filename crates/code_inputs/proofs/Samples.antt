@@ -102,13 +102,13 @@ words =
 sound : AreSound entries
 sound = record { form = form; words = words }
 
--- two words for each of three private elements
+-- two words for a number, and two for truth values in one word
 dealer : List ℕ
-dealer = replicate 6 7
+dealer = replicate 4 7
 
 suffice : Suffice entries dealer
 unfolding entries dealer
-suffice = record { words = replicate_below (2 ^ 64) 6 7 (omega arith); enough = omega arith }
+suffice = record { words = replicate_below (2 ^ 64) 4 7 (omega arith); enough = omega arith }
 
 -- so they are dealt and offered
 sample_dealt : IsDealing (dealt_of entries dealer)

@@ -1,5 +1,6 @@
 // What can be read of a machine.
 ghost use Rattle.std.specs.Prelude.{◌≡◌, IfOk};
+ghost use Rattle.language_model.specs.Values.{size};
 ghost use Rattle.value_steps.specs.Views.{value_seen};
 ghost use Rattle.code_machine.specs.Views.{registers_seen};
 
@@ -18,6 +19,17 @@ impl Machine {
         match self.registers.get(register.0 as usize) {
             Some(value) => value.shape,
             None => Shape::scalar(DataType::Uint64),
+        }
+    }
+
+    /// How many elements the value in a register has; where there is no such register, as many as the value that nobody reads.
+    #[tactic(auto, unfolding(crate::specs::Views::registers_seen))]
+    pub fn size_in(&self, register: Register) -> u64
+        ensures { result ≡ size (registers_seen self.now.registers.items register.0) }
+    {
+        match self.registers.get(register.0 as usize) {
+            Some(value) => value.size(),
+            None => 1,
         }
     }
 

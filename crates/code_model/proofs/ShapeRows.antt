@@ -69,12 +69,12 @@ module _ (w : World) where
       makes_after (row.operator_gates op n u v) _ (λ r. made (row.result_shape op ds) (W.result_words op ds x y) r h))))))
   combined_makes (Private j) Plain op ds x y h =
       makes_after (row.number_of x) _ (λ j. makes_after (row.stretched x.shape.element (row.is_scalar_left ds) (length (W.right_words ds x y)) j) _ (λ u.
-      makes_after (gate (gates.MulPub (ring_for x.shape.element) u (gate_words x.shape.element (W.right_words ds x y)))) _ (λ r. made (row.result_shape op ds) (W.result_words op ds x y)
-      r h)))
+      makes_after (gate (gates.MulPub (ring_for x.shape.element) u (gate_words x.shape.element (W.right_words ds x y)))) _ (λ r.
+      made (row.result_shape op ds) (W.result_words op ds x y) r h)))
   combined_makes Plain (Private k) op ds x y h =
       makes_after (row.number_of y) _ (λ j. makes_after (row.stretched y.shape.element (row.is_scalar_right ds) (length (W.left_words ds x y)) j) _ (λ u.
-      makes_after (gate (gates.MulPub (ring_for y.shape.element) u (gate_words y.shape.element (W.left_words ds x y)))) _ (λ r. made (row.result_shape op ds) (W.result_words op ds x y) r
-      h)))
+      makes_after (gate (gates.MulPub (ring_for y.shape.element) u (gate_words y.shape.element (W.left_words ds x y)))) _ (λ r.
+      made (row.result_shape op ds) (W.result_words op ds x y) r h)))
 
   result_single : (op : BinaryOperator) (ds : Operands) (x y : Value) → (left_array ds ≡ false → length x.words ≡ 1)
       → (right_array ds ≡ false → length y.words ≡ 1) → (row.result_shape op ds).array ≡ false → length (W.result_words op ds x y) ≡ 1
@@ -130,7 +130,8 @@ module _ (w : World) where
     where
       go : (a : Secrecy) → Makes (row.classified_from a x) (IsShaped x.shape)
       go (Private k) = itself x h
-      go Plain = makes_after (row.charged row.no_traps (size x)) _ (λ _. makes_after (gate (gates.Const (gate_words x.shape.element x.words))) _ (λ k. made x.shape x.words k h))
+      go Plain = makes_after (row.charged row.no_traps (size x)) _ (λ _.
+          makes_after (gate (gates.Const (gate_words x.shape.element x.words))) _ (λ k. made x.shape x.words k h))
 
   pub filled_makes : (line : ℕ) (n x : Value) → Makes (row.filled line n x) (IsShaped (shape_of x.shape.element true))
   filled_makes line n x = makes_after (row.charged (row.not_too_large line (row.position n)) (row.position n)) _ (λ _. go x.secrecy)
@@ -159,8 +160,8 @@ module _ (w : World) where
 
       go : (a : Secrecy) → Makes (row.with_element_from a x (row.position i) y) (IsShaped x.shape)
       go Plain = shown x.shape _ never
-      go (Private k) = makes_after (row.number_of x) _ (λ u. makes_after (row.number_of y) _ (λ e. makes_after (gate (row.stored_gate x.shape.element u (row.position i) e)) _
-          (λ r. made x.shape (set x.words (row.position i) (first_word y.words)) r never)))
+      go (Private k) = makes_after (row.number_of x) _ (λ u. makes_after (row.number_of y) _ (λ e.
+          makes_after (gate (row.stored_gate x.shape.element u (row.position i) e)) _ (λ r. made x.shape (set x.words (row.position i) (first_word y.words)) r never)))
 
   pub size_makes : (x : Value) → Makes (row.size_told x) (IsShaped (shape_of Uint64 false))
   size_makes x = makes_after (charge 1) _ (λ _. shown (shape_of Uint64 false) (size x ∷ []) (λ e. refl))

@@ -47,6 +47,9 @@ module _ {registers registers' : Frame} (like : LikeRegisters registers register
   pub like_at : (r : ℕ) → LikeValues (registers r) (registers' r)
   like_at r = to_like (like r)
 
+  pub size_at : (r : ℕ) → size (registers r) ≡ size (registers' r)
+  size_at r = like_size (like_at r)
+
   put_like : (d : ℕ) {v v' : Value} → LikeValue v v' → LikeRegisters (put d v registers) (put d v' registers')
   put_like d {v = v} {v' = v'} h r = go (nat_eq r d)
     where

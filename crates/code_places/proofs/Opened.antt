@@ -2,6 +2,7 @@
 use Rattle.std.proofs.Common.{◌≡◌, ◌≢◌, ◌⊎◌, inl, inr, ℕ, zero, suc, ◌+◌, ◌/◌, ◌%◌, List, [], ◌∷◌, ◌++◌, length, map, Ok, Err, Option, Some, false, refl, sym, ap, ◌∙◌, subst, arith}
 use Rattle.std.proofs.lemmas.List.{length-map}
 use Rattle.std.proofs.lemmas.Nat.{mod_below}
+use Rattle.sc_text.specs.declared.event.Event.{Event}
 use Rattle.sc_text.specs.declared.event.Event.TheVariants as event
 use Rattle.program_trees.specs.declared.expression.DataType.{DataType}
 use Rattle.program_trees.specs.declared.expression.DataType.TheVariants.{Uint64}
@@ -11,14 +12,14 @@ use Rattle.gates.specs.Bits.{words_for}
 use Rattle.gates.specs.Gathered.{packed, unpacked}
 use Rattle.gates.proofs.Packing.{length-packed, unpacked-packed}
 use Rattle.language_model.specs.Effects.{World, Clear, Stage, Run, Effect, ◌>>=◌, carry, done, words_each}
-use Rattle.language_model.specs.Values.{Secrecy, Plain, Private, Value, size, ring_for, gate_words, gate_size}
+use Rattle.language_model.specs.Values.{Secrecy, Plain, Private, Value, size, ring_for, gate_words, gate_size, element_of}
 use Rattle.language_model.specs.Operations.{read_answer, revealed, opened_from, declassified}
 use Rattle.language_model.specs.Learned.{learned_of}
 use Rattle.language_model.specs.Reports.{Offered}
 use Rattle.verified_code.specs.Steps.{Step, Declassify}
 use Rattle.gate_laws.specs.Machine.{Machine}
 use Rattle.gate_laws.specs.Dealt.{InRange}
-use Rattle.gate_laws.proofs.GateWords.{learned_opened}
+use Rattle.gate_laws.proofs.GateWords.{learned_opened, learned_numbers}
 use Rattle.gate_laws.proofs.Ranges.{Below, below_cons}
 use Rattle.blind_evaluation.proofs.Rows.{clear}
 use Rattle.code_places.specs.Places.{answers_told, elements_opened}
@@ -73,6 +74,12 @@ pub read_length : (e : DataType) (words : List ℕ) → length (read_answer e wo
 read_length Uint64 words = refl
 read_length datatype.Bool words = length-map words (λ x. x % 2)
 
+-- what is told of elements that were read is the words that the gates have opened
+pub learned_read : (events : List Event) (e : DataType) (words : List ℕ)
+    → learned_of (events ++ event.Open (map (element_of e) (read_answer e words)) ∷ []) ≡ learned_of events ++ gate_words e (read_answer e words)
+learned_read events Uint64 words = learned_numbers events words
+learned_read events datatype.Bool words = learned_opened events datatype.Bool (read_answer datatype.Bool words) (low words)
+
 module _ (o : Offered) (v : Value) where
   abbrev e : DataType
   e = v.shape.element
@@ -83,15 +90,10 @@ module _ (o : Offered) (v : Value) where
         from = λ s. inr (record {
           words = v.words;
           opened = refl;
-          learned = seen s e;
+          learned = learned_read s.events e v.words;
           many = refl;
         });
       }
-    where
-      seen : (s : Stage) (e : DataType) → learned_of (s.events ++ event.Open (map (Rattle.language_model.specs.Values.element_of e) (read_answer e v.words)) ∷ [])
-          ≡ learned_of s.events ++ gate_words e (read_answer e v.words)
-      seen s Uint64 = Rattle.gate_laws.proofs.GateWords.learned_numbers s.events v.words
-      seen s datatype.Bool = learned_opened s.events datatype.Bool (read_answer datatype.Bool v.words) (low v.words)
 
   opened_opens : (x : Secrecy) → Opening e (size v) (opened_from (clear o) x v)
   opened_opens Plain = record { from = λ s. inl refl }

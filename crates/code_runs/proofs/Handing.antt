@@ -21,6 +21,7 @@ use Rattle.gate_laws.proofs.GateRunLaws.{run-count}
 use Rattle.language_model.specs.Effects.{Clear, Stage}
 use Rattle.language_model.specs.Reports.{Offered, world_of}
 use Rattle.language_model.specs.Tapes.{AtMost}
+use Rattle.language_model.specs.Values.{gate_words}
 use Rattle.gate_laws.specs.Facts as facts
 use Rattle.gate_laws.specs.Facts.{handed_values, none_of, run_at, IsAt}
 use Rattle.gate_laws.specs.Dealt.{Dealt, drawn_by}
@@ -35,7 +36,7 @@ pub handed-append : (ns ms : List Notice) → handed_in (ns ++ ms) ≡ handed_in
 handed-append [] ms = refl
 handed-append (Shown form words ∷ ns) ms = handed-append ns ms
 handed-append (Published text form words ∷ ns) ms = handed-append ns ms
-handed-append (Handed text form words ∷ ns) ms = ap (λ (vs : Values). words ∷ vs) (handed-append ns ms)
+handed-append (Handed text form count words ∷ ns) ms = ap (λ (vs : Values). words ∷ vs) (handed-append ns ms)
 
 -- ---- HOW MANY
 
@@ -74,7 +75,7 @@ handed-count _ _ (facts.and_opened {es = es} {vs = vs} elements h) =
 handed-count _ _ (facts.and_published {es = es} {vs = vs} text elements h) =
     let e = handed-count es vs h in let a = hands-append es (Publish text elements ∷ []) in omega (arith, e, a)
 handed-count _ _ (facts.and_handed {es = es} {vs = vs} text d words range h) =
-    length-append vs (words ∷ []) ∙ ap (λ n. n + 1) (handed-count es vs h) ∙ sym (hands-handed es text _)
+    length-append vs (gate_words d words ∷ []) ∙ ap (λ n. n + 1) (handed-count es vs h) ∙ sym (hands-handed es text _)
 
 -- ---- GATES
 

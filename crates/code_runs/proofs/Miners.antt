@@ -18,6 +18,7 @@ use Rattle.shared_gates.proofs.Models.{gates-sound}
 use Rattle.shared_gates.proofs.Silence.{gates-silent}
 use Rattle.code_model.specs.Courses.{LikeEvents}
 use Rattle.language_model.specs.Effects.{World, Clear, Stage, RunStop, words_each}
+use Rattle.language_model.specs.Learned.{learned_of}
 use Rattle.language_model.specs.Reports.{Report, Offered, world_of, beginning, reported, not_dealt}
 use Rattle.code_model.specs.Machine.{start, exec}
 use Rattle.code_model.specs.Meaning.{fuel, stopped_or, report_at, mean}
@@ -190,7 +191,7 @@ module _ (o : Offered) (d : Dealt) (c : List Function) (budget : ℕ) (tapes : T
         events = subst (λ z. LikeEvents z.events q.stage.events) at_end like.stage.events;
       }
 
-  pub open_the_words : (i : Number) → opened_by (miners o d c budget tapes) (run_messages gates (λ i. []) tapes) i ≡ (report).opened
+  pub open_the_words : (i : Number) → opened_by (miners o d c budget tapes) (run_messages gates (λ i. []) tapes) i ≡ learned_of (report).events
   open_the_words i =
       subst (λ g. opened_by (miners o d c budget tapes) (run_messages g (λ i. []) tapes) i ≡ run_opened g (λ i. []) tapes) same_gates
       (laws.nodes_open (in_the_clear o c) (when_told o c) (run_dealt d) GoAlike EndAlike (run_dealt_joins d) twins (fuel c budget) first first (λ i. []) tapes

@@ -25,7 +25,7 @@ use Rattle.shared_gates.specs.Model.{miner_of}
 use Rattle.gate_laws.specs.GateRuns.{end_shares}
 use Rattle.language_model.specs.Effects.{Clear, Stage}
 use Rattle.language_model.specs.Reports.{Offered, world_of}
-use Rattle.language_model.specs.Values.{Secrecy, Plain, Private, Value, plain, ring_for, element_of, elements_of}
+use Rattle.language_model.specs.Values.{Secrecy, Plain, Private, Value, plain, ring_for, gate_words, element_of, elements_of}
 use Rattle.language_model.specs.Operations.{publication}
 use Rattle.code_model.specs.Courses.{LikeEvent}
 use Rattle.program_trees.specs.declared.kinds.Shape.{Shape}
@@ -37,6 +37,7 @@ use Rattle.gate_laws.proofs.PlanRuns.{made-then}
 use Rattle.driven_nodes.specs.Steps.{gained, last_of}
 use Rattle.code_places.specs.Places.{Place, next_step, field_of, form_of, publishing, told_by, where_made, notices_between}
 use Rattle.code_places.specs.Twins.{LikeWords, LikeStage, LikeMachine}
+use Rattle.code_places.proofs.AlikeMachines.{size_at}
 use Rattle.code_places.proofs.Turns.{gained_more}
 use Rattle.code_runs.specs.Telling.{type_of, elements_told, AreOf, Tells}
 use Rattle.code_runs.specs.Telling as tells
@@ -132,12 +133,15 @@ module _ (o : Offered) (d : Dealt) (c : List Function) (tapes : Tapes) (words : 
           FitFrom-append d.inputs values 0 p.stage.gates new
           (subst (FitFrom d.inputs values 0) gates (computed o d tapes words long along.stays.kinds q.stage along.stays.stage along.stays.tapes).fit)
 
-      named_words : (k : ℕ) → v.secrecy ≡ Private (Some k) → value values k ≡ v.words
+      abbrev own_words : List ℕ
+      own_words = gate_words v.shape.element v.words
+
+      named_words : (k : ℕ) → v.secrecy ≡ Private (Some k) → value values k ≡ own_words
       named_words k e =
           let facts = subst (λ z. AllStand (run_at (world_of Clear o) d st.kinds p.stage) (fact_from z v.shape.element v.words)) e (st.stands.registers r).0 in
           facts.0.words values (whole_fit).0
 
-      number_words : (j : Option ℕ) → v.secrecy ≡ Private j → NumberFor j v.words p.stage before number → value values number ≡ v.words
+      number_words : (j : Option ℕ) → v.secrecy ≡ Private j → NumberFor j own_words p.stage before number → value values number ≡ own_words
       number_words (Some k) e h = ap (value values) h.1 ∙ named_words k e
       number_words None e h =
           let here : number ≡ 0 + made_by_all p.stage.gates = h.1 ∙ st.stage.made ∙ sym (zero-add (made_by_all p.stage.gates)) in
@@ -152,8 +156,8 @@ module _ (o : Offered) (d : Dealt) (c : List Function) (tapes : Tapes) (words : 
       in_front = gates ∙ sym (append_assoc p.stage.gates before (Result (ring_for v.shape.element) number ∷ []))
 
       handed_shares :
-          (j : Option ℕ) → v.secrecy ≡ Private j → NumberFor j v.words p.stage before number
-          → AreShares (ring_of (ring_for v.shape.element)) v.words (λ i. last_of (behind d tapes q.stage.gates i))
+          (j : Option ℕ) → v.secrecy ≡ Private j → NumberFor j own_words p.stage before number
+          → AreShares (ring_of (ring_for v.shape.element)) own_words (λ i. last_of (behind d tapes q.stage.gates i))
       handed_shares j e h =
           let ring = ring_for v.shape.element in
           let g = Result ring number in
@@ -165,7 +169,7 @@ module _ (o : Offered) (d : Dealt) (c : List Function) (tapes : Tapes) (words : 
           let made = stands values (made_by_all front) (last_made o d tapes words long k q.stage at fit front g refl in_front) in
           let held = last_held o d tapes words long k q.stage at fit front g refl in_front in
           let last = last_value o d tapes words long k q.stage at fit front g refl in_front in
-          subst (λ s. AreShares (ring_of ring) v.words s) (λ z. λ i. sym (last i) z)
+          subst (λ s. AreShares (ring_of ring) own_words s) (λ z. λ i. sym (last i) z)
           (subst (λ xs. AreShares (ring_of ring) xs (share_at shares (made_by_all front))) (made ∙ number_words j e h)
           (subst (λ z. Holds z (value values (made_by_all front)) (share_at shares (made_by_all front))) kind held))
 
@@ -173,7 +177,7 @@ module _ (o : Offered) (d : Dealt) (c : List Function) (tapes : Tapes) (words : 
 
     module _ (before : List Gate) (number : ℕ) (gates : q.stage.gates ≡ p.stage.gates ++ (before ++ Result (ring_for v.shape.element) number ∷ [])) where
       pub kept_last :
-          (j : Option ℕ) → NumberFor j v.words p.stage before number → (i : Number)
+          (j : Option ℕ) → NumberFor j own_words p.stage before number → (i : Number)
           → kept_at o d tapes words long q.stage i ≡ kept_at o d tapes words long p.stage i ++ last_of (behind d tapes q.stage.gates i) ∷ []
       kept_last j h i =
           let g = Result (ring_for v.shape.element) number in
@@ -183,7 +187,7 @@ module _ (o : Offered) (d : Dealt) (c : List Function) (tapes : Tapes) (words : 
           kept-grown o d tapes words long p.stage q.stage st.kinds along.stays.kinds st.stage st.tapes along.stays.stage along.stays.tapes (before ++ g ∷ [])
           gates i
           ∙ ap (λ vs. kept_at o d tapes words long p.stage i ++ vs)
-          (last_kept j v.words p.stage before number (ring_for v.shape.element) h (0 + made_by_all p.stage.gates) (behind d tapes q.stage.gates i)
+          (last_kept j own_words p.stage before number (ring_for v.shape.element) h (0 + made_by_all p.stage.gates) (behind d tapes q.stage.gates i)
           ∙ ap (λ n. value (behind d tapes q.stage.gates i) (n + made_by_all before) ∷ []) (zero-add (made_by_all p.stage.gates))
           ∙ ap (λ n. value (behind d tapes q.stage.gates i) n ∷ []) (sym (made-then p.stage.gates before))
           ∙ ap (λ (ws : List ℕ). ws ∷ []) (sym last))
@@ -272,6 +276,9 @@ module _ (o : Offered) (d : Dealt) (c : List Function) (tapes : Tapes) (words : 
     shared_words : (r : ℕ) (x : Secrecy) → (p.machine.registers r).secrecy ≡ x → LikeWords x (p.machine.registers r).words (b.machine.registers r).words
     shared_words r x e = subst (λ z. LikeWords z (p.machine.registers r).words (b.machine.registers r).words) e (machines.registers r).words
 
+    same_count : (r : ℕ) → length (b.machine.registers r).words ≡ length (p.machine.registers r).words
+    same_count r = sym (size_at machines.registers r)
+
     hands : (text : List ℕ) (r : ℕ) → next_step p.machine ≡ Some (Publish text r) → Publishing text (p.machine.registers r) p.stage q.stage
         → (x : Secrecy) → (p.machine.registers r).secrecy ≡ x → StepTells
     hands text r n h Plain e =
@@ -296,17 +303,18 @@ module _ (o : Offered) (d : Dealt) (c : List Function) (tapes : Tapes) (words : 
         let made = h.handed j e in
         let shares : Number → List ℕ = λ i. last_of (behind d tapes q.stage.gates i) in
         let held = handed_shares r made.before made.number made.gates j e made.number_for in
-        one (event.Hand text (elements_of v)) (λ i. Handed text (form_of v.shape) (shares i))
+        one (event.Hand text (elements_of v)) (λ i. Handed text (form_of v.shape) (length v.words) (shares i))
         (subst (λ z. q.stage.events ≡ p.stage.events ++ publication z text (elements_of v) ∷ []) e h.events)
         (λ i.
         ap (λ z. told_by z b.machine (gained b.stage.opened a.stage.opened) (shares i)) (same_next ∙ n)
         ∙ ap (λ z. publishing z text (form_of (b.machine.registers r).shape) (b.machine.registers r).words (shares i) ∷ [])
         (sym (machines.registers r).secrecy ∙ e)
-        ∙ ap (λ z. Handed text (form_of z) (shares i) ∷ []) (sym (machines.registers r).shape))
+        ∙ ap (λ z. Handed text (form_of z) (length (b.machine.registers r).words) (shares i) ∷ []) (sym (machines.registers r).shape)
+        ∙ ap (λ n. Handed text (form_of v.shape) n (shares i) ∷ []) (same_count r))
         (λ rest notices t.
-        subst (λ z. Tells (event.Hand text z ∷ rest) (λ i. Handed text (form_of v.shape) (shares i) ∷ notices i)) (told_same v.shape v.words)
+        subst (λ z. Tells (event.Hand text z ∷ rest) (λ i. Handed text (form_of v.shape) (length v.words) (shares i) ∷ notices i)) (told_same v.shape v.words)
         (tells.handed text (form_of v.shape) v.words shares (of_form v.shape v.words (st.stands.registers r).1.range)
-        (subst (λ z. AreShares (ring_of (ring_for z)) v.words shares) (sym (type_same v.shape.element)) held) t))
+        (subst (λ z. AreShares (ring_of (ring_for z)) (gate_words z v.words) shares) (sym (type_same v.shape.element)) held) t))
         (λ i. kept_last r made.before made.number made.gates j made.number_for i)
 
     by_step : (n : Option Step) → next_step p.machine ≡ n → ToldBy n p.machine p.stage q.stage → StepTells

@@ -1,5 +1,5 @@
 -- At each step of the run in the clear that opens words, the three miners have them as their last value.
-use Rattle.std.proofs.Common.{◌≡◌, ◌≢◌, ℕ, zero, suc, List, [], ◌∷◌, ◌++◌, length, drop, Option, Some, refl, sym, ap, ◌∙◌, subst, append_assoc, ◌⊎◌, inl, inr}
+use Rattle.std.proofs.Common.{◌≡◌, ◌≢◌, ℕ, zero, suc, List, [], ◌∷◌, ◌++◌, length, map, drop, Option, Some, refl, sym, ap, ◌∙◌, subst, append_assoc, ◌⊎◌, inl, inr}
 use Rattle.std.proofs.Common.{append-nil}
 use Rattle.std.proofs.lemmas.List.{drop-drop, append_cancel_left}
 use Rattle.std.proofs.Math.Seq.{drop-length}
@@ -16,18 +16,27 @@ use Rattle.gates.proofs.Sizes.{FitFrom-append}
 use Rattle.shared_gates.specs.Model.{miner_of}
 use Rattle.shared_gates.specs.Computed.{opened_values}
 use Rattle.shared_gates.proofs.GatesBehind.{gates-then}
+use Rattle.sc_text.specs.declared.elements.Element.{Element}
+use Rattle.sc_text.specs.declared.event.Event.{Event}
+use Rattle.sc_text.specs.declared.event.Event.TheVariants as event
+use Rattle.program_trees.specs.declared.expression.DataType.{DataType}
 use Rattle.language_model.specs.Effects.{Clear, Stage}
+use Rattle.language_model.specs.Values.{Secrecy, Plain, Private, element_of, gate_words}
+use Rattle.language_model.specs.Learned.{learned_of}
+use Rattle.language_model.specs.Operations.{read_answer, publication}
 use Rattle.language_model.specs.Reports.{Offered, world_of}
 use Rattle.verified_code.specs.Steps.{Step, Declassify, Publish, Function}
 use Rattle.code_model.specs.Machine.{Machine}
 use Rattle.gate_laws.specs.Dealt.{Dealt, drawn_by}
 use Rattle.gate_laws.specs.Laws.{MayRun}
 use Rattle.gate_laws.proofs.Gains.{opened_split}
+use Rattle.gate_laws.proofs.GateWords.{learned_still}
 use Rattle.driven_nodes.specs.Steps.{Went, On, Over, Wants, gained, last_of}
 use Rattle.driven_nodes.specs.Twins.{shown, ReadsBy, Reads}
 use Rattle.driven_nodes.proofs.Gates.{values_then}
 use Rattle.code_places.specs.Places.{Place, next_step, run_dealt}
 use Rattle.code_places.specs.Laws.{in_the_clear}
+use Rattle.code_places.proofs.Opened.{learned_read}
 use Rattle.code_places.proofs.Turns.{gained_more}
 use Rattle.code_runs.proofs.Told.{was_open, opens, ToldBy}
 use Rattle.code_runs.proofs.Stays.{Stays, Along, After, after}
@@ -66,17 +75,36 @@ record Last (s u : Stage) : Type 0 where
   before : List Gate
   ring : RingKind
   number : ℕ
-  opened : u.opened ≡ s.opened ++ words
+  learned : learned_of u.events ≡ learned_of s.events ++ words
   gates : u.gates ≡ s.gates ++ (before ++ Open ring number ∷ [])
   none : (values : Values) → opened_values values before ≡ []
 
+learned_publication : (events : List Event) (a : Secrecy) (text : List ℕ) (elements : List Element)
+    → learned_of (events ++ publication a text elements ∷ []) ≡ learned_of events
+learned_publication events Plain text elements = learned_still events (event.Publish text elements) refl
+learned_publication events (Private k) text elements = learned_still events (event.Hand text elements) refl
+
+learned_word : (events : List Event) (e : DataType) (told words : List ℕ) → words ≡ read_answer e told
+    → learned_of (events ++ event.Open (map (element_of e) words) ∷ []) ≡ learned_of events ++ gate_words e words
+learned_word events e told words read =
+    subst (λ z. learned_of (events ++ event.Open (map (element_of e) z) ∷ []) ≡ learned_of events ++ gate_words e z) (sym read) (learned_read events e told)
+
 -- a step that opens words does so by its last gate
-opens_last : (i : Option Step) (m : Machine) (s u : Stage) → ToldBy i m s u → (u.opened ≡ s.opened) ⊎ Last s u
-opens_last (Some (Declassify d r)) m s u (was_open h) = inl h.opened
+opens_last : (i : Option Step) (m : Machine) (s u : Stage) → ToldBy i m s u → (learned_of u.events ≡ learned_of s.events) ⊎ Last s u
+opens_last (Some (Declassify d r)) m s u (was_open h) = inl (ap learned_of h.events)
 opens_last (Some (Declassify d r)) m s u (opens words before ring k read o e a g none) =
-    inr (record { words = words; before = before; ring = ring; number = k; opened = o; gates = g; none = none })
-opens_last (Some (Publish text r)) m s u h = inl h.opened
-opens_last i m s u h = inl h.opened
+    let v = m.registers r in
+    inr (record {
+      words = gate_words v.shape.element words;
+      before = before;
+      ring = ring;
+      number = k;
+      learned = ap learned_of e ∙ learned_word s.events v.shape.element v.words words read;
+      gates = g;
+      none = none;
+    })
+opens_last (Some (Publish text r)) m s u h = inl (ap learned_of h.events ∙ learned_publication s.events (m.registers r).secrecy text _)
+opens_last i m s u h = inl (ap learned_of h.events)
 
 nothing_gained : {A : Type 0} (xs ys : List A) → ys ≡ xs → gained xs ys ≡ []
 nothing_gained xs ys e = ap (drop (length xs)) e ∙ drop-length xs
@@ -95,10 +123,10 @@ module _ (o : Offered) (d : Dealt) (c : List Function) (tapes : Tapes) (words : 
           let last = l.before ++ Open l.ring l.number ∷ [] in
           let whole = subst (FitFrom d.inputs values 0) l.gates fit in
           let first = (FitFrom-append d.inputs values 0 p.stage.gates last whole).0 in
-          append_cancel_left p.stage.opened l.words (value values l.number)
-          (sym l.opened ∙ along.stays.stage.opened refl values fit ∙ ap (opened_values values) l.gates ∙ opened_split values p.stage.gates last
+          append_cancel_left (learned_of p.stage.events) l.words (value values l.number)
+          (sym l.learned ∙ along.stays.stage.opened refl values fit ∙ ap (opened_values values) l.gates ∙ opened_split values p.stage.gates last
           ∙ ap (λ z. z ++ opened_values values last) (sym (st.stage.opened refl values first))
-          ∙ ap (λ z. p.stage.opened ++ z)
+          ∙ ap (λ z. learned_of p.stage.events ++ z)
           (opened_split values l.before (Open l.ring l.number ∷ []) ∙ ap (λ z. z ++ (value values l.number ++ [])) (l.none values)
           ∙ append-nil (value values l.number)))
 
@@ -111,9 +139,10 @@ module _ (o : Offered) (d : Dealt) (c : List Function) (tapes : Tapes) (words : 
     pub shown_last : shown (in_the_clear o c) p q ≢ [] → (i : Number) → last_of (behind d tapes q.stage.gates i) ≡ shown (in_the_clear o c) p q
     shown_last some i = go (opens_last (next_step p.machine) p.machine p.stage q.stage along.told)
       where
-        go : (q.stage.opened ≡ p.stage.opened) ⊎ Last p.stage q.stage → last_of (behind d tapes q.stage.gates i) ≡ shown (in_the_clear o c) p q
-        go (inl e) = absurd (some (nothing_gained p.stage.opened q.stage.opened e))
-        go (inr l) = last_is l i ∙ sym (gained_more p.stage.opened l.words q.stage.opened l.opened)
+        go : (learned_of q.stage.events ≡ learned_of p.stage.events) ⊎ Last p.stage q.stage
+            → last_of (behind d tapes q.stage.gates i) ≡ shown (in_the_clear o c) p q
+        go (inl e) = absurd (some (nothing_gained (learned_of p.stage.events) (learned_of q.stage.events) e))
+        go (inr l) = last_is l i ∙ sym (gained_more (learned_of p.stage.events) l.words (learned_of q.stage.events) l.learned)
 
   -- ---- BEHIND A STEP
 

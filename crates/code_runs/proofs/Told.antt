@@ -16,7 +16,7 @@ use Rattle.shared_gates.specs.Computed.{opened_values}
 use Rattle.language_model.specs.Effects.{Words, World, Clear, Stage, RunStop, Ended, Run, Effect, ◌>>=◌, carry, done, charge, fits, drawn_yet, take_words, draw}
 use Rattle.language_model.specs.Effects.{gate, emit}
 use Rattle.language_model.specs.Effects.{words_each, with_more}
-use Rattle.language_model.specs.Values.{Secrecy, Plain, Private, Value, plain, size, ring_for, elements_of}
+use Rattle.language_model.specs.Values.{Secrecy, Plain, Private, Value, plain, size, ring_for, gate_words, gate_size, elements_of}
 use Rattle.language_model.specs.Operations.{charged, no_traps, number_from, read_answer, revealed, opened_from, declassified, handed_over, publication, published}
 use Rattle.language_model.specs.Evaluation.{nothing, array_elements, input_named}
 use Rattle.language_model.specs.Reports.{Offered, world_of}
@@ -47,7 +47,7 @@ pub data Opening (v : Value) (s u : Stage) : Type 0 where
       → u.gates ≡ s.gates ++ (before ++ Open ring k ∷ []) → ((values : Values) → opened_values values before ≡ [])
       → Opening v s u
 
--- the value's own number, or that of a constant which is made of it first
+-- the value's own number, or that of a constant which is made of its words first
 abbrev pub NumberFor : Option ℕ → List ℕ → Stage → (before : List Gate) → (k : ℕ) → Type 0
 NumberFor (Some j) words s before k = (before ≡ []) × (k ≡ j)
 NumberFor None words s before k = (before ≡ Const words ∷ []) × (k ≡ s.made)
@@ -55,7 +55,7 @@ NumberFor None words s before k = (before ≡ Const words ∷ []) × (k ≡ s.ma
 pub record Numbered (v : Value) (j : Option ℕ) (s u : Stage) : Type 0 where
   pub before : List Gate
   pub number : ℕ
-  pub number_for : NumberFor j v.words s before number
+  pub number_for : NumberFor j (gate_words v.shape.element v.words) s before number
   pub gates : u.gates ≡ s.gates ++ (before ++ Result (ring_for v.shape.element) number ∷ [])
 
 pub record Publishing (text : List ℕ) (v : Value) (s u : Stage) : Type 0 where
@@ -161,15 +161,18 @@ module _ (o : Offered) (v : Value) (s : Stage) where
   abbrev ring : RingKind
   ring = ring_for v.shape.element
 
+  abbrev own_words : List ℕ
+  own_words = gate_words v.shape.element v.words
+
   module _ (l : ℕ) (n : Words) where
-    revealed_tells : (a : Secrecy) → EndsWith (Opening v s) s ((number_from a v.words >>= λ u. gate (Open ring u) >>= λ _. revealed w v) (paid l n s))
+    revealed_tells : (a : Secrecy) → EndsWith (Opening v s) s ((number_from a own_words >>= λ u. gate (Open ring u) >>= λ _. revealed w v) (paid l n s))
     revealed_tells (Private (Some k)) = opens (read_answer v.shape.element v.words) [] ring k refl refl refl refl refl (λ values. refl)
     revealed_tells (Private None) =
-        opens (read_answer v.shape.element v.words) (Const v.words ∷ []) ring s.made refl refl refl refl
-        (append_assoc s.gates (Const v.words ∷ []) (Open ring s.made ∷ [])) (λ values. refl)
+        opens (read_answer v.shape.element v.words) (Const own_words ∷ []) ring s.made refl refl refl refl
+        (append_assoc s.gates (Const own_words ∷ []) (Open ring s.made ∷ [])) (λ values. refl)
     revealed_tells Plain =
-        opens (read_answer v.shape.element v.words) (Const v.words ∷ []) ring s.made refl refl refl refl
-        (append_assoc s.gates (Const v.words ∷ []) (Open ring s.made ∷ [])) (λ values. refl)
+        opens (read_answer v.shape.element v.words) (Const own_words ∷ []) ring s.made refl refl refl refl
+        (append_assoc s.gates (Const own_words ∷ []) (Open ring s.made ∷ [])) (λ values. refl)
 
     -- with these gates, and the event told
     abbrev behind : List ℕ → ℕ → List Gate → Stage
@@ -179,7 +182,7 @@ module _ (o : Offered) (v : Value) (s : Stage) where
     handed_tells :
         (text : List ℕ) (a : Secrecy) → v.secrecy ≡ a
         → EndsWith (Publishing text v s) s
-        (((number_from a v.words >>= λ u. gate (Result ring u) >>= λ _. done (tt {0})) >>= λ _. emit (publication v.secrecy text (elements_of v))) (paid l n s))
+        (((number_from a own_words >>= λ u. gate (Result ring u) >>= λ _. done (tt {0})) >>= λ _. emit (publication v.secrecy text (elements_of v))) (paid l n s))
     handed_tells text (Private (Some k)) e =
         record {
           opened = refl;
@@ -196,16 +199,22 @@ module _ (o : Offered) (v : Value) (s : Stage) where
           answers = refl;
           events = refl;
           handed = λ j f.
-              subst (λ z. Numbered v z s (behind text (s.made + 1 + 1) ((s.gates ++ Const v.words ∷ []) ++ Result ring s.made ∷ [])))
+              subst (λ z. Numbered v z s (behind text (s.made + 1 + 1) ((s.gates ++ Const own_words ∷ []) ++ Result ring s.made ∷ [])))
               (same_private None j (sym e ∙ f))
               (record {
-                before = Const v.words ∷ [];
+                before = Const own_words ∷ [];
                 number = s.made;
                 number_for = (refl, refl);
-                gates = append_assoc s.gates (Const v.words ∷ []) (Result ring s.made ∷ []);
+                gates = append_assoc s.gates (Const own_words ∷ []) (Result ring s.made ∷ []);
               });
         }
     handed_tells text Plain e = record { opened = refl; answers = refl; events = refl; handed = λ j f. absurd (not_private j (sym e ∙ f)) }
+
+  abbrev drawing : Effect (Unit {0})
+  drawing = draw w (words_each (gate_size v.shape.element (size v)))
+
+  drawing_pays : Pays drawing
+  drawing_pays = pays_draw w (words_each (gate_size v.shape.element (size v)))
 
   ended : (A : Type 0) (P : Stage → Type 0) (l : ℕ) (n : Words) (e : RunStop) → EndsWith {A = A} P s (Err (e, paid l n s))
   ended A P l n e = same_told s (paid l n s) refl refl refl
@@ -213,7 +222,7 @@ module _ (o : Offered) (v : Value) (s : Stage) where
   opened_tells : (a : Secrecy) (l : ℕ) (n : Words) → EndsWith (Opening v s) s (opened_from w a v (paid l n s))
   opened_tells Plain l n = was_open (same_told s (paid l n s) refl refl refl)
   opened_tells (Private k) l n =
-      paying (λ r. EndsWith (Opening v s) s r) (paid l n s) (draw w (words_each (size v))) _ (pays_draw w (words_each (size v)))
+      paying (λ r. EndsWith (Opening v s) s r) (paid l n s) drawing _ drawing_pays
       (λ l' n' e. ended Value (Opening v s) l' n' e) (λ a l' n'. revealed_tells l' n' v.secrecy)
 
   declassified_tells : EndsWith (Opening v s) s (declassified w v s)
@@ -228,7 +237,7 @@ module _ (o : Offered) (v : Value) (s : Stage) where
     given_tells : (a : Secrecy) → v.secrecy ≡ a → (l : ℕ) (n : Words) → EndsWith (Publishing text v s) s (carry (handed_over w a v (paid l n s)) telling)
     given_tells Plain e l n = record { opened = refl; answers = refl; events = refl; handed = λ j f. absurd (not_private j (sym e ∙ f)) }
     given_tells (Private k) e l n =
-        paying (λ r. EndsWith (Publishing text v s) s (carry r telling)) (paid l n s) (draw w (words_each (size v))) _ (pays_draw w (words_each (size v)))
+        paying (λ r. EndsWith (Publishing text v s) s (carry r telling)) (paid l n s) drawing _ drawing_pays
         (λ l' n' e. ended (Unit {0}) (Publishing text v s) l' n' e) (λ a l' n'. handed_tells l' n' text v.secrecy refl)
 
     published_tells : EndsWith (Publishing text v s) s (published w text v s)

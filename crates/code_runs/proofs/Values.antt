@@ -21,6 +21,7 @@ use Rattle.gate_laws.specs.GateRuns.{GateRun, model_gates, end_shares, opened_wo
 use Rattle.gate_laws.proofs.GateRunLaws.{run-goes, run-computes, run-count}
 use Rattle.gate_laws.proofs.PlanRuns.{made-then}
 use Rattle.language_model.specs.Effects.{Clear, Stage}
+use Rattle.language_model.specs.Learned.{learned_of}
 use Rattle.language_model.specs.Reports.{Offered, world_of}
 use Rattle.language_model.specs.Tapes.{AtMost}
 use Rattle.gate_laws.specs.Facts.{none_of, run_at, IsAt}
@@ -52,8 +53,8 @@ module _ (o : Offered) (d : Dealt) (tapes : Tapes) (words : (i : Number) → Are
   pub computed : Computed kinds d.inputs [] s.gates (end_shares run tapes) (opened_words run tapes)
   computed = run-computes run at.formed tapes ready
 
-  -- what is opened in the run is what is opened in the clear
-  pub same_opened : opened_words run tapes ≡ s.opened
+  -- what is opened in the run is what is told as opened in the clear
+  pub same_opened : opened_words run tapes ≡ learned_of s.events
   same_opened = (computed).opens ∙ sym (at.opened refl (computed).more (computed).fit)
 
   module _ (before : List Gate) (g : Gate) (one : made_by g ≡ 1) (e : s.gates ≡ before ++ g ∷ []) where

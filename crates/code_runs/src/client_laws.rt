@@ -2,7 +2,7 @@
 ghost use Rattle.code_runs.specs.ClientLaws.{ToldTogetherAreTheEvents};
 
 /// Law: where what three miners tell stands beside events, the client who puts their notices together is told these events: shares of
-/// numbers are added up, and of truth values bit 0 is taken of the three xored.
+/// numbers are added up, and of truth values the bits are read of the words that the three come to by xor.
 pub fn told_together_are_the_events()
     ensures { ToldTogetherAreTheEvents }
 {}

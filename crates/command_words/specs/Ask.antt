@@ -38,6 +38,12 @@ pub record CompileAsk : Type 0 where
   pub program : Text
   pub code : Text
 
+pub record UpgradeAsk : Type 0 where
+  -- code of the first version
+  pub old : Text
+  -- where that of today's is written
+  pub code : Text
+
 -- of `eval` and of `need`
 pub record EvalAsk : Type 0 where
   pub program : Text
@@ -118,6 +124,7 @@ pub data Ask : Type 0 where
   deal : DealAsk → Ask
   check : (program : Text) → Ask
   compile : CompileAsk → Ask
+  upgrade : UpgradeAsk → Ask
   eval : EvalAsk → Ask
   need : EvalAsk → Ask
   map_tape : MapAsk → Ask
@@ -195,6 +202,9 @@ deal_of rows = Some (record { input = required_of (codes "input") rows; tape = r
 
 unfoldable pub compile_of : List Row → Option CompileAsk
 compile_of rows = Some (record { program = required_of (codes "program") rows; code = required_of (codes "code") rows })
+
+unfoldable pub upgrade_of : List Row → Option UpgradeAsk
+upgrade_of rows = Some (record { old = required_of (codes "old") rows; code = required_of (codes "code") rows })
 
 unfoldable pub eval_of : List Row → Option EvalAsk
 eval_of rows = do
@@ -299,6 +309,7 @@ named name rows =
     else if bytes_eq name (codes "join") then option_map join (join_of rows)
     else if bytes_eq name (codes "miner") then option_map miner (miner_ask_of rows)
     else if bytes_eq name (codes "trio") then option_map trio (trio_of rows)
+    else if bytes_eq name (codes "upgrade") then option_map upgrade (upgrade_of rows)
     else None
 
 -- this, where nothing refuses the words

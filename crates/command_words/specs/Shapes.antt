@@ -44,6 +44,10 @@ check_app = command_app (codes "check") (codes "program" ∷ []) [] []
 unfoldable pub compile_app : App
 compile_app = command_app (codes "compile") (codes "program" ∷ []) (codes "code" ∷ []) []
 
+-- upgrade CODE --code F
+unfoldable pub upgrade_app : App
+upgrade_app = command_app (codes "upgrade") (codes "old" ∷ []) (codes "code" ∷ []) []
+
 unfoldable pub eval_options : List Text
 eval_options = codes "budget" ∷ []
 
@@ -100,6 +104,6 @@ with_command a command = with_subcommand a command.top
 -- all commands
 unfoldable pub secrec_app : App
 secrec_app = fold with_command bare_app
-    (run_app ∷ deal_app ∷ evaluation_app (codes "eval") ∷ evaluation_app (codes "need") ∷ check_app ∷ compile_app ∷ map_app ∷ simulate_app ∷ twin_app
-    ∷ load_app
+    (run_app ∷ deal_app ∷ evaluation_app (codes "eval") ∷ evaluation_app (codes "need") ∷ check_app ∷ compile_app ∷ upgrade_app ∷ map_app ∷ simulate_app
+    ∷ twin_app ∷ load_app
     ∷ gather_app ∷ miner_app ∷ trio_app ∷ join_app ∷ [])

@@ -9,13 +9,13 @@ use Rattle.command_words.specs.Ask.{scheduled, shuffled, words_of, named, matche
 use Rattle.command_words.specs.Ask.{run_of, deal_of, compile_of, eval_of, map_of, simulate_of, twin_of, source_of, seeded_source}
 use Rattle.command_words.specs.Ask.{gather, gather_of, others_of}
 use Rattle.command_words.specs.Ask.{order_of, number_or, required_of}
-use Rattle.command_words.specs.Ask.{join, join_of, miner, miner_ask_of, trio, trio_of}
+use Rattle.command_words.specs.Ask.{join, join_of, miner, miner_ask_of, trio, trio_of, upgrade, upgrade_of}
 use Rattle.command_words.specs.Numbers.{number_of, miner_of, port_of, seed_of}
 use Rattle.proto_core.specs.declared.party.Number.TheVariants.{One, Two, Three}
 use Rattle.command_words.specs.Shapes.{gather_app, words_rule, join_app, miner_app, trio_app, secrec_app, run_app, deal_app, check_app}
 use Rattle.command_words.specs.Shapes.{compile_app, evaluation_app, view_app, map_app, simulate_app, twin_app}
 use Rattle.command_words.specs.Shapes.{load_app, command_app, bare_app, eval_options, with_options}
-use Rattle.command_words.specs.Shapes.{word_rule, option_rule}
+use Rattle.command_words.specs.Shapes.{word_rule, option_rule, upgrade_app}
 
 -- opens the definitions, so that they compute at words that are written out
 unfoldable pub words_on_literals : ⊤
@@ -23,7 +23,7 @@ unfolding clap_on_literals hex_on_literals secrec_app run_app deal_app check_app
     evaluation_app view_app map_app simulate_app twin_app load_app command_app bare_app eval_options
     with_options word_rule option_rule words_of named matched run_of deal_of compile_of eval_of map_of simulate_of twin_of
     source_of seeded_source order_of number_or required_of number_of miner_of seed_of gather_app words_rule gather_of others_of
-    join_app miner_app trio_app join_of miner_ask_of trio_of port_of
+    join_app miner_app trio_app join_of miner_ask_of trio_of port_of upgrade_app upgrade_of
 words_on_literals = tt
 
 -- run p.sc --input i, and then these words
@@ -196,6 +196,19 @@ compile_words = refl
 compile_without_code : words_of (codes "compile" ∷ codes "p.sc" ∷ []) ≡ None
 unfolding words_on_literals
 compile_without_code = refl
+
+upgrade_words : words_of (codes "upgrade" ∷ codes "old" ∷ codes "--code" ∷ codes "c" ∷ [])
+    ≡ Some (upgrade (record { old = codes "old"; code = codes "c" }))
+unfolding words_on_literals
+upgrade_words = refl
+
+upgrade_without_code : words_of (codes "upgrade" ∷ codes "old" ∷ []) ≡ None
+unfolding words_on_literals
+upgrade_without_code = refl
+
+upgrade_of_none : words_of (codes "upgrade" ∷ codes "--code=c" ∷ []) ≡ None
+unfolding words_on_literals
+upgrade_of_none = refl
 
 eval_words : words_of (codes "eval" ∷ codes "p.sc" ∷ codes "--input" ∷ codes "i" ∷ [])
     ≡ Some (eval (record { program = codes "p.sc"; input = codes "i"; budget = 1000000 }))

@@ -12,6 +12,7 @@ use Rattle.command_words.specs.declared.command.DeliveryOrder.TheVariants as ord
 use Rattle.command_words.specs.declared.command.RunWords.{RunWords}
 use Rattle.command_words.specs.declared.command.DealWords.{DealWords}
 use Rattle.command_words.specs.declared.command.CompileWords.{CompileWords}
+use Rattle.command_words.specs.declared.command.UpgradeWords.{UpgradeWords}
 use Rattle.command_words.specs.declared.command.EvalWords.{EvalWords}
 use Rattle.command_words.specs.declared.command.MapWords.{MapWords}
 use Rattle.command_words.specs.declared.command.SimulateWords.{SimulateWords}
@@ -25,7 +26,7 @@ use Rattle.command_words.specs.declared.command.Command.TheVariants as commands
 use Rattle.command_words.specs.declared.command.WordsErr.{WordsErr}
 use Rattle.command_words.specs.declared.command.WordsErr.TheVariants.{Usage, Memory}
 use Rattle.command_words.specs.Ask.{Ask, CompileAsk, DealAsk, EvalAsk, Order, RunAsk, Source, check, compile, deal, eval, file, in_turn, need, run}
-use Rattle.command_words.specs.Ask.{JoinAsk, MinerAsk, TrioAsk, join, miner, trio}
+use Rattle.command_words.specs.Ask.{JoinAsk, MinerAsk, TrioAsk, UpgradeAsk, join, miner, trio, upgrade}
 use Rattle.command_words.specs.Ask.{GatherAsk, gather, MapAsk, SimulateAsk, TwinAsk, load, map_tape, scheduled, seeded, shuffled, simulate, twin}
 
 abbrev pub source_ask : TapeOrigin → Source
@@ -53,6 +54,9 @@ deal_ask w = record { input = string_bytes w.input; tape = string_bytes w.tape; 
 
 abbrev pub compile_ask : CompileWords → CompileAsk
 compile_ask w = record { program = string_bytes w.program; code = string_bytes w.code }
+
+abbrev pub upgrade_ask : UpgradeWords → UpgradeAsk
+upgrade_ask w = record { old = string_bytes w.old; code = string_bytes w.code }
 
 abbrev pub eval_ask : EvalWords → EvalAsk
 eval_ask w = record { program = string_bytes w.program; input = string_bytes w.input; budget = w.budget }
@@ -129,6 +133,7 @@ ask_of (commands.Run w) = run (run_ask w)
 ask_of (commands.Deal w) = deal (deal_ask w)
 ask_of (commands.Check w) = check (string_bytes w.program)
 ask_of (commands.Compile w) = compile (compile_ask w)
+ask_of (commands.Upgrade w) = upgrade (upgrade_ask w)
 ask_of (commands.Eval w) = eval (eval_ask w)
 ask_of (commands.Need w) = need (eval_ask w)
 ask_of (commands.Map w) = map_tape (map_ask w)

@@ -2,7 +2,7 @@
 ghost use Rattle.std.specs.Prelude.{◌≡◌, IfOk, map};
 ghost use Rattle.command_words.specs.Shapes.{gather_app, words_rule, join_app, miner_app, trio_app, word_rule, option_rule, run_app, deal_app};
 ghost use Rattle.command_words.specs.Shapes.{check_app, compile_app, eval_options, evaluation_app, view_app, map_app, simulate_app, twin_app};
-ghost use Rattle.command_words.specs.Shapes.{load_app, with_options, bare_app, secrec_app};
+ghost use Rattle.command_words.specs.Shapes.{load_app, upgrade_app, with_options, bare_app, secrec_app};
 ghost use Rattle.command_words.specs.inner.Parts.{gather_required, map_required, miner_required, run_options, simulate_options, trio_required};
 ghost use Rattle.command_words.specs.inner.Parts.{input_app, clear_app, checking_app, program_app, viewing_app, loading_app, gathering_app};
 ghost use Rattle.clap.specs.Words.{App, with_rule, with_subcommand};
@@ -135,6 +135,13 @@ fn compile_command<'a>(alloc: Global) -> Result<Command<'a>, AllocError>
     ensures { IfOk result (λ c. Builds compile_app c) }
 {
     let command = with_word(alloc, Ok(Command::new(alloc, "compile")), "program");
+    with_options(alloc, command, true, COMPILE_REQUIRED.as_slice())
+}
+
+fn upgrade_command<'a>(alloc: Global) -> Result<Command<'a>, AllocError>
+    ensures { IfOk result (λ c. Builds upgrade_app c) }
+{
+    let command = with_word(alloc, Ok(Command::new(alloc, "upgrade")), "old");
     with_options(alloc, command, true, COMPILE_REQUIRED.as_slice())
 }
 
@@ -334,11 +341,12 @@ fn checking_commands<'a>(alloc: Global) -> Result<Command<'a>, AllocError>
     with_command(clear_commands(alloc), check_command(alloc))
 }
 
-// Those, and the one that compiles it.
+// Those, and the ones that write code.
 fn program_commands<'a>(alloc: Global) -> Result<Command<'a>, AllocError>
     ensures { IfOk result (λ c. Builds program_app c) }
 {
-    with_command(checking_commands(alloc), compile_command(alloc))
+    let compiled = with_command(checking_commands(alloc), compile_command(alloc));
+    with_command(compiled, upgrade_command(alloc))
 }
 
 // Those, and the commands about one miner's view.

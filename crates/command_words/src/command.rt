@@ -90,6 +90,13 @@ pub struct CompileWords {
     pub code: String,
 }
 
+/// The words of `upgrade`: the paths of code of the first version, and of the code that is written.
+#[derive(Drop)]
+pub struct UpgradeWords {
+    pub old: String,
+    pub code: String,
+}
+
 /// The words of `eval` and of `need`: the paths of the program and the input file, and the most that the evaluation may cost.
 #[derive(Drop)]
 pub struct EvalWords {
@@ -194,6 +201,7 @@ pub struct TrioWords {
 pub enum Command {
     Check(CheckWords),
     Compile(CompileWords),
+    Upgrade(UpgradeWords),
     Eval(EvalWords),
     Need(EvalWords),
     Run(RunWords),
@@ -214,6 +222,7 @@ impl Drop for Command {
         match self {
             Command::Check(_)
             | Command::Compile(_)
+            | Command::Upgrade(_)
             | Command::Eval(_)
             | Command::Need(_)
             | Command::Run(_)

@@ -14,7 +14,7 @@ mod values;
 pub use command::{
     CheckWords, Command, CompileWords, DealWords, DeliveryOrder, EvalWords, GatherWords, JoinWords,
     LoadWords, MapWords, MinerWords, RunWords, SimulateWords, TapeOrigin, TrioWords, TwinWords,
-    WordsErr,
+    UpgradeWords, WordsErr,
 };
 pub use reading::read;
 pub use tape_seed::TapeSeed;

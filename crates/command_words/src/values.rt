@@ -3,7 +3,7 @@ ghost use Rattle.std.specs.Prelude.{◌≡◌, ◌≤◌, Some, drop, map, optio
 ghost use Rattle.clap.specs.Words.{found_of, first_of, rows_of};
 ghost use Rattle.command_words.specs.Ask.{required_of, default_budget, number_or, seeded_source, source_of, order_of, run_of, deal_of};
 ghost use Rattle.command_words.specs.Ask.{gather, gather_of, others_of};
-ghost use Rattle.command_words.specs.Ask.{join, join_of, miner as miner_words, miner_ask_of, trio, trio_of};
+ghost use Rattle.command_words.specs.Ask.{join, join_of, miner as miner_words, miner_ask_of, trio, trio_of, upgrade, upgrade_of};
 ghost use Rattle.command_words.specs.Ask.{compile_of, eval_of, map_of, simulate_of, twin_of, named};
 ghost use Rattle.command_words.specs.Ask.{run, deal, check, compile, eval, need, map_tape, simulate, twin, load};
 ghost use Rattle.command_words.specs.Numbers.{miner_of, number_of, port_of};
@@ -12,7 +12,7 @@ ghost use Rattle.command_words.specs.Views.{Reads, text_in, source_ask, order_as
 use crate::command::{
     CheckWords, Command, CompileWords, DealWords, DeliveryOrder, EvalWords, GatherWords, JoinWords,
     LoadWords, MapWords, MinerWords, RunWords, SimulateWords, TapeOrigin, TrioWords, TwinWords,
-    WordsErr,
+    UpgradeWords, WordsErr,
 };
 use crate::numbers::{miner, number, port, seed};
 use crate::tape_seed::TapeSeed;
@@ -231,6 +231,17 @@ fn read_compile(alloc: Global, matches: &ArgMatches) -> Result<Command, WordsErr
 {
     Ok(Command::Compile(CompileWords {
         program: required(alloc, matches, "program")?,
+        code: required(alloc, matches, "code")?,
+    }))
+}
+
+// `upgrade`, with its words.
+#[tactic(auto, unfolding(crate::specs::Ask::upgrade_of))]
+fn read_upgrade(alloc: Global, matches: &ArgMatches) -> Result<Command, WordsErr>
+    ensures { Reads ask_of (option_map upgrade (upgrade_of (rows_of (found_of matches.now)))) result }
+{
+    Ok(Command::Upgrade(UpgradeWords {
+        old: required(alloc, matches, "old")?,
         code: required(alloc, matches, "code")?,
     }))
 }
@@ -505,6 +516,9 @@ pub(crate) fn named(alloc: Global, name: &str, matches: &ArgMatches) -> Result<C
     }
     if name == "trio" {
         return read_trio(alloc, matches);
+    }
+    if name == "upgrade" {
+        return read_upgrade(alloc, matches);
     }
     Err(WordsErr::Usage)
 }

@@ -11,18 +11,19 @@ use sc_text::{Elements, Event};
 use std::alloc::{AllocError, Global};
 use vector_ops::elements;
 
-/// The values of which three miners hand in these shares.
+/// The elements, so many, of which three miners hand in these shares.
 #[tactic(auto, using(code_runs::proofs::Types::same_type))]
 fn shared_elements(
     alloc: Global,
     shape: Shape,
+    count: u64,
     first: &[u64],
     second: &[u64],
     third: &[u64],
 ) -> Result<Elements, AllocError>
-    ensures { IfOk result (λ e. e ≡ handed_elements shape first.now second.now third.now) }
+    ensures { IfOk result (λ e. e ≡ handed_elements shape count first.now second.now third.now) }
 {
-    let words = all_added_up(alloc, shape.element, first, second, third)?;
+    let words = all_added_up(alloc, shape.element, count, first, second, third)?;
     elements(alloc, shape.element, &words)
 }
 
@@ -46,9 +47,14 @@ fn event_of(
             let given = elements(alloc, shape.element, words)?;
             Ok(Event::Publish(name, given))
         }
-        Notice::Handed { name, shape, words } => {
+        Notice::Handed {
+            name,
+            shape,
+            count,
+            words,
+        } => {
             let name = name.copy(alloc)?;
-            let given = shared_elements(alloc, *shape, words, second, third)?;
+            let given = shared_elements(alloc, *shape, *count, words, second, third)?;
             Ok(Event::Hand(name, given))
         }
     }
@@ -68,6 +74,7 @@ fn words_of(notice: &Notice) -> &[u64]
         Notice::Handed {
             name: _,
             shape: _,
+            count: _,
             words,
         } => words,
     }

@@ -6,11 +6,29 @@ use std::alloc::{AllocError, Global};
 use verified_code::{CodeProblem, verify};
 
 // The code of a `main` with one instruction, but this.
-const HEAD: [u8; 16] = [83, 67, 51, 80, 1, 0, 0, 1, 0, 0, 0, 255, 0, 0, 1, 0];
+const HEAD: [u8; 16] = [83, 67, 51, 80, 2, 0, 0, 1, 0, 0, 0, 255, 0, 0, 1, 0];
 
-// What stands after it: the end of the function, with a byte more, and cut off; a number that no instruction has; and the function gives
-// back a register, where it has none.
-const ENDINGS: [&[u8]; 5] = [&[24], &[24, 0], &[], &[25], &[23, 0, 0]];
+// The same of the first version, and of one that there isn't.
+const OTHERS: [[u8; 17]; 2] = [
+    [83, 67, 51, 80, 1, 0, 0, 1, 0, 0, 0, 255, 0, 0, 1, 0, 24],
+    [83, 67, 51, 80, 3, 0, 0, 1, 0, 0, 0, 255, 0, 0, 1, 0, 24],
+];
+
+// What stands after it: the end of the function, with a byte more, and cut off; a number that no instruction has; the function gives
+// back a register, where it has none. Then calls: of itself with no argument and with one, of a function that isn't there with no argument,
+// with one, and with more than there are bytes.
+const ENDINGS: [&[u8]; 10] = [
+    &[24],
+    &[24, 0],
+    &[],
+    &[25],
+    &[23, 0, 0],
+    &[22, 0, 0, 255, 255, 0, 0, 9, 0, 0, 0],
+    &[22, 0, 0, 255, 255, 1, 0, 0, 0, 9, 0, 0, 0],
+    &[22, 1, 0, 255, 255, 0, 0, 9, 0, 0, 0],
+    &[22, 1, 0, 255, 255, 1, 0, 0, 0, 9, 0, 0, 0],
+    &[22, 0, 0, 255, 255, 255, 255, 0, 0],
+];
 
 fn kind_name(kind: FaultKind) -> &'static str {
     match kind {
@@ -63,5 +81,8 @@ pub fn tell(alloc: Global, lines: &mut Lines) {
             Ok(bytes) => tell_bytes(alloc, lines, &bytes),
             Err(AllocError) => lines.run_short(),
         }
+    }
+    for other in OTHERS {
+        tell_bytes(alloc, lines, &other);
     }
 }

@@ -1,11 +1,14 @@
 // The sums of three shares' words.
-ghost use Rattle.std.specs.Prelude.{◌≡◌, IfOk, nat_lt};
-ghost use Rattle.std.specs.List.{list_all};
+ghost use Rattle.std.specs.Prelude.{◌≡◌, IfOk};
+ghost use Rattle.std.specs.Str.{bytes_eq};
+ghost use Rattle.bit_words.specs.Gathered.{packed, unpacked};
 ghost use Rattle.input_share.specs.AddUp.{sums_of};
 ghost use Rattle.input_share.specs.Values.{ring_of};
 ghost use Rattle.found_inputs.specs.Sums.{are_of_type, are_right, wrong_sums_at};
 
 use crate::lines::{lines_for, words_at};
+use bit_words::unpacked;
+use input_share::shared_as;
 use proto_core::{AddRing, ShareRing, XorRing};
 use std::alloc::{AllocError, Global};
 use value_file::{DataType, PublicEntry, PublicValue};
@@ -44,24 +47,31 @@ pub(crate) fn sums(
     }
 }
 
-/// Whether each word is 0 or 1.
-fn are_truths(words: &[u64]) -> bool
-    ensures { result ≡ list_all (λ w. nat_lt w 2) words.now }
+/// Whether words are those of so many truth values: no other bit is set.
+fn are_truths(alloc: Global, count: u64, words: &[u64]) -> Result<bool, AllocError>
+    ensures { IfOk result (λ are. are ≡ bytes_eq (packed (unpacked words.now count)) words.now) }
 {
-    words.iter().all(|word| *word < 2)
+    let truths = unpacked(alloc, words, count as usize)?;
+    let again = shared_as(alloc, DataType::Bool, truths)?;
+    Ok(again.as_slice() == words)
 }
 
-/// Whether words are elements of a data type.
-fn are_of_type(data_type: DataType, words: &[u64]) -> bool
-    ensures { result ≡ are_of_type data_type words.now }
+/// Whether words are those of so many elements of a data type.
+fn are_of_type(
+    alloc: Global,
+    data_type: DataType,
+    count: u64,
+    words: &[u64],
+) -> Result<bool, AllocError>
+    ensures { IfOk result (λ are. are ≡ are_of_type data_type count words.now) }
 {
     match data_type {
-        DataType::Uint64 => true,
-        DataType::Bool => are_truths(words),
+        DataType::Uint64 => Ok(true),
+        DataType::Bool => are_truths(alloc, count, words),
     }
 }
 
-/// Whether three shares of an input, if it is hidden, add up to elements of its type.
+/// Whether three shares of an input, if it is hidden, add up to words of its type.
 fn are_right(
     alloc: Global,
     value: &PublicValue,
@@ -73,15 +83,15 @@ fn are_right(
 {
     match value {
         PublicValue::Known(_) => Ok(true),
-        PublicValue::Hidden { data_type, .. } => {
+        PublicValue::Hidden { data_type, shape } => {
             let sums = sums(alloc, *data_type, one, two, three)?;
-            Ok(are_of_type(*data_type, &sums))
+            are_of_type(alloc, *data_type, shape.count(), &sums)
         }
     }
 }
 
-/// The place, among the `in` lines of three views, of the first hidden input whose shares add up to no elements of its type: a truth value is
-/// 0 or 1. Fails where memory runs out.
+/// The place, among the `in` lines of three views, of the first hidden input whose shares add up to no words of its type: of the words of truth
+/// values no bit is set but those that stand for them. Fails where memory runs out.
 pub fn wrong_sums_at(
     alloc: Global,
     part: &[PublicEntry],

@@ -1,9 +1,10 @@
 // The value of an input, of the sums of its shares.
 ghost use Rattle.std.specs.Prelude.{◌≡◌, ◌==◌, map, get_or, IfOk};
-ghost use Rattle.found_inputs.specs.Found.{found_value};
+ghost use Rattle.found_inputs.specs.Found.{elements_in, found_value, value_of};
 ghost use Rattle.found_inputs.specs.Sums.{entry_of};
 
 use crate::sums::sums;
+use bit_words::unpacked;
 use std::alloc::{AllocError, Global};
 use value_file::{Bits, DataType, Domain, Entry, PublicEntry, PublicValue, Shape, Value, Words};
 
@@ -14,7 +15,7 @@ fn first(words: &[u64]) -> u64
     if words.is_empty() { 0 } else { words[0] }
 }
 
-/// The truth values of words: true where the word is 1.
+/// The truth values of elements: true where the element is 1.
 fn truths(alloc: Global, words: &[u64]) -> Result<Vec<bool>, AllocError>
     ensures { IfOk result (λ truths. truths.items ≡ map (λ w. w == 1) words.now) }
 {
@@ -25,7 +26,41 @@ fn truths(alloc: Global, words: &[u64]) -> Result<Vec<bool>, AllocError>
     Ok(truths)
 }
 
-/// The value of this type and shape that has these words as elements.
+/// The elements that words hold: so many truth values, or a number in each word.
+fn elements_in(
+    alloc: Global,
+    data_type: DataType,
+    count: u64,
+    words: Vec<u64>,
+) -> Result<Vec<u64>, AllocError>
+    ensures { IfOk result (λ elements. elements.items ≡ elements_in data_type count words.items) }
+{
+    match data_type {
+        DataType::Uint64 => Ok(words),
+        DataType::Bool => unpacked(alloc, &words, count as usize),
+    }
+}
+
+/// The value of this type and shape that has these elements.
+fn value_of(
+    alloc: Global,
+    data_type: DataType,
+    shape: Shape,
+    elements: Vec<u64>,
+) -> Result<Value, AllocError>
+    ensures { IfOk result (λ value. value ≡ value_of data_type shape elements.items) }
+{
+    match (data_type, shape) {
+        (DataType::Uint64, Shape::Scalar) => Ok(Value::Number(first(&elements))),
+        (DataType::Uint64, Shape::Array(_)) => Ok(Value::Numbers(Words::new(elements))),
+        (DataType::Bool, Shape::Scalar) => Ok(Value::Truth(first(&elements) == 1)),
+        (DataType::Bool, Shape::Array(_)) => {
+            Ok(Value::Truths(Bits::new(truths(alloc, &elements)?)))
+        }
+    }
+}
+
+/// The value of this type and shape that has these words.
 fn found_value(
     alloc: Global,
     data_type: DataType,
@@ -34,12 +69,8 @@ fn found_value(
 ) -> Result<Value, AllocError>
     ensures { IfOk result (λ value. value ≡ found_value data_type shape words.items) }
 {
-    match (data_type, shape) {
-        (DataType::Uint64, Shape::Scalar) => Ok(Value::Number(first(&words))),
-        (DataType::Uint64, Shape::Array(_)) => Ok(Value::Numbers(Words::new(words))),
-        (DataType::Bool, Shape::Scalar) => Ok(Value::Truth(first(&words) == 1)),
-        (DataType::Bool, Shape::Array(_)) => Ok(Value::Truths(Bits::new(truths(alloc, &words)?))),
-    }
+    let elements = elements_in(alloc, data_type, shape.count(), words)?;
+    value_of(alloc, data_type, shape, elements)
 }
 
 /// The input of which everybody knows this, and of which three miners have these shares, if it is hidden.

@@ -2,7 +2,10 @@
 use Rattle.std.proofs.Common.{◌≡◌, ℕ, zero, suc, ◌+◌, ◌*◌, ◌<◌, ◌^◌, ◌==◌, List, [], ◌∷◌, ◌++◌, All, length, map, take, drop, get_or}
 use Rattle.std.proofs.Common.{refl, sym, ◌∙◌, ap, arith, append_assoc}
 use Rattle.std.proofs.lemmas.List.{take_at, drop_at, drop-drop, length-append, length-map}
+use Rattle.std.proofs.lemmas.List.Elements.{All-from_get_or}
 use Rattle.std.proofs.lemmas.List.Sums.{sum_by-cons}
+use Rattle.bit_words.specs.Gathered.{unpacked}
+use Rattle.bit_words.proofs.Packing.{length-unpacked, unpacked-bits}
 use Rattle.proto_core.specs.Ring.{Ring, RingLaws}
 use Rattle.proto_core.proofs.Sums.{left_of_three}
 use Rattle.proto_core.specs.declared.party.Number.{Number}
@@ -20,13 +23,13 @@ use Rattle.value_file.specs.declared.public.PublicValue.TheVariants.{Known, Hidd
 use Rattle.value_file.specs.declared.public.PublicEntry.{PublicEntry}
 use Rattle.value_file.specs.Values.{type_of, shape_of, size_of, count_of}
 use Rattle.value_file.specs.Public.{part_of}
-use Rattle.input_share.specs.Values.{bit_word, elements_of, ring_of}
+use Rattle.input_share.specs.Values.{bit_word, elements_of, shared_as, shared_words, shared_size, ring_of}
 use Rattle.input_share.specs.AddUp.{sums_of}
 use Rattle.input_share.specs.Dealing.{left_of, first_masks, second_masks, share_of, draws_of, need_of, dealt_entries}
 use Rattle.input_share.proofs.AddUpLaws.{ring_laws}
 use Rattle.view_text.specs.View.{InputShare}
 use Rattle.found_inputs.specs.Found.{input_shares}
-use Rattle.found_inputs.specs.Found.{found_value, found_entries, found_words, AreLines, IsSumOf, HaveTruths}
+use Rattle.found_inputs.specs.Found.{elements_in, value_of, found_value, found_entries, found_words, AreLines, IsSumOf, HaveTruths}
 use Rattle.found_inputs.specs.FoundLaws.{AreOf, Deal}
 
 -- ---- one value
@@ -70,19 +73,49 @@ first_small : (ws : List ℕ) → length ws ≡ 1 → All (λ w. w < 2) ws → g
 first_small [] e h = absurd (omega arith)
 first_small (w ∷ ws) e h = h 0 w (omega arith)
 
-pub record HasElements (kind : DataType) (shape : Shape) (ws : List ℕ) (v : Value) : Type 0 where
+record HasElements (kind : DataType) (shape : Shape) (es : List ℕ) (v : Value) : Type 0 where
   pub kinded : type_of v ≡ kind
   pub shaped : shape_of v ≡ shape
-  pub elements : elements_of v ≡ ws
+  pub elements : elements_of v ≡ es
 
-pub found_has : (kind : DataType) (shape : Shape) (ws : List ℕ) → length ws ≡ size_of shape → IsSumOf kind ws
-    → HasElements kind shape ws (found_value kind shape ws)
-found_has Uint64 Scalar ws size bits = record { kinded = refl; shaped = refl; elements = single ws size }
-found_has Uint64 (Array count) ws size bits = record { kinded = refl; shaped = ap Array size; elements = refl }
-found_has Truths_ Scalar ws size bits =
-    record { kinded = refl; shaped = refl; elements = ap (λ n. n ∷ []) (bit_of (get_or ws 0 0) (first_small ws size bits)) ∙ single ws size }
-found_has Truths_ (Array count) ws size bits =
-    record { kinded = refl; shaped = ap Array (length-map ws (λ w. w == 1) ∙ size); elements = bits_of_all ws bits }
+abbrev AreTruths : DataType → List ℕ → Type 0
+AreTruths Uint64 es = Unit {0}
+AreTruths Truths_ es = All (λ e. e < 2) es
+
+has_elements : (kind : DataType) (shape : Shape) (es : List ℕ) → length es ≡ size_of shape → AreTruths kind es
+    → HasElements kind shape es (value_of kind shape es)
+has_elements Uint64 Scalar es size bits = record { kinded = refl; shaped = refl; elements = single es size }
+has_elements Uint64 (Array count) es size bits = record { kinded = refl; shaped = ap Array size; elements = refl }
+has_elements Truths_ Scalar es size bits =
+    record { kinded = refl; shaped = refl; elements = ap (λ n. n ∷ []) (bit_of (get_or es 0 0) (first_small es size bits)) ∙ single es size }
+has_elements Truths_ (Array count) es size bits =
+    record { kinded = refl; shaped = ap Array (length-map es (λ e. e == 1) ∙ size); elements = bits_of_all es bits }
+
+-- the elements that words hold
+elements_long : (kind : DataType) (n : ℕ) (ws : List ℕ) → length ws ≡ shared_size kind n → length (elements_in kind n ws) ≡ n
+elements_long Uint64 n ws size = size
+elements_long Truths_ n ws size = length-unpacked ws n
+
+elements_small : (kind : DataType) (n : ℕ) (ws : List ℕ) → AreTruths kind (elements_in kind n ws)
+elements_small Uint64 n ws = tt
+elements_small Truths_ n ws = All-from_get_or (λ e. e < 2) (unpacked ws n) 0 (λ k h. unpacked-bits ws n k)
+
+-- a value of this type and shape that is shared in these words
+record IsValueOf (kind : DataType) (shape : Shape) (ws : List ℕ) (v : Value) : Type 0 where
+  pub kinded : type_of v ≡ kind
+  pub shaped : shape_of v ≡ shape
+  pub words : shared_words v ≡ ws
+
+found_has : (kind : DataType) (shape : Shape) (ws : List ℕ) → length ws ≡ shared_size kind (size_of shape) → IsSumOf kind (size_of shape) ws
+    → IsValueOf kind shape ws (found_value kind shape ws)
+found_has kind shape ws size sum =
+    let n : ℕ = size_of shape in
+    let has = has_elements kind shape (elements_in kind n ws) (elements_long kind n ws size) (elements_small kind n ws) in
+    record {
+      kinded = has.kinded;
+      shaped = has.shaped;
+      words = ap (λ k. shared_as k (elements_of (found_value kind shape ws))) has.kinded ∙ ap (shared_as kind) has.elements ∙ sum;
+    }
 
 -- ---- one hidden input
 
@@ -184,13 +217,17 @@ module _ (name : List ℕ) (es : List PublicEntry) (more : List ℕ) (ih : Rest 
     ly : length y.words ≡ length z.words
     ly = b.0.1 ∙ sym c.0.1
 
-    has : HasElements kind shape ws v
+    has : IsValueOf kind shape ws v
     has = found_has kind shape ws (length-sums (ring_of kind) x.words y.words z.words lx ly ∙ c.0.1) t.0
 
-    counted : count_of v ≡ length z.words
-    counted = ap size_of has.shaped ∙ sym c.0.1
+    -- in how many words it is shared
+    abbrev m : ℕ
+    m = shared_size (type_of v) (count_of v)
 
-    so_many : 2 * count_of v + need_of later ≡ length (x.words ++ (y.words ++ words))
+    counted : m ≡ length z.words
+    counted = ap (λ k. shared_size k (count_of v)) has.kinded ∙ ap (λ s. shared_size kind (size_of s)) has.shaped ∙ sym c.0.1
+
+    so_many : 2 * m + need_of later ≡ length (x.words ++ (y.words ++ words))
     so_many =
         let one = length-append x.words (y.words ++ words) in
         let two = length-append y.words words in
@@ -206,14 +243,14 @@ module _ (name : List ℕ) (es : List PublicEntry) (more : List ℕ) (ih : Rest 
     shares_of : (i : Number)
         → input_shares (dealt_entries i (entry ∷ later) ((x.words ++ (y.words ++ words)) ++ more)) ≡ of_three (x ∷ xs) (y ∷ ys) (z ∷ zs) i
     shares_of i =
-        let mine : share_of i (ring_of (type_of v)) (elements_of v) dealer ≡ of_three x.words y.words z.words i =
-        ap (λ k. share_of i (ring_of k) (elements_of v) dealer) has.kinded
-        ∙ ap (λ l. share_of i (ring_of kind) l dealer) has.elements
+        let mine : share_of i (ring_of (type_of v)) (shared_words v) dealer ≡ of_three x.words y.words z.words i =
+        ap (λ k. share_of i (ring_of k) (shared_words v) dealer) has.kinded
+        ∙ ap (λ l. share_of i (ring_of kind) l dealer) has.words
         ∙ shares_are kind x.words y.words z.words (words ++ more) lx ly c.0.2 i in
-        let left : drop (2 * count_of v) dealer ≡ words ++ more =
-        rest_after kind x.words y.words z.words (words ++ more) lx ly c.0.2 (2 * count_of v) (ap (λ n. 2 * n) counted) in
+        let left : drop (2 * m) dealer ≡ words ++ more =
+        rest_after kind x.words y.words z.words (words ++ more) lx ly c.0.2 (2 * m) (ap (λ n. 2 * n) counted) in
         ap (λ d. input_shares (dealt_entries i (entry ∷ later) d)) whole
-        ∙ ap (λ w. line_then name w (input_shares (dealt_entries i later (drop (2 * count_of v) dealer)))) mine
+        ∙ ap (λ w. line_then name w (input_shares (dealt_entries i later (drop (2 * m) dealer)))) mine
         ∙ ap (λ d. line_then name (of_three x.words y.words z.words i) (input_shares (dealt_entries i later d))) left
         ∙ ap (line_then name (of_three x.words y.words z.words i)) (rest.shares i)
         ∙ named i name x y z xs ys zs a.0.0 b.0.0 c.0.0

@@ -1,5 +1,6 @@
 -- The inputs whose shares three views show, and the dealer's words with which they were dealt.
 use Rattle.std.specs.Prelude.{◌≡◌, ℕ, ◌<◌, ◌^◌, ◌==◌, List, [], ◌∷◌, ◌++◌, length, map, All, get_or}
+use Rattle.bit_words.specs.Gathered.{unpacked}
 use Rattle.value_file.specs.declared.value.Domain.TheVariants as domain
 use Rattle.value_file.specs.declared.value.DataType.{DataType}
 use Rattle.value_file.specs.declared.value.DataType.TheVariants.{Uint64, Bool as Truths_}
@@ -15,7 +16,7 @@ use Rattle.value_file.specs.Values.{size_of}
 use Rattle.input_share.specs.declared.entry.Part.{Part}
 use Rattle.input_share.specs.declared.entry.Part.TheVariants as part
 use Rattle.input_share.specs.declared.entry.ShareEntry.{ShareEntry}
-use Rattle.input_share.specs.Values.{ring_of}
+use Rattle.input_share.specs.Values.{ring_of, shared_as, shared_size}
 use Rattle.input_share.specs.AddUp.{sums_of}
 use Rattle.view_text.specs.View.{InputShare}
 
@@ -41,12 +42,21 @@ rest_of (s ∷ ss) = ss
 
 -- ---- what is found
 
--- the value of this type and shape that has these words as elements; a truth value is true where the word is 1
+-- the elements that words hold: a number in each word, a truth value in each bit
+abbrev pub elements_in : DataType → (count : ℕ) → List ℕ → List ℕ
+elements_in Uint64 count ws = ws
+elements_in Truths_ count ws = unpacked ws count
+
+-- the value of this type and shape that has these elements; a truth value is true where the element is 1
+abbrev pub value_of : DataType → Shape → List ℕ → Value
+value_of Uint64 Scalar es = Number (get_or es 0 0)
+value_of Uint64 (Array count) es = Numbers es
+value_of Truths_ Scalar es = Truth (get_or es 0 0 == 1)
+value_of Truths_ (Array count) es = Truths (map (λ e. e == 1) es)
+
+-- the value of this type and shape that has these words
 abbrev pub found_value : DataType → Shape → List ℕ → Value
-found_value Uint64 Scalar ws = Number (get_or ws 0 0)
-found_value Uint64 (Array count) ws = Numbers ws
-found_value Truths_ Scalar ws = Truth (get_or ws 0 0 == 1)
-found_value Truths_ (Array count) ws = Truths (map (λ w. w == 1) ws)
+found_value kind shape ws = value_of kind shape (elements_in kind (size_of shape) ws)
 
 -- the sums of the words that the first lines show, in the ring of the type
 abbrev pub sums_first : DataType → (one two three : List InputShare) → List ℕ
@@ -82,21 +92,21 @@ IsLine name count (s ∷ ss) = (s.name ≡ name) × (length s.words ≡ count) �
 
 abbrev pub LinesThen : (name : List ℕ) → PublicValue → List InputShare → (List InputShare → Type 0) → Type 0
 LinesThen name (Known value) ss more = more ss
-LinesThen name (Hidden kind shape) ss more = IsLine name (size_of shape) ss × more (rest_of ss)
+LinesThen name (Hidden kind shape) ss more = IsLine name (shared_size kind (size_of shape)) ss × more (rest_of ss)
 
 -- the lines are the hidden inputs in order, and nothing else
 abbrev pub AreLines : List PublicEntry → List InputShare → Type 0
 AreLines [] ss = ss ≡ []
 AreLines (e ∷ es) ss = LinesThen e.name e.value ss (λ more. AreLines es more)
 
--- truth values are 0 or 1
-abbrev pub IsSumOf : DataType → List ℕ → Type 0
-IsSumOf Uint64 ws = Unit {0}
-IsSumOf Truths_ ws = All (λ w. w < 2) ws
+-- the words of as many elements: no bit is set past those that stand for truth values
+abbrev pub IsSumOf : DataType → (count : ℕ) → List ℕ → Type 0
+IsSumOf kind count ws = shared_as kind (elements_in kind count ws) ≡ ws
 
 abbrev pub SumsThen : PublicValue → (one two three : List InputShare) → (List InputShare → List InputShare → List InputShare → Type 0) → Type 0
 SumsThen (Known value) one two three more = more one two three
-SumsThen (Hidden kind shape) one two three more = IsSumOf kind (sums_first kind one two three) × more (rest_of one) (rest_of two) (rest_of three)
+SumsThen (Hidden kind shape) one two three more =
+    IsSumOf kind (size_of shape) (sums_first kind one two three) × more (rest_of one) (rest_of two) (rest_of three)
 
 abbrev pub HaveTruths : List PublicEntry → (one two three : List InputShare) → Type 0
 HaveTruths [] one two three = Unit {0}

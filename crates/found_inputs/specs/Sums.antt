@@ -1,6 +1,7 @@
 -- One input, of the words that the next line of each view shows; and the first whose sums aren't of its type.
-use Rattle.std.specs.Prelude.{ℕ, ◌+◌, Bool, true, nat_lt, if◌then◌else◌, List, [], ◌∷◌, ◌++◌, drop, Option, Some, None, option_map}
-use Rattle.std.specs.List.{list_all}
+use Rattle.std.specs.Prelude.{ℕ, ◌+◌, Bool, true, if◌then◌else◌, List, [], ◌∷◌, ◌++◌, drop, Option, Some, None, option_map}
+use Rattle.std.specs.Str.{bytes_eq}
+use Rattle.bit_words.specs.Gathered.{packed, unpacked}
 use Rattle.value_file.specs.declared.value.Domain.TheVariants as domain
 use Rattle.value_file.specs.declared.value.DataType.{DataType}
 use Rattle.value_file.specs.declared.value.DataType.TheVariants.{Uint64, Bool as Truths_}
@@ -8,6 +9,7 @@ use Rattle.value_file.specs.declared.inputs.Entry.{Entry}
 use Rattle.value_file.specs.declared.public.PublicValue.{PublicValue}
 use Rattle.value_file.specs.declared.public.PublicValue.TheVariants.{Known, Hidden}
 use Rattle.value_file.specs.declared.public.PublicEntry.{PublicEntry}
+use Rattle.value_file.specs.Values.{size_of}
 use Rattle.input_share.specs.Values.{ring_of}
 use Rattle.input_share.specs.AddUp.{sums_of}
 use Rattle.view_text.specs.View.{InputShare}
@@ -30,16 +32,16 @@ masks_of (Hidden kind shape) one two = one ++ two
 
 -- ---- sums
 
--- elements of this type
-abbrev pub are_of_type : DataType → List ℕ → Bool
-are_of_type Uint64 ws = true
-are_of_type Truths_ ws = list_all (λ w. nat_lt w 2) ws
+-- the words of as many elements of this type
+abbrev pub are_of_type : DataType → (count : ℕ) → List ℕ → Bool
+are_of_type Uint64 count ws = true
+are_of_type Truths_ count ws = bytes_eq (packed (unpacked ws count)) ws
 
 abbrev pub are_right : PublicValue → (one two three : List ℕ) → Bool
 are_right (Known value) one two three = true
-are_right (Hidden kind shape) one two three = are_of_type kind (sums_of (ring_of kind) one two three)
+are_right (Hidden kind shape) one two three = are_of_type kind (size_of shape) (sums_of (ring_of kind) one two three)
 
--- the place, among the lines of hidden inputs, of the first sums that aren't elements of the input's type
+-- the place, among the lines of hidden inputs, of the first sums that aren't words of the input's type
 abbrev pub wrong_sums_at : List PublicEntry → (one two three : List InputShare) → Option ℕ
 wrong_sums_at [] one two three = None
 wrong_sums_at (e ∷ es) one two three =

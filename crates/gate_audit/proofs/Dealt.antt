@@ -6,15 +6,15 @@ use Rattle.std.proofs.lemmas.Bool.{and_from, eq-eqb}
 use Rattle.std.proofs.lemmas.List.{length-drop}
 use Rattle.std.proofs.lemmas.List.Sums.{sum_by-cons}
 use Rattle.std.proofs.lemmas.Slice.Eq.{bytes_eq-Decides}
-use Rattle.std.specs.List.{list_all}
-use Rattle.std.specs.Prelude.{nat_lt, option_map}
+use Rattle.std.specs.Prelude.{option_map}
 use Rattle.std.specs.Str.{bytes_eq}
 use Rattle.proto_core.specs.declared.party.Number.{Number}
 use Rattle.proto_core.specs.declared.party.Number.TheVariants.{One, Two, Three}
 use Rattle.value_file.specs.declared.value.Domain.{Domain}
 use Rattle.value_file.specs.declared.value.Domain.TheVariants as domain
 use Rattle.value_file.specs.declared.value.Value.{Value}
-use Rattle.value_file.specs.declared.value.Value.TheVariants as value
+use Rattle.value_file.specs.declared.value.DataType.{DataType}
+use Rattle.value_file.specs.declared.value.DataType.TheVariants.{Uint64, Bool as Truths_}
 use Rattle.value_file.specs.declared.inputs.Entry.{Entry}
 use Rattle.value_file.specs.Values.{count_of, shape_of, size_of, type_of}
 use Rattle.value_file.specs.Public.{part_of}
@@ -23,31 +23,27 @@ use Rattle.input_share.specs.declared.entry.Part.TheVariants as part
 use Rattle.input_share.specs.declared.entry.ShareEntry.{ShareEntry}
 use Rattle.input_share.specs.AddUp.{HasWords, sums_of}
 use Rattle.input_share.specs.Dealing.{draws_of, need_of, share_of}
-use Rattle.input_share.specs.Values.{bit_word, elements_of, ring_of}
+use Rattle.input_share.specs.Values.{elements_of, shared_words, shared_size, ring_of}
 use Rattle.input_share.proofs.AddUpLaws.{together-part_of}
-use Rattle.input_share.proofs.Elements.{length-elements_of}
+use Rattle.input_share.proofs.Elements.{length-shared_words}
 use Rattle.view_text.specs.View.{InputShare}
 use Rattle.view_model.specs.Dealing.{private_shares}
 use Rattle.view_model.proofs.DealtSizes.{length_share}
 use Rattle.audit_steps.specs.Places.{one_later}
 use Rattle.audit_steps.specs.Shares.{wrong_share_at}
-use Rattle.found_inputs.specs.Found.{input_shares}
+use Rattle.found_inputs.specs.Found.{input_shares, IsSumOf}
 use Rattle.found_inputs.specs.FoundLaws.{lines_of}
 use Rattle.found_inputs.specs.Sums.{are_of_type, wrong_sums_at}
+use Rattle.found_inputs.proofs.Found.{words_are}
 
--- ---- elements of a value are of its type
+-- ---- the words of a value are of its type
 
-bits_of_type : (bs : List Bool) → list_all (λ w. nat_lt w 2) (map bit_word bs) ≡ true
-bits_of_type [] = refl
-bits_of_type (true ∷ bs) = bits_of_type bs
-bits_of_type (false ∷ bs) = bits_of_type bs
+pub of_type_from : (kind : DataType) (count : ℕ) (ws : List ℕ) → IsSumOf kind count ws → are_of_type kind count ws ≡ true
+of_type_from Uint64 count ws e = refl
+of_type_from Truths_ count ws e = (bytes_eq-Decides _ ws).1 e
 
-value_of_type : (v : Value) → are_of_type (type_of v) (elements_of v) ≡ true
-value_of_type (value.Number n) = refl
-value_of_type (value.Truth true) = refl
-value_of_type (value.Truth false) = refl
-value_of_type (value.Numbers ns) = refl
-value_of_type (value.Truths bs) = bits_of_type bs
+value_of_type : (v : Value) → are_of_type (type_of v) (size_of (shape_of v)) (shared_words v) ≡ true
+value_of_type v = of_type_from (type_of v) (size_of (shape_of v)) (shared_words v) (words_are v)
 
 -- ---- input by input
 
@@ -60,14 +56,14 @@ module _ (name : List ℕ) (v : Value) (es : List Entry) (dealer : List ℕ) whe
       → wrong_share_at (part_of (entry d ∷ es)) (lines_of (entry d ∷ es) dealer i) ≡ None
   share_right i domain.Public enough later = later
   share_right i domain.Private enough later =
-      let n = length-elements_of v in
-      let enough_words : 2 * length (elements_of v) ≤ length dealer = omega (arith, n, enough) in
-      let words : List ℕ = share_of i (ring_of (type_of v)) (elements_of v) dealer in
-      let long : length words ≡ size_of (shape_of v) = length_share i (ring_of (type_of v)) (elements_of v) dealer enough_words ∙ n in
-      let is : (bytes_eq name name && (length words == size_of (shape_of v))) ≡ true =
-      and_from (bytes_eq name name) (length words == size_of (shape_of v)) ((bytes_eq-Decides name name).1 refl)
-      (eq-eqb (length words) (size_of (shape_of v)) long) in
-      ap (λ b. if b then one_later (wrong_share_at (part_of es) (lines_of es (drop (2 * count_of v) dealer) i)) else Some 0) is
+      let m : ℕ = shared_size (type_of v) (count_of v) in
+      let n = length-shared_words v in
+      let enough_words : 2 * length (shared_words v) ≤ length dealer = omega (arith, n, enough) in
+      let words : List ℕ = share_of i (ring_of (type_of v)) (shared_words v) dealer in
+      let long : length words ≡ m = length_share i (ring_of (type_of v)) (shared_words v) dealer enough_words ∙ n in
+      let is : (bytes_eq name name && (length words == m)) ≡ true =
+      and_from (bytes_eq name name) (length words == m) ((bytes_eq-Decides name name).1 refl) (eq-eqb (length words) m long) in
+      ap (λ b. if b then one_later (wrong_share_at (part_of es) (lines_of es (drop (2 * m) dealer) i)) else Some 0) is
       ∙ ap one_later later
 
   sums_right : (d : Domain) → draws_of (entry d) ≤ length dealer → All (λ n. n < 2 ^ 64) (elements_of v)
@@ -78,10 +74,10 @@ module _ (name : List ℕ) (v : Value) (es : List Entry) (dealer : List ℕ) whe
   sums_right domain.Public enough fit later = ap (option_map (λ k. 0 + k)) later
   sums_right domain.Private enough fit later =
       let r = ring_of (type_of v) in
-      let rest : List ℕ = drop (2 * count_of v) dealer in
-      let sums : sums_of r (share_of One r (elements_of v) dealer) (share_of Two r (elements_of v) dealer) (share_of Three r (elements_of v) dealer)
-      ≡ elements_of v = together-part_of domain.Private v dealer enough fit in
-      ap (λ ws. if are_of_type (type_of v) ws
+      let rest : List ℕ = drop (2 * shared_size (type_of v) (count_of v)) dealer in
+      let sums : sums_of r (share_of One r (shared_words v) dealer) (share_of Two r (shared_words v) dealer) (share_of Three r (shared_words v) dealer)
+      ≡ shared_words v = together-part_of domain.Private v dealer enough fit in
+      ap (λ ws. if are_of_type (type_of v) (size_of (shape_of v)) ws
       then option_map (λ k. 1 + k) (wrong_sums_at (part_of es) (lines_of es rest One) (lines_of es rest Two) (lines_of es rest Three)) else Some 0) sums
       ∙ ap (λ b. if b
       then option_map (λ k. 1 + k) (wrong_sums_at (part_of es) (lines_of es rest One) (lines_of es rest Two) (lines_of es rest Three)) else Some 0)

@@ -2,10 +2,9 @@
 use Rattle.std.proofs.Common.{◌≡◌, ℕ, zero, suc, ◌+◌, ◌<◌, ◌^◌, ◌==◌, Bool, true}
 use Rattle.std.proofs.Common.{false, if◌then◌else◌, List, [], ◌∷◌, All, length, drop, Option, Some, None}
 use Rattle.std.proofs.Common.{refl, sym, subst, arith}
-use Rattle.std.proofs.lemmas.Bool.{and_parts, eqb-true, ltb-true}
+use Rattle.std.proofs.lemmas.Bool.{and_parts, eqb-true}
 use Rattle.std.proofs.lemmas.Slice.Eq.{bytes_eq-Decides}
-use Rattle.std.specs.List.{list_all}
-use Rattle.std.specs.Prelude.{option_map, nat_lt}
+use Rattle.std.specs.Prelude.{option_map}
 use Rattle.std.specs.Str.{bytes_eq}
 use Rattle.value_file.specs.declared.value.DataType.{DataType}
 use Rattle.value_file.specs.declared.value.DataType.TheVariants.{Uint64, Bool as Truths_}
@@ -13,6 +12,7 @@ use Rattle.value_file.specs.declared.public.PublicValue.{PublicValue}
 use Rattle.value_file.specs.declared.public.PublicValue.TheVariants.{Known, Hidden}
 use Rattle.value_file.specs.declared.public.PublicEntry.{PublicEntry}
 use Rattle.value_file.specs.Values.{size_of}
+use Rattle.input_share.specs.Values.{shared_size}
 use Rattle.view_text.specs.View.{InputShare, Words}
 use Rattle.audit_steps.specs.Places.{one_later}
 use Rattle.audit_steps.specs.Shares.{is_first_share, share_then, wrong_share_at}
@@ -56,9 +56,10 @@ line_is : (name : List ℕ) (v : PublicValue) (ps : List PublicEntry) (ss : List
 line_is name (Known value) ps ss later h e = later ss h e
 line_is name (Hidden kind shape) ps [] later h e = some_is_none 0 e
 line_is name (Hidden kind shape) ps (s ∷ ss) later h e =
-    let t = tested (is_first_share name shape (s ∷ ss)) (one_later (wrong_share_at ps ss)) e in
-    let both = and_parts (bytes_eq s.name name) (length s.words == size_of shape) t.0 in (
-      ((bytes_eq-Decides s.name name).0 both.0, eqb-true (length s.words) (size_of shape) both.1, words_all s.words h.0),
+    let m : ℕ = shared_size kind (size_of shape) in
+    let t = tested (is_first_share name kind shape (s ∷ ss)) (one_later (wrong_share_at ps ss)) e in
+    let both = and_parts (bytes_eq s.name name) (length s.words == m) t.0 in (
+      ((bytes_eq-Decides s.name name).0 both.0, eqb-true (length s.words) m both.1, words_all s.words h.0),
       later ss h.1 (none_from (wrong_share_at ps ss) t.1),
     )
 
@@ -69,15 +70,9 @@ lines_are (p ∷ ps) ss h e = line_is p.name p.value ps ss (lines_are ps) h e
 
 -- ---- sums
 
-all_below : (ws : List ℕ) → list_all (λ w. nat_lt w 2) ws ≡ true → All (λ w. w < 2) ws
-all_below [] e = λ k d lt. absurd (omega arith)
-all_below (w ∷ ws) e =
-    let parts = and_parts (nat_lt w 2) (list_all (λ v. nat_lt v 2) ws) e in
-    all_more (λ v. v < 2) w ws (ltb-true w 2 parts.0) (all_below ws parts.1)
-
-of_type : (kind : DataType) (ws : List ℕ) → are_of_type kind ws ≡ true → IsSumOf kind ws
-of_type Uint64 ws e = tt
-of_type Truths_ ws e = all_below ws e
+of_type : (kind : DataType) (count : ℕ) (ws : List ℕ) → are_of_type kind count ws ≡ true → IsSumOf kind count ws
+of_type Uint64 count ws e = refl
+of_type Truths_ count ws e = (bytes_eq-Decides _ ws).0 e
 
 rest_is : (ss : List InputShare) → rest_of ss ≡ drop 1 ss
 rest_is [] = refl
@@ -91,9 +86,9 @@ sums_are : (name : List ℕ) (v : PublicValue) (ps : List PublicEntry) (one two 
 sums_are name (Known value) ps one two three later e = later one two three (none_later 0 (wrong_sums_at ps one two three) e)
 sums_are name (Hidden kind shape) ps one two three later e =
     let rest : Option ℕ = wrong_sums_at ps (drop 1 one) (drop 1 two) (drop 1 three) in
-    let t = tested (are_of_type kind (sums_first kind one two three)) (option_map (λ k. 1 + k) rest) e in
+    let t = tested (are_of_type kind (size_of shape) (sums_first kind one two three)) (option_map (λ k. 1 + k) rest) e in
     let truths : HaveTruths ps (drop 1 one) (drop 1 two) (drop 1 three) = later (drop 1 one) (drop 1 two) (drop 1 three) (none_later 1 rest t.1) in (
-      of_type kind (sums_first kind one two three) t.0,
+      of_type kind (size_of shape) (sums_first kind one two three) t.0,
       subst (λ l. HaveTruths ps l (rest_of two) (rest_of three)) (sym (rest_is one))
           (subst (λ l. HaveTruths ps (drop 1 one) l (rest_of three)) (sym (rest_is two))
           (subst (λ l. HaveTruths ps (drop 1 one) (drop 1 two) l) (sym (rest_is three)) truths)),

@@ -71,7 +71,8 @@ module _ (w : World) (d : Dealt) where
         let ring = ring_for element in
         suits_bind w d (number_suits w d both none_of x (record { from = λ r k. first_stand r (facts_of x) (facts_of y) k }) p.range) (λ u _.
         suits_bind w d
-        (number_as w d (fact u ring (gate_words element x.words) ∷ both) none_of element y same (record { from = λ r k. second_stand r (facts_of x) (facts_of y) k.1 })
+        (number_as w d (fact u ring (gate_words element x.words) ∷ both) none_of element y same
+        (record { from = λ r k. second_stand r (facts_of x) (facts_of y) k.1 })
         right_range) (λ v _.
         suits_bind w d
         (gate_suits w d (fact v ring (gate_words element y.words) ∷ (fact u ring (gate_words element x.words) ∷ both)) none_of none_of none_of
@@ -168,7 +169,8 @@ module _ (w : World) (d : Dealt) where
         let words = set v.words i (first_word x.words) in
         suits_bind w d (number_suits w d all none_of v (record { from = λ r k. first_stand r (facts_of v) (facts_of x) k }) p.range) (λ u _.
         suits_bind w d
-        (number_as w d (fact u ring (gate_words v.shape.element v.words) ∷ all) none_of v.shape.element x same (record { from = λ r k. second_stand r (facts_of v) (facts_of x) k.1 })
+        (number_as w d (fact u ring (gate_words v.shape.element v.words) ∷ all) none_of v.shape.element x same
+        (record { from = λ r k. second_stand r (facts_of v) (facts_of x) k.1 })
         value_range) (λ e _.
         suits_bind w d
         (gate_suits w d (fact e ring (gate_words v.shape.element x.words) ∷ (fact u ring (gate_words v.shape.element v.words) ∷ all)) none_of none_of none_of

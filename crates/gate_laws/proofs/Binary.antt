@@ -19,8 +19,8 @@ use Rattle.program_trees.specs.Operators.{element_made}
 use Rattle.language_model.specs.Effects.{World}
 use Rattle.language_model.specs.Values.{Secrecy, Plain, Private, Value, is_secret, size, visible_words, ring_for, gate_words}
 use Rattle.language_model.specs.Words as W
-use Rattle.language_model.specs.Operations.{words_of_operator, is_scalar_left, is_scalar_right, is_product, result_shape, stretched, private_result, product_with}
-use Rattle.language_model.specs.Operations.{combined_from, operator_traps, operated}
+use Rattle.language_model.specs.Operations.{words_of_operator, is_scalar_left, is_scalar_right, is_product, result_shape, stretched}
+use Rattle.language_model.specs.Operations.{private_result, product_with, combined_from, operator_traps, operated}
 use Rattle.code_model.specs.Kinded.{left_array, right_array}
 use Rattle.gate_laws.specs.Facts.{HasRange, IsProper, none_of, Fact, facts_of, Suits}
 use Rattle.gate_laws.specs.Dealt.{bound, InRange, drawn_by, Dealt}
@@ -145,19 +145,23 @@ module _ (op : BinaryOperator) (ds : Operands) (x y : Value) (h : OperandsSuit o
         let vs = W.right_words ds x y in
         suits_bind w d (draw_suits w d both (words_of_operator op n)) (λ _ _.
         suits_bind w d (number_as w d both owed taken x h.left_element tell_left left_in) (λ j _.
-        suits_bind w d (number_as w d (fact j ring (gate_words taken x.words) ∷ both) owed taken y h.right_element (record { from = λ r k. tell_right.from r k.1 }) right_in)
+        suits_bind w d (number_as w d (fact j ring (gate_words taken x.words) ∷ both) owed taken y h.right_element
+        (record { from = λ r k. tell_right.from r k.1 }) right_in)
         (λ k _.
         suits_bind w d
         (subst (λ e. Suits w d (fact k ring (gate_words taken y.words) ∷ (fact j ring (gate_words taken x.words) ∷ both)) owed
         (stretched e (is_scalar_left ds) n j) owed (Numbered ring (gate_words taken us)) (Any {A = ℕ})) (sym h.left_element)
         (in_terms w d (ap (gate_words taken) (left_stretch ds))
-        (stretched_suits w d (fact k ring (gate_words taken y.words) ∷ (fact j ring (gate_words taken x.words) ∷ both)) owed taken (is_scalar_left ds) n j x.words
+        (stretched_suits w d (fact k ring (gate_words taken y.words) ∷ (fact j ring (gate_words taken x.words) ∷ both)) owed taken (is_scalar_left ds) n j
+        x.words
         (record { from = λ r k. (k.1.0, tt) }) left_one))) (λ u _.
         suits_bind w d
-        (subst (λ e. Suits w d (fact u ring (gate_words taken us) ∷ (fact k ring (gate_words taken y.words) ∷ (fact j ring (gate_words taken x.words) ∷ both))) owed
+        (subst (λ e. Suits w d
+        (fact u ring (gate_words taken us) ∷ (fact k ring (gate_words taken y.words) ∷ (fact j ring (gate_words taken x.words) ∷ both))) owed
         (stretched e (is_scalar_right ds) n k) owed (Numbered ring (gate_words taken vs)) (Any {A = ℕ})) (sym h.right_element)
         (in_terms w d (ap (gate_words taken) (right_stretch ds))
-        (stretched_suits w d (fact u ring (gate_words taken us) ∷ (fact k ring (gate_words taken y.words) ∷ (fact j ring (gate_words taken x.words) ∷ both))) owed taken
+        (stretched_suits w d
+        (fact u ring (gate_words taken us) ∷ (fact k ring (gate_words taken y.words) ∷ (fact j ring (gate_words taken x.words) ∷ both))) owed taken
         (is_scalar_right ds) n k y.words
         (record { from = λ r k. (k.1.0, tt) }) right_one))) (λ v _.
         suits_bind w d

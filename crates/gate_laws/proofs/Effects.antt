@@ -22,7 +22,7 @@ use Rattle.language_model.specs.Effects.{Words, World, Stage, Ended, Run, Effect
 use Rattle.language_model.specs.Effects.{take_words, draw, emit}
 use Rattle.gate_laws.specs.Facts.{and_published, none_of, Fact, Stands, AllStand, run_at, IsAt, Grows, Comes, ComesAt, Suits}
 use Rattle.gate_laws.specs.Dealt.{drawn_by, Dealt}
-use Rattle.gate_laws.proofs.GateWords.{learned_published}
+use Rattle.gate_laws.proofs.GateWords.{learned_still}
 
 -- ---- facts
 
@@ -196,7 +196,7 @@ module _ (w : World) (d : Dealt) where
               drawn = at.drawn;
               answers = at.answers;
               handed = λ values fit. and_published text elements (at.handed values fit);
-              opened = λ clear values fit. learned_published s.events text elements ∙ at.opened clear values fit;
+              opened = λ clear values fit. learned_still s.events (Publish text elements) refl ∙ at.opened clear values fit;
             });
       }
 

@@ -1,10 +1,11 @@
 -- The words of a value in the gates, by its elements.
-use Rattle.std.proofs.Common.{◌≡◌, ℕ, zero, suc, ◌<◌, ◌^◌, List, [], ◌∷◌, ◌++◌, length, map, not, ◌==◌, refl, sym, ap, ◌∙◌, subst, arith, append_assoc, append-nil}
+use Rattle.std.proofs.Common.{◌≡◌, ℕ, zero, suc, ◌<◌, ◌^◌, List, [], ◌∷◌, ◌++◌, length, map, not, ◌==◌, refl, sym, ap, ◌∙◌, subst, arith, append_assoc}
+use Rattle.std.proofs.Common.{append-nil}
 use Rattle.std.specs.Prelude.{replicate, get_or, set}
 use Rattle.sc_text.specs.declared.elements.Element.{Element}
 use Rattle.sc_text.specs.declared.elements.Element.TheVariants.{Word, Truth}
 use Rattle.sc_text.specs.declared.event.Event.{Event}
-use Rattle.sc_text.specs.declared.event.Event.TheVariants.{Open, Publish}
+use Rattle.sc_text.specs.declared.event.Event.TheVariants.{Open, Publish, Hand}
 use Rattle.program_trees.specs.declared.expression.DataType.{DataType}
 use Rattle.program_trees.specs.declared.expression.DataType.TheVariants.{Uint64}
 use Rattle.program_trees.specs.declared.expression.DataType.TheVariants as datatype
@@ -63,9 +64,11 @@ learned_then [] fs = refl
 learned_then (Open elements ∷ es) fs =
     ap (λ z. elements_words elements ++ z) (learned_then es fs) ∙ sym (append_assoc (elements_words elements) (learned_of es) (learned_of fs))
 learned_then (Publish text elements ∷ es) fs = learned_then es fs
+learned_then (Hand text elements ∷ es) fs = learned_then es fs
 
-pub learned_published : (es : List Event) (text : List ℕ) (elements : List Element) → learned_of (es ++ Publish text elements ∷ []) ≡ learned_of es
-learned_published es text elements = learned_then es (Publish text elements ∷ []) ∙ append-nil (learned_of es)
+-- what isn't an opening teaches nothing
+pub learned_still : (es : List Event) (e : Event) → learned_of (e ∷ []) ≡ [] → learned_of (es ++ e ∷ []) ≡ learned_of es
+learned_still es e none = learned_then es (e ∷ []) ∙ ap (λ z. learned_of es ++ z) none ∙ append-nil (learned_of es)
 
 pub learned_opened : (es : List Event) (e : DataType) (words : List ℕ) → InRange e words
     → learned_of (es ++ Open (map (element_of e) words) ∷ []) ≡ learned_of es ++ gate_words e words

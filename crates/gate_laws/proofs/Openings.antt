@@ -134,7 +134,8 @@ module _ (w : World) (d : Dealt) (v : Value) (p : IsProper v) (u : ℕ) where
       show (read_answer element words) >>= λ _. emit (event.Open (elements_of (plain v.shape (read_answer element words)))) >>= λ _.
       done (plain v.shape (read_answer element words))
 
-  module _ (kinds : List Kind) (s : Stage) (at : IsAt w d kinds (λ m. gate_size element (size v)) s) (h : Stands (run_at w d kinds s) (fact u ring own_words)) where
+  module _ (kinds : List Kind) (s : Stage) (at : IsAt w d kinds (λ m. gate_size element (size v)) s)
+      (h : Stands (run_at w d kinds s) (fact u ring own_words)) where
     abbrev run : GateRun
     run = run_at w d kinds s
 

@@ -82,7 +82,8 @@ module _ (w : World) (d : Dealt) where
   flip_suits fs owed n u us t size low =
       let ones = replicate n 1 in
       suits_bind w d (const_suits w d fs owed Boolean (packed ones) (packed-words ones)) (λ k _.
-      in_terms (sym (packed-flip flipped us (λ k lt. flip_parity (at us k) (low k)) ∙ ap (λ n. each_two xor_ring.add (packed us) (packed (replicate n 1))) size))
+      in_terms (sym (packed-flip flipped us (λ k lt. flip_parity (at us k) (low k))
+      ∙ ap (λ n. each_two xor_ring.add (packed us) (packed (replicate n 1))) size))
       (gate_suits w d (fact k Boolean (packed ones) ∷ fs) owed (λ m. 0 * length (packed us)) owed (gates.Xor u k) Boolean
       (each_two xor_ring.add (packed us) (packed ones)) (λ m. omega arith) refl
       (λ r good facts. xor_gain r good u k (packed us) (packed ones) (packed_alike us ones (size ∙ sym (length_replicated n 1))) (t.from r facts.1).0 facts.0)))
@@ -105,7 +106,8 @@ module _ (w : World) (d : Dealt) where
     -- ---- numbers
 
     module _ (t : Both fs u v Arithmetic us vs) (p : Below (2 ^ 64) us) (q : Below (2 ^ 64) vs) where
-      equal_suits : Suits w d fs (drawn_by (words_for_equality n)) (equal_gates u v) none_of (Numbered Boolean (packed (each_two (meaning (Words word.Equal)) us vs)))
+      equal_suits : Suits w d fs (drawn_by (words_for_equality n)) (equal_gates u v) none_of
+          (Numbered Boolean (packed (each_two (meaning (Words word.Equal)) us vs)))
           (Any {A = ℕ})
       equal_suits =
           let ds = each_two add_ring.sub us vs in
@@ -130,7 +132,8 @@ module _ (w : World) (d : Dealt) where
           (packed (each_two less_test xs ys)) (λ m. refl) refl
           (λ r good facts. pack_gain r good z (each_two less_test xs ys) facts.0))
 
-      less_suits : Suits w d fs (drawn_by (words_for_order n)) (less_gates n u v) none_of (Numbered Boolean (packed (each_two (meaning (Words word.Less)) us vs)))
+      less_suits : Suits w d fs (drawn_by (words_for_order n)) (less_gates n u v) none_of
+          (Numbered Boolean (packed (each_two (meaning (Words word.Less)) us vs)))
           (Any {A = ℕ})
       less_suits =
           in_terms (ap packed (two_ext less_test (meaning (Words word.Less)) us vs less_word)) (compared_suits u v us vs t left right)
@@ -142,13 +145,15 @@ module _ (w : World) (d : Dealt) where
           (compared_suits v u vs us (record { from = λ r facts. ((t.from r facts).1.0, ((t.from r facts).0, tt)) }) right left)
 
       -- turned after
-      turned_suits : (before : Miner → ℕ) (c : Effect ℕ) (f g : ℕ → ℕ → ℕ) → Suits w d fs before c none_of (Numbered Boolean (packed (each_two f us vs))) (Any {A = ℕ})
+      turned_suits : (before : Miner → ℕ) (c : Effect ℕ) (f g : ℕ → ℕ → ℕ)
+          → Suits w d fs before c none_of (Numbered Boolean (packed (each_two f us vs))) (Any {A = ℕ})
           → ((x y : ℕ) → f x y < 2) → ((x y : ℕ) → flipped (f x y) ≡ g x y)
           → Suits w d fs before (c >>= flip n) none_of (Numbered Boolean (packed (each_two g us vs))) (Any {A = ℕ})
       turned_suits before c f g h low e =
           suits_bind w d h (λ k _.
           in_terms (ap packed (map_two flipped f us vs ∙ two_ext (λ x y. flipped (f x y)) g us vs e))
-          (flip_suits (fact k Boolean (packed (each_two f us vs)) ∷ fs) none_of n k (each_two f us vs) (tell_first (fact k Boolean (packed (each_two f us vs))) fs)
+          (flip_suits (fact k Boolean (packed (each_two f us vs)) ∷ fs) none_of n k (each_two f us vs)
+          (tell_first (fact k Boolean (packed (each_two f us vs))) fs)
           (length-each_two f us vs same ∙ left)
           (two_below (2 ^ 64) 2 f us vs (omega arith) (λ x y a b. low x y) p q)))
 
@@ -201,7 +206,8 @@ module _ (w : World) (d : Dealt) where
       packed_size : length (packed us) ≡ words
       packed_size = length-packed us ∙ ap words_for left
 
-      and_suits : Suits w d fs (drawn_by (words_each (3 * words))) (gate (gates.And u v)) none_of (Numbered Boolean (packed (each_two bit_and us vs))) (Any {A = ℕ})
+      and_suits : Suits w d fs (drawn_by (words_each (3 * words))) (gate (gates.And u v)) none_of
+          (Numbered Boolean (packed (each_two bit_and us vs))) (Any {A = ℕ})
       and_suits =
           in_terms (sym (packed-and bit_and us vs same (λ k lt. and_word_parity (at us k) (at vs k) (p k) (q k))))
           (gate_suits w d fs (drawn_by (words_each (3 * words))) (λ m. 3 * length (packed us)) none_of (gates.And u v) Boolean
@@ -224,8 +230,8 @@ module _ (w : World) (d : Dealt) where
           in_terms (sym (packed-xor bit_xor one_words both_words long (λ k lt. xor_parity (at one_words k) (at both_words k) (one_low k) (both_low k)))
           ∙ ap packed (two_of_two bit_xor bit_xor bit_and us vs
           ∙ two_same 2 (λ x y. bit_xor (bit_xor x y) (bit_and x y)) (meaning (Bools truth.Or)) us vs or_words p q))
-          (gate_suits w d (fact one Boolean (packed one_words) ∷ (fact both Boolean (packed both_words) ∷ fs)) none_of (λ m. 0 * length (packed one_words)) none_of
-          (gates.Xor one both) Boolean
+          (gate_suits w d (fact one Boolean (packed one_words) ∷ (fact both Boolean (packed both_words) ∷ fs)) none_of
+          (λ m. 0 * length (packed one_words)) none_of (gates.Xor one both) Boolean
           (each_two xor_ring.add (packed one_words) (packed both_words)) (λ m. omega arith) refl
           (λ r good facts. xor_gain r good one both (packed one_words) (packed both_words) (packed_alike one_words both_words long)
           facts.0 facts.1.0))))

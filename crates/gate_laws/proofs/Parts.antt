@@ -91,11 +91,12 @@ module _ (w : World) (d : Dealt) where
       → length words < 2 ^ 64 → Suits w d fs none_of (made_private shape words k) none_of facts_of IsProper
   given_suits fs shape words k t range small = suits_done w d t (record { range = range; small = small })
 
-  pub given_as : (fs : List Fact) (e : DataType) (shape : Shape) (words : List ℕ) (k : ℕ) → shape.element ≡ e → Tell fs (fact k (ring_for e) (gate_words e words) ∷ [])
-      → InRange e words
+  pub given_as : (fs : List Fact) (e : DataType) (shape : Shape) (words : List ℕ) (k : ℕ) → shape.element ≡ e
+      → Tell fs (fact k (ring_for e) (gate_words e words) ∷ []) → InRange e words
       → length words < 2 ^ 64 → Suits w d fs none_of (made_private shape words k) none_of facts_of IsProper
   given_as fs e shape words k same t range small =
-      given_suits fs shape words k (subst (λ z. Tell fs (fact k (ring_for z) (gate_words z words) ∷ [])) (sym same) t) (subst (λ z. InRange z words) (sym same) range) small
+      given_suits fs shape words k (subst (λ z. Tell fs (fact k (ring_for z) (gate_words z words) ∷ [])) (sym same) t)
+      (subst (λ z. InRange z words) (sym same) range) small
 
   -- a public value
   pub shown_suits : (fs : List Fact) (shape : Shape) (words : List ℕ) → InRange shape.element words → length words < 2 ^ 64
@@ -113,7 +114,8 @@ module _ (w : World) (d : Dealt) where
   classified_from_suits Plain v proper =
       let fs = facts_of v in
       suits_bind w d (plain_charge fs (size v)) (λ _ _.
-      suits_bind w d (const_suits fs none_of (ring_for v.shape.element) (gate_words v.shape.element v.words) (gate_words_are v.shape.element v.words proper.range)) (λ k _.
+      suits_bind w d
+      (const_suits fs none_of (ring_for v.shape.element) (gate_words v.shape.element v.words) (gate_words_are v.shape.element v.words proper.range)) (λ k _.
       given_suits (fact k (ring_for v.shape.element) (gate_words v.shape.element v.words) ∷ fs) v.shape v.words k
       (tell_first (fact k (ring_for v.shape.element) (gate_words v.shape.element v.words)) fs)
       proper.range proper.small))

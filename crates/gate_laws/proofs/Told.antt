@@ -12,7 +12,7 @@ use Rattle.program_trees.specs.declared.kinds.Shape.{Shape}
 use Rattle.program_trees.specs.Shapes.{shape_of}
 use Rattle.language_model.specs.Effects.{World, GivenInput, Effect, ◌>>=◌, done, draw, test, gate, emit, words_each}
 use Rattle.language_model.specs.Values.{Secrecy, Plain, Private, Value, plain, size, ring_for, gate_words, gate_size, elements_of, is_true}
-use Rattle.language_model.specs.Operations.{number_of, handed_over, published, tested, asserted}
+use Rattle.language_model.specs.Operations.{number_of, handed_over, publication, published, tested, asserted}
 use Rattle.language_model.specs.Evaluation.{same_truth, same_shape, is_as_declared, behind, input_from, input_named, given_value, asked_for}
 use Rattle.gates.specs.declared.ring_kind.RingKind.{RingKind}
 use Rattle.gates.specs.declared.gate.Gate.{Gate}
@@ -32,7 +32,7 @@ use Rattle.gate_laws.proofs.Gains.{fact, gate_from, opened_split, handed_split}
 use Rattle.gate_laws.proofs.Singles.{result_follows, input_gain}
 use Rattle.gate_laws.proofs.Parts.{tell_same, tell_none, tell_first, charged_suits, plain_charge, number_suits, given_suits, shown_suits}
 use Rattle.gate_laws.proofs.Ranges.{one_below}
-use Rattle.gate_laws.proofs.GateWords.{gate_words_size, learned_published}
+use Rattle.gate_laws.proofs.GateWords.{gate_words_size, learned_still}
 use Rattle.gate_laws.proofs.Operators.{same_each}
 
 -- ---- literals
@@ -50,13 +50,16 @@ module _ (w : World) (d : Dealt) where
     abbrev own_words : List ℕ
     own_words = gate_words v.shape.element v.words
 
+    abbrev own_size : ℕ
+    own_size = gate_size v.shape.element (size v)
+
     abbrev telling : Secrecy → List ℕ → Unit {0} → Effect (Unit {0})
     telling a text = λ _. emit (publication a text (elements_of v))
 
     -- the gate, and then the event
     handing_suits : (fs : List Fact) (k : Option ℕ) (text : List ℕ) (u : ℕ) → Tell fs (fact u ring own_words ∷ [])
-        → Suits w d fs (drawn_by (words_each (gate_size v.shape.element (size v)))) ((gate (gates.Result ring u) >>= λ _. done tt) >>= telling (Private k) text) none_of (NoFacts {A = Unit {0}})
-        (Any {A = Unit {0}})
+        → Suits w d fs (drawn_by (words_each own_size)) ((gate (gates.Result ring u) >>= λ _. done tt) >>= telling (Private k) text) none_of
+        (NoFacts {A = Unit {0}}) (Any {A = Unit {0}})
     handing_suits fs k text u t =
         record {
           from = λ kinds s at facts.
@@ -75,7 +78,7 @@ module _ (w : World) (d : Dealt) where
                   made = let e = made-then s.gates gs in omega (arith, at.made);
                   drawn = λ i.
                       let more = words-then run gs own taken at.formed follows i in
-                      let owed = same_each (gate_size v.shape.element (size v)) (miner_of i) in
+                      let owed = same_each own_size (miner_of i) in
                       let own = gate_words_size v.shape.element v.words in
                       omega (arith, at.drawn i, owed, own);
                   answers = at.answers;
@@ -84,7 +87,8 @@ module _ (w : World) (d : Dealt) where
                       (ap (λ z. handed_values values s.gates ++ z ∷ []) (sym (h.words values (before values fit))) ∙ sym (handed_split values s.gates gs))
                       (and_handed text v.shape.element v.words p.range (at.handed values (before values fit)));
                   opened = λ clear values fit.
-                      learned_published s.events text (elements_of v) ∙ at.opened clear values (before values fit) ∙ sym (append-nil (opened_values values s.gates)) ∙ sym (opened_split values s.gates gs);
+                      learned_still s.events (event.Hand text (elements_of v)) refl ∙ at.opened clear values (before values fit)
+                      ∙ sym (append-nil (opened_values values s.gates)) ∙ sym (opened_split values s.gates gs);
                 };
                 facts = tt;
                 sure = tt;
@@ -97,9 +101,9 @@ module _ (w : World) (d : Dealt) where
         suits_bind w d (suits_done w d {F = NoFacts {A = Unit {0}}} {R = Any {A = Unit {0}}} (tell_none (facts_of v)) tt)
         (λ _ _. publish_suits w d (facts_of v) none_of text (elements_of v))
     handed_suits text (Private k) =
-        let owed = drawn_by (words_each (gate_size v.shape.element (size v))) in
-        suits_again w d (draw w (words_each (gate_size v.shape.element (size v)))) (λ _. number_of v >>= λ u. gate (gates.Result ring u) >>= λ _. done tt) (telling (Private k) text)
-        (suits_bind w d (draw_suits w d (facts_of v) (words_each (gate_size v.shape.element (size v)))) (λ _ _.
+        let owed = drawn_by (words_each own_size) in
+        suits_again w d (draw w (words_each own_size)) (λ _. number_of v >>= λ u. gate (gates.Result ring u) >>= λ _. done tt) (telling (Private k) text)
+        (suits_bind w d (draw_suits w d (facts_of v) (words_each own_size)) (λ _ _.
         suits_again w d (number_of v) (λ u. gate (gates.Result ring u) >>= λ _. done tt) (telling (Private k) text)
         (suits_bind w d (number_suits w d (facts_of v) owed v (tell_same (facts_of v)) p.range) (λ u _.
         handing_suits (fact u ring own_words ∷ facts_of v) k text u (tell_first _ _)))))

@@ -153,7 +153,8 @@ module _ (w : World) (d : Dealt) (v : Value) where
       suits_bind w d
       (suits_bind w d (zero_suits w d (fact u Arithmetic v.words ∷ fs) (size v) u v.words (tell_first _ _) refl) (λ z _.
       in_terms w d (ap packed (mapped_twice flipped zero_test v.words ∙ mapped_alike (λ x. flipped (zero_test x)) (cast_word WordToBool) v.words zero_flipped))
-      (flip_suits w d (fact z Boolean (packed zeros) ∷ (fact u Arithmetic v.words ∷ fs)) none_of (size v) z zeros (tell_first _ _) (length-map v.words zero_test)
+      (flip_suits w d (fact z Boolean (packed zeros) ∷ (fact u Arithmetic v.words ∷ fs)) none_of (size v) z zeros
+      (tell_first _ _) (length-map v.words zero_test)
       (mapped_low zero_test v.words zero_low)))) (λ r _.
       given_suits w d _ (shape_of datatype.Bool v.shape.array) (map (cast_word WordToBool) v.words) r (tell_first _ _) to_bool_low
       (mapped_small (cast_word WordToBool) v.words h.proper.small))))
@@ -167,7 +168,8 @@ module _ (w : World) (d : Dealt) (v : Value) where
       (gate_suits w d (fact u Boolean (packed v.words) ∷ fs) owed none_of owed (gates.Unpack u (size v)) Boolean (unpacked (packed v.words) (size v))
       (λ m. omega arith) refl (λ r good facts. unpack_gain r good u (packed v.words) facts.0 (size v) (length-packed v.words)))) (λ z _.
       in_terms w d (to_word_same h)
-      (gate_suits w d (fact z Boolean v.words ∷ (fact u Boolean (packed v.words) ∷ fs)) owed (λ m. words_of_conversion m (size v)) none_of (gates.Conv z) Arithmetic
+      (gate_suits w d (fact z Boolean v.words ∷ (fact u Boolean (packed v.words) ∷ fs)) owed
+      (λ m. words_of_conversion m (size v)) none_of (gates.Conv z) Arithmetic
       (map (λ x. x % 2) v.words)
       (λ m. let e = conversion_words (size v) m in omega (arith, e)) refl (λ r good facts. conv_gain r good z v.words facts.0)))) (λ r _.
       given_suits w d _ (shape_of Uint64 v.shape.array) (map (cast_word BoolToWord) v.words) r (tell_first _ _) (to_word_low h)

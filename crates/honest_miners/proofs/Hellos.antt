@@ -30,7 +30,7 @@ module _ (digest : List ℕ) (entries : List Entry) (t : FourTapes) (budget : �
   expected from to =
       let made : List PublicEntry → Hello =
       λ shapes. record {
-        version = 1;
+        version = 2;
         sender = count_of from;
         receiver = count_of to;
         code = digest;

@@ -31,6 +31,7 @@ use Rattle.view_model.specs.TapeMaps.{miners_of}
 use Rattle.verified_code.specs.Settled.{settled}
 use Rattle.verified_code.specs.Steps.{Function}
 use Rattle.gates.specs.Clear.{Values}
+use Rattle.language_model.specs.Learned.{learned_of}
 use Rattle.language_model.specs.Reports.{Offered, Report}
 use Rattle.code_places.specs.Dealt.{Dealt}
 use Rattle.driven_nodes.specs.Steps.{Running, Short, Stopped}
@@ -55,6 +56,8 @@ use Rattle.joined_nodes.specs.Joined.{AgreeWith, AreJoined, EndsAs, sent_by}
 use Rattle.joined_nodes.proofs.Ends.{begins-told}
 use Rattle.joined_nodes.proofs.Nodes.{joined_nodes_agree_on_programs}
 use Rattle.honest_miners.proofs.JoinedTexts.{texts_of_a_run_are_its_text}
+use Rattle.honest_miners.proofs.Paid.{events_paid}
+use Rattle.honest_miners.specs.Texts.{ArePaid}
 use Rattle.view_laws.specs.Ends.{CanBeWritten}
 use Rattle.view_laws.specs.Named.{AreNamed}
 use Rattle.view_laws.specs.Views.{AreCounted, CanBeRun}
@@ -223,7 +226,7 @@ module _ (p : TypedProgramTree) (entries : List Entry) (t : FourTapes) (budget :
   -- ---- where each stands
 
   abbrev Ended_so : Number → Type 0
-  Ended_so i = HasEndedSo budget end report.opened (agree.all i) (does i)
+  Ended_so i = HasEndedSo budget end (learned_of report.events) (agree.all i) (does i)
 
   module _ (i : Number) (last : Ended) (outcome : (strands_do i).outcome ≡ Finished last) (left : (run_of nodes mail i).left ≡ Ends last)
       (acts : (strands_do i).acts ≡ (run_of nodes mail i).acts) where
@@ -249,16 +252,16 @@ module _ (p : TypedProgramTree) (entries : List Entry) (t : FourTapes) (budget :
           told_all = ap told_in node_acts ∙ as_node.told;
         }
 
-  stands_so : (i : Number) → joined.Comes nodes full outputs hello coming mail i → WaitsOrHasEnded budget end report.opened (agree.all i) (does i)
+  stands_so : (i : Number) → joined.Comes nodes full outputs hello coming mail i → WaitsOrHasEnded budget end (learned_of report.events) (agree.all i) (does i)
   stands_so i (joined.waits_for e) = waits (ap (λ (r : Serving). r.outcome) (does_so i) ∙ e)
   stands_so i (joined.ends_with last outcome left acts) = has_ended (ended_so i last outcome left acts)
 
-  each : (i : Number) → WaitsOrHasEnded budget end report.opened (agree.all i) (does i)
+  each : (i : Number) → WaitsOrHasEnded budget end (learned_of report.events) (agree.all i) (does i)
   each i = stands_so i (comes accepts i)
 
   -- where all came
   finished : ((l : Link) → came_on p entries t budget digest code coming l ≡ sent_here l) → (i : Number)
-      → WaitsOrHasEnded budget end report.opened (agree.all i) (does i) → Ended_so i
+      → WaitsOrHasEnded budget end (learned_of report.events) (agree.all i) (does i) → Ended_so i
   finished all i (waits e) =
       no_wait (outputs i)
       (sym e ∙ ap (λ (r : Serving). r.outcome) (does_so i)
@@ -269,6 +272,9 @@ module _ (p : TypedProgramTree) (entries : List Entry) (t : FourTapes) (budget :
 
   named : AreNamed report.events
   named = events_named p offer budget h.accepted
+
+  paid : ArePaid report.cost report.events
+  paid = events_paid p offer budget h.accepted
 
   fits : AreCounted entries t budget → IsTextEnd end
   fits counted =
@@ -291,7 +297,7 @@ module _ (p : TypedProgramTree) (entries : List Entry) (t : FourTapes) (budget :
             (begins-trans _ _ _ (begins-on_link l _ _ (acts_begin (sender_of l))) (posted_begin l))));
         opened = λ i.
             begins-trans _ _ _ (begins-opened _ _ (acts_begin i))
-            (subst (λ (r : Ran Ended). Begins (opened_in r.acts) report.opened) (node_is i) (agree.opened i));
+            (subst (λ (r : Ran Ended). Begins (opened_in r.acts) (learned_of report.events)) (node_is i) (agree.opened i));
         all = agree.all;
         tells = agree.tells;
         told = λ i.
@@ -305,7 +311,7 @@ module _ (p : TypedProgramTree) (entries : List Entry) (t : FourTapes) (budget :
         end_fits = fits;
         texts = λ writable ended.
             ap (λ (told : Number → List Notice). join_of (λ i. Some (text_of (lines_told (told i) end)))) (λ d. λ i. (ended i).told_all d)
-            ∙ texts_of_a_run_are_its_text report.events agree.all end agree.tells named writable;
+            ∙ texts_of_a_run_are_its_text report.events agree.all end agree.tells named paid writable;
       }
 
 pub served_agree : (p : TypedProgramTree) (entries : List Entry) (t : FourTapes) (budget : ℕ) (digest : List ℕ) (code : RawCode)

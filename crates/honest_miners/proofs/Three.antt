@@ -13,6 +13,7 @@ use Rattle.bytecode.specs.Raw.{RawCode}
 use Rattle.program_trees.specs.TypedPrograms.{TypedProgramTree}
 use Rattle.value_file.specs.declared.inputs.Entry.{Entry}
 use Rattle.tape_file.specs.Tapes.{FourTapes}
+use Rattle.language_model.specs.Learned.{learned_of}
 use Rattle.language_model.specs.Reports.{Report}
 use Rattle.program_run.specs.Offers.{offered}
 use Rattle.program_run.specs.Reports.{eval_with, lengths_of}
@@ -91,7 +92,7 @@ module _ (p : TypedProgramTree) (entries : List Entry) (t : FourTapes) (budget :
   abbrev Writes : Number → Type 0
   Writes i = miner_of (asks i) (files i) (coming i) ≡ Ok (text_effect (asks i).out (text_of (lines_told (agree.all i) agree.end)) agree.end)
 
-  writes_so : (i : Number) → HasEndedSo budget agree.end report.opened (agree.all i) (does i) → Writes i
+  writes_so : (i : Number) → HasEndedSo budget agree.end (learned_of report.events) (agree.all i) (does i) → Writes i
   writes_so i e =
       answers_so i
       ∙ ap (λ (o : Outcome). answer_at (asks i) (does i).acts o) e.comes
@@ -99,7 +100,7 @@ module _ (p : TypedProgramTree) (entries : List Entry) (t : FourTapes) (budget :
       ∙ ap (λ (end : Option End). ended_answer (asks i).out (does i).acts end) e.ends
       ∙ ap (λ (told : List Notice). Ok (text_effect (asks i).out (text_of (lines_told told agree.end)) agree.end)) e.told_all
 
-  by_stand : (i : Number) → WaitsOrHasEnded budget agree.end report.opened (agree.all i) (does i)
+  by_stand : (i : Number) → WaitsOrHasEnded budget agree.end (learned_of report.events) (agree.all i) (does i)
       → (miner_of (asks i) (files i) (coming i) ≡ Err cut_off) ⊎ Writes i
   by_stand i (waits e) = inl (answers_so i ∙ ap (λ (o : Outcome). answer_at (asks i) (does i).acts o) e)
   by_stand i (has_ended e) = inr (writes_so i e)

@@ -14,6 +14,7 @@ use Rattle.tape_file.specs.Tapes.{FourTapes}
 use Rattle.input_share.specs.Dealing.{dealt}
 use Rattle.view_model.specs.TapeMaps.{miners_of}
 use Rattle.language_model.specs.Effects as effects
+use Rattle.language_model.specs.Learned.{learned_of}
 use Rattle.language_model.specs.Reports.{Report}
 use Rattle.program_run.specs.Accepted.{IsAccepted}
 use Rattle.program_run.specs.Codes.{IsCodeOf}
@@ -85,7 +86,7 @@ module _ (p : TypedProgramTree) (entries : List Entry) (t : FourTapes) (budget :
     -- beside this report of the run in the clear
     pub record AgreeWithTheRun (r : Report) : Type 0 where
       pub sent : (l : Link) → Begins (sent_on l) (run_bytes l)
-      pub opened : (i : Number) → Begins (opened_in (served i).acts) r.opened
+      pub opened : (i : Number) → Begins (opened_in (served i).acts) (learned_of r.events)
       -- three lists of notices tell the report's events: opened and public values all three alike, private ones as shares that add up to them;
       -- what each miner has told begins its own of the three
       pub all : Number → List Notice
@@ -95,13 +96,13 @@ module _ (p : TypedProgramTree) (entries : List Entry) (t : FourTapes) (budget :
       pub end : End
       pub how : r.stop ≡ effects.Ended end.how
       pub cost : end.cost ≡ r.cost
-      pub each : (i : Number) → WaitsOrHasEnded budget end r.opened (all i) (served i)
-      pub finished : ((l : Link) → came_on l ≡ sent_on l) → (i : Number) → HasEndedSo budget end r.opened (all i) (served i)
+      pub each : (i : Number) → WaitsOrHasEnded budget end (learned_of r.events) (all i) (served i)
+      pub finished : ((l : Link) → came_on l ≡ sent_on l) → (i : Number) → HasEndedSo budget end (learned_of r.events) (all i) (served i)
       -- this end can be written: its numbers have room, where 64 bits count the steps of the budget, the inputs, and the words of each tape
       pub end_fits : AreCounted entries t budget → IsEnd end
       -- and then the texts of three that have ended are put together to the text of the run
       pub texts :
-          IsEnd end → ((i : Number) → HasEndedSo budget end r.opened (all i) (served i))
+          IsEnd end → ((i : Number) → HasEndedSo budget end (learned_of r.events) (all i) (served i))
           → join_of (λ i. Some (node_text (served i).acts end)) ≡ Ok (record { text = run_text r.events end; end = end })
 
     -- they agree with the program's evaluation

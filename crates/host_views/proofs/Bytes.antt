@@ -33,7 +33,7 @@ module _ (p : TypedProgramTree) (entries : List Entry) (t : FourTapes) (budget :
   hello_is =
       let made : List PublicEntry → Hello =
       λ shapes. record {
-        version = 1;
+        version = 2;
         sender = count_of (sender_of l);
         receiver = count_of (receiver_of l);
         code = digest;

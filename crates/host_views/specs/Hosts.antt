@@ -33,7 +33,7 @@ module _ (digest : List ℕ) (part : List PublicEntry) (lengths : List ℕ) (bud
   abbrev pub public_hello : Link → Hello
   public_hello l =
       record {
-        version = 1;
+        version = 2;
         sender = count_of (sender_of l);
         receiver = count_of (receiver_of l);
         code = digest;

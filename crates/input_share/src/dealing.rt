@@ -36,7 +36,7 @@ impl Drop for Dealt {
 /// Why inputs are not dealt.
 #[derive(Clone, Copy, Debug)]
 pub enum DealErr {
-    /// The dealer has fewer words than it needs: two for each element of a private input.
+    /// The dealer has fewer words than it needs: two for each word in which a private input is shared.
     TapeShort { need: u128, have: u64 },
     /// Memory ran short.
     Memory,
@@ -50,7 +50,7 @@ impl From<AllocError> for DealErr {
     }
 }
 
-/// What two masks leave of each element.
+/// What two masks leave of each word.
 fn left<R: ShareRing>(
     alloc: Global,
     elements: &[u64],
@@ -68,7 +68,7 @@ fn left<R: ShareRing>(
     Ok(left)
 }
 
-/// What two masks leave of each element, in the ring of their data type.
+/// What two masks leave of each word, in the ring of their data type.
 fn left_in(
     alloc: Global,
     data_type: DataType,
@@ -86,7 +86,7 @@ fn left_in(
     }
 }
 
-/// A miner's share of elements of a data type, under the dealer's words that come next.
+/// A miner's share of the words of a value of a data type, under the dealer's words that come next.
 fn share(
     alloc: Global,
     miner: Number,
@@ -195,12 +195,12 @@ fn dealt_entries(
     Ok(mine)
 }
 
-/// Deals inputs to the three miners. For each private input of n elements, in order, the dealer's next n words are miner 1's
-/// share and the n words after them miner 2's; miner 3 has what these leave of the elements, for numbers modulo 2^64, for
-/// truth values (0 or 1) under xor. Public inputs stand in each file as they are. `lens` are the lengths of the tapes of the
-/// dealer and of miners 1, 2 and 3.
+/// Deals inputs to the three miners. A private input is shared in m words: numbers in a word each, truth values packed, 64 in
+/// a word. For each private input, in order, the dealer's next m words are miner 1's share and the m words after them miner
+/// 2's; miner 3 has what these leave of the input's words, for numbers modulo 2^64, for truth values under xor. Public inputs
+/// stand in each file as they are. `lens` are the lengths of the tapes of the dealer and of miners 1, 2 and 3.
 ///
-/// `TapeShort` comes exactly where the dealer has fewer words than two for each element of a private input.
+/// `TapeShort` comes exactly where the dealer has fewer words than two for each word in which a private input is shared.
 pub fn deal(alloc: Global, inputs: &Inputs, words: &[u64], lens: [u64; 4]) -> Result<Dealt, DealErr>
     ensures first { IfOk result (λ files. files.first ≡ dealt One inputs.now words.now lens) }
     ensures second { IfOk result (λ files. files.second ≡ dealt Two inputs.now words.now lens) }

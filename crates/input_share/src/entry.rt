@@ -5,7 +5,7 @@ ghost use Rattle.input_share.specs.ShareFile.{words_in};
 use sc_text::Name;
 use value_file::{DataType, Shape, Value, Words};
 
-/// One miner's share of a private value: a word for each element, in order.
+/// One miner's share of a private value, in order: a word for each number, or one for each 64 truth values.
 pub struct Shared {
     pub data_type: DataType,
     pub shape: Shape,

@@ -24,5 +24,6 @@ pub use forms::dealt_files_are_writable;
 pub use reading::read_share;
 pub use shapes::{dealing_keeps_shapes, shape_part};
 pub use share_file::ShareFile;
+pub use values::{shared_as, shared_size};
 pub use words::{see_entries, see_value, see_words};
 pub use writing::write_share;

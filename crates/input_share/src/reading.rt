@@ -252,8 +252,9 @@ fn file(alloc: Global, miner: u8, json: &Json) -> Result<ShareFile, ReadErr>
 }
 
 /// Reads the share file of this miner, which is like an input file but that a private entry has `shape` (`"scalar"` or the
-/// count of its elements) and then `share` (the list of as many words) in place of `value`, and that `lens` (the lengths of
-/// the four tapes) and `miner` (1, 2 or 3) stand beside `inputs`.
+/// count of its elements) and then `share` (a list of words: one for each number, one for each 64 truth values or fewer) in
+/// place of `value`, and that `lens` (the lengths of the four tapes) and `miner` (1, 2 or 3) stand beside `inputs`. Bits of a
+/// share's last word that stand for no truth value are taken as they are.
 ///
 /// `Syntax`, `BadField` and `TooLong` are as in `value_file::read`; the fields at top are tested after the entries, first
 /// `lens` and then `miner`, which is bad as well where it isn't the miner given.

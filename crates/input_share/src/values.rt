@@ -49,8 +49,8 @@ pub fn count(value: &Value) -> usize
 // No memory holds more bits.
 const MOST_BITS: usize = 4611686018427387904;
 
-/// How many words share so many elements.
-pub(crate) fn shared_size(data_type: DataType, count: u64) -> u64
+/// How many words share so many elements: a word for each number, and one for each 64 truth values or fewer.
+pub fn shared_size(data_type: DataType, count: u64) -> u64
     ensures size { result ≡ shared_size data_type count }
     ensures fewer { result ≤ count }
 {
@@ -60,8 +60,8 @@ pub(crate) fn shared_size(data_type: DataType, count: u64) -> u64
     }
 }
 
-/// Elements as they are shared.
-fn shared_as(
+/// Elements as they are shared: numbers one by one, truth values (0 or 1) packed. Fails where memory runs out.
+pub fn shared_as(
     alloc: Global,
     data_type: DataType,
     elements: Vec<u64>,

@@ -19,6 +19,7 @@ use Rattle.tape_file.specs.Tapes.{FourTapes}
 use Rattle.value_file.specs.declared.inputs.Entry.{Entry}
 use Rattle.program_trees.specs.TypedPrograms.{TypedProgramTree}
 use Rattle.gates.specs.Clear.{Values}
+use Rattle.language_model.specs.Learned.{learned_of}
 use Rattle.language_model.specs.Reports.{Report, Offered}
 use Rattle.verified_code.specs.Settled.{settled}
 use Rattle.verified_code.specs.Steps.{Function}
@@ -119,7 +120,7 @@ module _ (o : Offered) (d : Dealt) (c : List Function) (budget : ℕ) (tapes : T
   agree =
       record {
         sent = λ l. subst (λ v. Begins v (full l)) (sym (posts l)) (sent l);
-        opened = λ i. subst (λ v. Begins v r.opened) (sym (opens i)) (subst (λ v. Begins (opened_by own mail i) v) (ran.opened i) (opened i));
+        opened = λ i. subst (λ v. Begins v (learned_of r.events)) (sym (opens i)) (subst (λ v. Begins (opened_by own mail i) v) (ran.opened i) (opened i));
         all = λ i. told_in (run_of own full i).acts;
         tells = ran.told;
         told = λ i. subst (λ v. Begins v (told_in (run_of own full i).acts)) (sym (tells i)) (begins-told _ _ (acts i));

@@ -10,6 +10,7 @@ use Rattle.proto_core.specs.Net.{MailBegins}
 use Rattle.proto_core.specs.Standing.{AtItsEnd, Refuses}
 use Rattle.protocol_model.specs.Runs.{Tapes}
 use Rattle.language_model.specs.Effects as effects
+use Rattle.language_model.specs.Learned.{learned_of}
 use Rattle.language_model.specs.Reports.{Report, Offered}
 use Rattle.verified_code.specs.Steps.{Function}
 use Rattle.code_places.specs.Dealt.{Dealt}
@@ -33,14 +34,14 @@ module _ (o : Offered) (d : Dealt) (c : List Function) (budget : ℕ) (tapes : T
   pub record EndsAs (r : Report) (ending : Ending) (all : List Notice) (i : Number) (s : Story) : Type 0 where
     pub ended : HasEnded (node i s).left (end.Over ending)
     pub cost : AtStop i s (λ p. budget - p.stage.left ≡ r.cost)
-    pub opened : has_opened i s ≡ r.opened
+    pub opened : has_opened i s ≡ learned_of r.events
     pub told : has_told i s ≡ all
 
   pub record AgreeWith (r : Report) (nodes : Number → Story) : Type 0 where
     -- what was sent begins what is sent in the joint run
     pub sent : MailBegins (sent_by nodes) (messages d r tapes)
     -- what each has opened begins what the report opens
-    pub opened : (i : Number) → Begins (has_opened i (nodes i)) r.opened
+    pub opened : (i : Number) → Begins (has_opened i (nodes i)) (learned_of r.events)
     -- three lists of notices tell the report's events: opened and public values all three alike, private ones as shares that add up to them;
     -- what each node has told begins its own of the three
     pub all : Number → List Notice

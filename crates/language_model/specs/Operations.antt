@@ -31,7 +31,8 @@ use Rattle.reached_instances.specs.Cast.TheVariants.{WordToWord, WordToBool, Boo
 pub use Rattle.reached_instances.specs.Operators.{cast_shape, is_product, result_shape}
 use Rattle.reached_instances.specs.Shapes.{shape_of}
 use Rattle.language_model.specs.Effects.{Words, World, Effect, ◌>>=◌, done, charge, test, words_each, draw, gate, planned, next_number, emit, answer, show}
-use Rattle.language_model.specs.Values.{Secrecy, Plain, Private, Value, plain, hidden, is_secret, size, visible_words, is_true, ring_for, gate_words, gate_size, elements_of}
+use Rattle.language_model.specs.Values.{Secrecy, Plain, Private, Value, plain, hidden, is_secret, size, visible_words, is_true, elements_of}
+use Rattle.language_model.specs.Values.{ring_for, gate_words, gate_size}
 use Rattle.language_model.specs.Words as W
 
 -- ---- THE PARTS OF AN OPERATION

@@ -11,6 +11,8 @@ use Rattle.program_trees.specs.declared.expression.DataType.TheVariants as datat
 use Rattle.plans.specs.Gate.TheVariants as gate
 use Rattle.plans.specs.Clear.{bits_of}
 use Rattle.plans.specs.RingKind.TheVariants.{Arithmetic, Boolean}
+use Rattle.plans.specs.Bits.{number_with, words_with}
+use Rattle.plans.specs.Gathered.{packed}
 use Rattle.reached_instances.specs.Slot.{Slot}
 use Rattle.reached_instances.specs.SlotDomain.{SlotDomain}
 use Rattle.reached_instances.specs.SlotDomain.TheVariants as domain
@@ -23,15 +25,16 @@ use Rattle.reached_instances.specs.Operands.TheVariants.{Scalars, Arrays}
 use Rattle.reached_instances.specs.Connective.TheVariants.{AndAlso}
 use Rattle.reached_instances.specs.Cast.TheVariants.{WordToBool, BoolToWord}
 use Rattle.reached_instances.specs.TypedTree.{TypedTree, word_node, truth_node, slot_node, call_node, bits_node, element_node, cast_node, binary_node, cut_node}
-use Rattle.reached_instances.specs.TypedTree.{declassify_node, typed_trees_of}
+use Rattle.reached_instances.specs.TypedTree.{cat_node, not_node, declassify_node, typed_trees_of}
 use Rattle.reached_instances.specs.TypedStatements.{TypedStatementTree, typed_statements_of, empty_statement, block_statement, if_statement, loop_statement}
 use Rattle.reached_instances.specs.TypedStatements.{do_statement}
 use Rattle.reached_instances.specs.TypedStatements.{return_statement, continue_statement, assert_statement, store_statement, default_statement, fill_statement}
-use Rattle.reached_instances.specs.TypedStatements.{input_statement, publish_statement}
+use Rattle.reached_instances.specs.TypedStatements.{input_statement, element_statement, publish_statement}
 use Rattle.reached_instances.specs.TypedPrograms.{TypedFunctionTree, TypedProgramTree}
 use Rattle.reached_instances.specs.Shapes.{shape_of}
 use Rattle.language_model.specs.Effects.{Words, words_each, GivenInput, RunStop, Ended, Short}
 use Rattle.language_model.specs.Evaluation.{value, arguments, turns, repeats, execute, execute_all, call_at}
+use Rattle.language_model.specs.Learned.{learned_of}
 use Rattle.language_model.specs.Reports.{Report, Offered, eval, blind}
 
 -- ---- HOW PROGRAMS ARE WRITTEN HERE
@@ -47,6 +50,9 @@ words_in d = slot d Uint64 true
 
 abbrev bool_in : SlotDomain → Slot
 bool_in d = slot d datatype.Bool false
+
+abbrev bools_in : SlotDomain → Slot
+bools_in d = slot d datatype.Bool true
 
 abbrev private : SlotDomain
 private = domain.Private 0
@@ -76,6 +82,9 @@ secret_bool text n = record { text = text; secret = true; shape = shape_of datat
 
 abbrev secret_words : List ℕ → List ℕ → GivenInput
 secret_words text ns = record { text = text; secret = true; shape = shape_of Uint64 true; words = ns }
+
+abbrev secret_bools : List ℕ → List ℕ → GivenInput
+secret_bools text ns = record { text = text; secret = true; shape = shape_of datatype.Bool true; words = ns }
 
 abbrev offered : List GivenInput → Offered
 offered inputs = record { dealer = 100000; lengths = words_each 100000; inputs = inputs }
@@ -317,6 +326,50 @@ either_told : eval either_bool (offered (secret_bool (codes "a") 1 ∷ secret_bo
     }
 unfolding value arguments turns repeats execute execute_all call_at
 either_told = refl
+
+-- p bool[[1]] a = argument("a"); bool[[1]] c = declassify(a & a); publish("c", c); of 65 elements, which are two words
+abbrev both_bools : TypedProgramTree
+both_bools =
+    program (bools_in private ∷ bools_in domain.Public ∷ [])
+    (ask 0 (codes "a") ∷ store_statement 1 (declassify_node (binary_node 2 (operator.Bools truth.And) Arrays (slot_node 0) (slot_node 0)))
+    ∷ tell (codes "c") (slot_node 1) ∷ [])
+
+abbrev needs_and_cost : Report → ℕ × Words × ℕ
+needs_and_cost r = (r.dealt, r.drawn, r.cost)
+
+many_bools_need : needs_and_cost (eval both_bools (offered (secret_bools (codes "a") (replicate 65 1) ∷ [])) 1000000) ≡ (4, words_each 8, 390)
+unfolding value arguments turns repeats execute execute_all call_at
+many_bools_need = refl
+
+-- p bool[[1]] b = cat(cat(!a, a), a); b[1] = a[0]; p bool[[1]] c (3, b[0]); publish("c", c);
+abbrev arrays_of_bools : TypedProgramTree
+arrays_of_bools =
+    program (bools_in private ∷ bools_in private ∷ bools_in private ∷ [])
+    (ask 0 (codes "a") ∷ store_statement 1 (cat_node 2 (cat_node 2 (not_node (slot_node 0)) (slot_node 0)) (slot_node 0))
+    ∷ element_statement 2 1 (word_node 1) (element_node 2 (slot_node 0) (word_node 0))
+    ∷ fill_statement 2 2 (word_node 3) (element_node 2 (slot_node 1) (word_node 0)) ∷ tell (codes "c") (slot_node 2) ∷ [])
+
+arrays_told : eval arrays_of_bools (offered (secret_bools (codes "a") (0 ∷ 1 ∷ []) ∷ [])) 1000000
+    ≡ record {
+      stop = Ended ending.Done;
+      cost = 31;
+      dealt = 2;
+      drawn = words_each 1;
+      events = Hand (codes "c") (replicate 3 (Truth true)) ∷ [];
+      opened = [];
+      gates =
+          gate.Input 0 ∷ gate.Const (3 ∷ []) ∷ gate.Xor 0 1 ∷ gate.CatBit 2 2 0 2 ∷ gate.CatBit 3 4 0 2 ∷ gate.PartBit 0 0
+          ∷ gate.PutBit 4 1 5 ∷ gate.PartBit 6 0 ∷ gate.RepBit 7 3 ∷ gate.Result Boolean 8 ∷ [];
+    }
+unfolding value arguments turns repeats execute execute_all call_at packed words_with number_with
+arrays_told = refl
+
+-- the gates have opened the truth values as one word
+bools_learned :
+    learned_of (Open (Truth true ∷ Truth false ∷ Truth true ∷ []) ∷ Hand (codes "c") (Truth true ∷ []) ∷ Open (Word 7 ∷ Word 8 ∷ []) ∷ [])
+    ≡ 5 ∷ 7 ∷ 8 ∷ []
+unfolding packed words_with number_with
+bools_learned = refl
 
 -- p uint64 k = a + 3; publish("k", declassify(k)); the 3 is classified
 abbrev with_three : TypedProgramTree

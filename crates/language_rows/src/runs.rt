@@ -81,7 +81,7 @@ const OPENED: &str = "p uint64 a = argument(\"a\"); publish(\"x\", declassify(a)
 const TAPES: [u64; 4] = [100, 100, 100, 100];
 
 // The body of `main`, the inputs, and the lengths of the tapes of the dealer and of the miners.
-const RUNS: [(&str, &str, [u64; 4]); 14] = [
+const RUNS: [(&str, &str, [u64; 4]); 15] = [
     (
         "p uint64[[1]] a = argument(\"a\"); publish(\"x\", cat(a, a));",
         NUMBERS,
@@ -116,6 +116,11 @@ const RUNS: [(&str, &str, [u64; 4]); 14] = [
     (
         "p bool c = argument(\"c\"); publish(\"x\", (uint64) !c);",
         TRUTHS,
+        TAPES,
+    ),
+    (
+        "p bool[[1]] t (65) = true; t[64] = false; publish(\"x\", t[64]); publish(\"y\", cat(t, t)[129]); publish(\"z\", (uint64) t[63]);",
+        "",
         TAPES,
     ),
     (OPENED, NUMBER, [2, 1, 1, 1]),

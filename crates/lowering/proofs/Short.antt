@@ -97,7 +97,7 @@ fits_short (Branch r v target) h = two_fitting r target h.1.0 h.1.1.1.0
 fits_short (Jump target) h = fitting target h.1.0
 fits_short (Call f d arguments line) h =
     ap₂ (λ (x y : Bool). x && y) (fitting f h.1.0)
-    (ap₂ (λ (x y : Bool). x && y) (fitting d h.1.1.0) (all_fitting arguments (source_line line ∷ []) h.1.1.1))
+    (ap₂ (λ (x y : Bool). x && y) (fitting d h.1.1.0) (all_fitting arguments (source_line line ∷ []) h.1.1.1.1))
 fits_short (Return r) h = fitting r h.1.0
 fits_short ReturnNone h = refl
 

@@ -16,6 +16,7 @@ mod letting_go;
 mod miner;
 mod no_tapes;
 mod notice;
+mod opened;
 mod outcome;
 mod plan;
 mod speech;

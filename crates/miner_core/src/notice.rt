@@ -12,7 +12,7 @@ use sc_text::Name;
 use std::alloc::{AllocError, Global};
 use value_steps::{Secrecy, Stage};
 
-/// What a miner tells: words, of a value of this shape; a truth value is 1 or 0, and of a share of one bit 0 counts.
+/// What a miner tells: words, of a value of this shape; a truth value is 1 or 0. A share of truth values has 64 of them in a word.
 pub enum Notice {
     /// A value that all three have opened.
     Shown {
@@ -25,10 +25,11 @@ pub enum Notice {
         shape: Shape,
         words: Vec<u64>,
     },
-    /// Its own share of a private one.
+    /// Its own share of a private one, which has so many elements.
     Handed {
         name: Name,
         shape: Shape,
+        count: u64,
         words: Vec<u64>,
     },
 }
@@ -46,6 +47,7 @@ impl Drop for Notice {
             Notice::Handed {
                 name: _,
                 shape: _,
+                count: _,
                 words: _,
             } => {}
         }
@@ -79,8 +81,14 @@ fn notice_of(
                     Ok(Some(Notice::Published { name, shape, words }))
                 }
                 Secrecy::Private(_) => {
+                    let count = value.size();
                     let words = Vec::from_slice(alloc, last)?;
-                    Ok(Some(Notice::Handed { name, shape, words }))
+                    Ok(Some(Notice::Handed {
+                        name,
+                        shape,
+                        count,
+                        words,
+                    }))
                 }
             }
         }
@@ -125,6 +133,7 @@ fn add_shown(words: &mut Vec<u64>, notice: &Notice) -> Result<(), AllocError>
         Notice::Handed {
             name: _,
             shape: _,
+            count: _,
             words: _,
         } => Ok(()),
     }

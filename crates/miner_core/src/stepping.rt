@@ -2,10 +2,11 @@
 ghost use Rattle.std.specs.Prelude.{◌≡◌, ◌≤◌, [], true, IfOk, drop, length};
 ghost use Rattle.code_machine.specs.Standing.{IsComing, Stands};
 ghost use Rattle.own_code.specs.Places.{step_told};
-ghost use Rattle.miner_core.specs.TurnViews.{place_in, went_to};
+ghost use Rattle.miner_core.specs.TurnViews.{place_in, step_answered, went_to};
 ghost use Rattle.miner_core.specs.Engines.{IsDone};
 ghost use Rattle.miner_core.specs.Views.{task_world, task_code};
 
+use crate::opened::answers_told;
 use crate::outcome::Turned;
 use crate::step::{given_back, lent, turned};
 use crate::task::Task;
@@ -37,8 +38,32 @@ pub(crate) fn step_alone(
     turned(stepped)
 }
 
-/// The next step, which was read off the code, told these words. Words that it doesn't take are let go. A step that doesn't go on leaves the
+/// The next step, which was read off the code, with these answers. Answers that it doesn't take are let go. A step that doesn't go on leaves the
 /// machine as it was; with no memory left the stage may be anything.
+fn step_answered(
+    alloc: Global,
+    task: &Task,
+    machine: &mut Machine,
+    stage: &mut Stage<'_>,
+    coming: Option<Step<'_>>,
+    answers: &[u64],
+) -> Result<Turned, AllocError>
+    requires stands { Stands task.now.code machine.old }
+    requires comes { IsComing task.now.code machine.old coming }
+    ensures step { IfOk result (λ turned.
+        step_answered (task_world task.now) (task_code task.now) (place_in task.now.code machine.old stage.old) answers.now
+        ≡ went_to task.now.code turned machine.new stage.new) }
+    ensures stands { Stands task.now.code machine.new }
+{
+    let world = task.world();
+    let mut own = lent(alloc, stage, answers);
+    let stepped = take_step(alloc, &world, &task.code, machine, &mut own, coming);
+    *stage = given_back(own);
+    turned(stepped)
+}
+
+/// The next step, which was read off the code, told these words that the gates have opened. What it doesn't take of them is let go. A step that
+/// doesn't go on leaves the machine as it was; with no memory left the stage may be anything.
 pub(crate) fn step_told(
     alloc: Global,
     task: &Task,
@@ -53,11 +78,8 @@ pub(crate) fn step_told(
         ≡ went_to task.now.code turned machine.new stage.new) }
     ensures stands { Stands task.now.code machine.new }
 {
-    let world = task.world();
-    let mut own = lent(alloc, stage, told);
-    let stepped = take_step(alloc, &world, &task.code, machine, &mut own, coming);
-    *stage = given_back(own);
-    turned(stepped)
+    let answers = answers_told(alloc, coming, machine, told)?;
+    step_answered(alloc, task, machine, stage, coming, &answers)
 }
 
 /// Whether a step has led on and is done with: no gate was made since so many were there, and no event.

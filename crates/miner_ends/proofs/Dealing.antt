@@ -6,14 +6,20 @@ use Rattle.protocol_model.specs.Gates.{sizes_of}
 use Rattle.gates.specs.declared.ring_kind.RingKind.{RingKind}
 use Rattle.gates.specs.declared.ring_kind.RingKind.TheVariants.{Arithmetic, Boolean}
 use Rattle.gates.specs.Clear.{Values, value, ring_of}
+use Rattle.gates.specs.Gathered.{packed}
+use Rattle.gates.proofs.Sharing.{packed-sum}
 use Rattle.shared_gates.specs.Shares.{Kind, Shared, kind_at, sum_of, AreShares, Holds}
+use Rattle.shared_gates.proofs.LocalGates.{adding, shares-adding}
+use Rattle.program_trees.specs.declared.expression.DataType.{DataType}
+use Rattle.program_trees.specs.declared.expression.DataType.TheVariants as datatype
 use Rattle.language_model.specs.Effects.{GivenInput}
 use Rattle.language_model.specs.Evaluation.{behind}
-use Rattle.language_model.specs.Values.{ring_for}
+use Rattle.language_model.specs.Values.{ring_for, gate_words, gate_size}
 use Rattle.code_model.specs.Kinded.{IsSingle, AreSingle}
 use Rattle.gate_laws.specs.Dealt.{Dealt}
 use Rattle.gate_laws.specs.Laws.{IsDealing}
 use Rattle.gate_laws.specs.Offers.{IsDealt, AreOffered}
+use Rattle.gate_laws.proofs.GateWords.{gate_words_size}
 use Rattle.miner_ends.specs.Known.{AreKnown, size_then, private_sizes}
 
 abbrev words_then : Bool → List ℕ → Values → Values
@@ -24,9 +30,13 @@ abbrev kind_then : Bool → RingKind → List Kind → List Kind
 kind_then true ring ks = Shared ring ∷ ks
 kind_then false ring ks = ks
 
+-- its words in the gates
+abbrev own_words : GivenInput → List ℕ
+own_words x = gate_words x.shape.element x.words
+
 abbrev pub private_words : List GivenInput → Values
 private_words [] = []
-private_words (x ∷ xs) = words_then x.secret x.words (private_words xs)
+private_words (x ∷ xs) = words_then x.secret (own_words x) (private_words xs)
 
 abbrev pub private_kinds : List GivenInput → List Kind
 private_kinds [] = []
@@ -40,8 +50,10 @@ sizes_are [] = refl
 sizes_are (x ∷ xs) = by x.secret (sizes_are xs)
   where
     by : (b : Bool) → sizes_of (private_words xs) ≡ private_sizes xs
-        → sizes_of (words_then b x.words (private_words xs)) ≡ size_then b (length x.words) (private_sizes xs)
-    by true e = ap (λ ns. length x.words ∷ ns) e
+        → sizes_of (words_then b (own_words x) (private_words xs)) ≡ size_then b (gate_size x.shape.element (length x.words)) (private_sizes xs)
+    by true e =
+        ap (λ ns. length (own_words x) ∷ ns) e
+        ∙ ap (λ n. n ∷ private_sizes xs) (gate_words_size x.shape.element x.words)
     by false e = e
 
 -- ---- they are shares
@@ -58,6 +70,11 @@ zeros_shared ring ws zeros =
       sum = λ k lt. zeros_add ring (at ws k) (at ws k) (at ws k) (zeros k) (zeros k) (zeros k) ∙ sym (zeros k);
     }
 
+-- so are the words of truth values, packed
+words_shared : (e : DataType) (ws : List ℕ) → ((k : ℕ) → at ws k ≡ 0) → AreShares (ring_of (ring_for e)) (gate_words e ws) (λ i. gate_words e ws)
+words_shared datatype.Uint64 ws zeros = zeros_shared Arithmetic ws zeros
+words_shared datatype.Bool ws zeros = shares-adding (packed ws) (λ i. packed ws) (packed-sum (adding ws (λ i. ws) (zeros_shared Boolean ws zeros)))
+
 abbrev AreHeld : List Kind → Values → Type 0
 AreHeld kinds vs = (k : ℕ) → k < length vs → Holds (kind_at kinds k) (value vs k) (λ i. value vs k)
 
@@ -66,8 +83,8 @@ held [] h = λ k lt. absurd (omega (arith, lt))
 held (x ∷ xs) h = by x.secret refl (held xs h.1)
   where
     by : (b : Bool) → x.secret ≡ b → AreHeld (private_kinds xs) (private_words xs)
-        → AreHeld (kind_then b (ring_for x.shape.element) (private_kinds xs)) (words_then b x.words (private_words xs))
-    by true e more zero lt = zeros_shared (ring_for x.shape.element) x.words (h.0.hidden e)
+        → AreHeld (kind_then b (ring_for x.shape.element) (private_kinds xs)) (words_then b (own_words x) (private_words xs))
+    by true e more zero lt = words_shared x.shape.element x.words (h.0.hidden e)
     by true e more (suc k) lt = more k (omega (arith, lt))
     by false e more k lt = more k lt
 
@@ -91,7 +108,7 @@ module _ (d : Dealt) where
         many = let m = h.many in omega (arith, m);
       }
 
-  dealt_at : (x : GivenInput) (k : ℕ) (vs : Values) (ks : List Kind) → Follow k (x.words ∷ vs) (Shared (ring_for x.shape.element) ∷ ks) → IsDealt d x k
+  dealt_at : (x : GivenInput) (k : ℕ) (vs : Values) (ks : List Kind) → Follow k (own_words x ∷ vs) (Shared (ring_for x.shape.element) ∷ ks) → IsDealt d x k
   dealt_at x k vs ks h =
       let here : k + 0 ≡ k = omega arith in
       let many = h.many in
@@ -114,12 +131,12 @@ module _ (d : Dealt) where
       not_both {b = false} e f = cc
 
       by : (b : Bool) → x.secret ≡ b
-          → Follow k (words_then b x.words (private_words xs)) (kind_then b (ring_for x.shape.element) (private_kinds xs))
+          → Follow k (words_then b (own_words x) (private_words xs)) (kind_then b (ring_for x.shape.element) (private_kinds xs))
           → (x.secret ≡ true → IsDealt d x k) × Follow (behind x k) (private_words xs) (private_kinds xs)
       by true e h = (
         λ _. dealt_at x k (private_words xs) (private_kinds xs) h,
         subst (λ b. Follow (if b then k + 1 else k) (private_words xs) (private_kinds xs)) (sym e)
-            (behind_one k x.words (private_words xs) (Shared (ring_for x.shape.element)) (private_kinds xs) h),
+            (behind_one k (own_words x) (private_words xs) (Shared (ring_for x.shape.element)) (private_kinds xs) h),
       )
       by false e h = (
         λ yes. absurd (not_both yes e),

@@ -2,6 +2,7 @@ pub mod Hears
 pub mod HearSteps
 pub mod OwnEnds
 pub mod Openings
+pub mod Answers
 pub mod Steps
 pub mod Dealing
 pub mod Runs

@@ -1,4 +1,4 @@
--- A step that wants words has opened a value last, and goes on where it is told as many words as this value has.
+-- A step that wants words has opened a value last, and goes on where it is told as many elements as this value has.
 use Rattle.std.proofs.Common.{◌≡◌, ℕ, ◌+◌, ◌≤◌, List, [], ◌∷◌, ◌++◌, Bool, true, false, cond, Option, Ok, Err}
 use Rattle.std.proofs.Common.{refl, sym, ◌∙◌, ap, subst, arith, append_assoc}
 use Rattle.std.specs.Prelude.{length, nat_le, take, drop}
@@ -14,13 +14,14 @@ use Rattle.shared_gates.specs.Shares.{Kind}
 use Rattle.shared_gates.specs.Model.{sizes_after}
 use Rattle.language_model.specs.Effects.{World, Answers, Stage, RunStop, Short, Run, Effect, ◌>>=◌, carry, done, draw, gate, answer, emit, show}
 use Rattle.language_model.specs.Effects.{words_each}
-use Rattle.language_model.specs.Values.{Secrecy, Plain, Private, Value, plain, size, ring_for, elements_of}
+use Rattle.language_model.specs.Values.{Secrecy, Plain, Private, Value, plain, size, ring_for, gate_words, gate_size, elements_of}
 use Rattle.language_model.specs.Operations.{charged, no_traps, number_of, read_answer, revealed, opened_from, declassified}
 use Rattle.blind_evaluation.specs.Courses.{IsEnded}
 use Rattle.gate_laws.specs.Dealt.{Dealt, drawn_by}
 use Rattle.gate_laws.specs.Facts.{IsProper, none_of, AllStand, facts_of, run_at, IsAt, Comes, ComesAt, Suits}
 use Rattle.gate_laws.proofs.Effects.{Any, suits_bind, draw_suits}
 use Rattle.gate_laws.proofs.Gains.{fact}
+use Rattle.gate_laws.proofs.GateWords.{gate_words_size}
 use Rattle.gate_laws.proofs.Parts.{plain_charge, number_suits, tell_same}
 use Rattle.gate_laws.proofs.Singles.{stands_size}
 use Rattle.code_places.proofs.Quiet.{KeptAt, Quiet, quiet_bind, quiet_done, quiet_draw}
@@ -48,9 +49,16 @@ module _ (w : World) (source : w.source ≡ Answers) (v : Value) where
   abbrev ring : RingKind
   ring = ring_for v.shape.element
 
+  -- its words in the gates, and how many they are
+  abbrev own_words : List ℕ
+  own_words = gate_words v.shape.element v.words
+
+  abbrev own_size : ℕ
+  own_size = gate_size v.shape.element (size v)
+
   -- up to the gate that opens
   abbrev pub before : Effect ℕ
-  before = charged no_traps (size v) >>= λ _. draw w (words_each (size v)) >>= λ _. number_of v
+  before = charged no_traps (size v) >>= λ _. draw w (words_each own_size) >>= λ _. number_of v
 
   abbrev behind : ℕ → Effect Value
   behind u = gate (Open ring u) >>= λ _. revealed w v
@@ -72,7 +80,7 @@ module _ (w : World) (source : w.source ≡ Answers) (v : Value) where
 
   before_quiet : Quiet true before
   before_quiet =
-      quiet_bind true (untrapped_quiet true (size v)) (λ _. quiet_bind true (quiet_draw true w (words_each (size v))) (λ _. number_quiet true v))
+      quiet_bind true (untrapped_quiet true (size v)) (λ _. quiet_bind true (quiet_draw true w (words_each own_size)) (λ _. number_quiet true v))
 
   -- ---- in two parts
 
@@ -85,8 +93,8 @@ module _ (w : World) (source : w.source ≡ Answers) (v : Value) where
       second (Err e) = refl
 
       go : (r : Run (Unit {0})) → carry r (λ _. opened_from w (Private k) v)
-          ≡ carry (carry r (λ _. draw w (words_each (size v)) >>= λ _. number_of v)) behind
-      go (Ok x) = second (draw w (words_each (size v)) x.1)
+          ≡ carry (carry r (λ _. draw w (words_each own_size) >>= λ _. number_of v)) behind
+      go (Ok x) = second (draw w (words_each own_size) x.1)
       go (Err e) = refl
 
   plain_quiet : v.secrecy ≡ Plain → Quiet true (declassified w v)
@@ -176,23 +184,23 @@ module _ (w : World) (source : w.source ≡ Answers) (v : Value) where
 
   module _ (d : Dealt) (proper : IsProper v) (kinds : List Kind) (s : Stage) (at : IsAt w d kinds none_of s)
       (stands : AllStand (run_at w d kinds s) (facts_of v)) where
-    before_suits : Suits w d (facts_of v) none_of before (drawn_by (words_each (size v))) (λ u. fact u ring v.words ∷ []) (Any {A = ℕ})
+    before_suits : Suits w d (facts_of v) none_of before (drawn_by (words_each own_size)) (λ u. fact u ring own_words ∷ []) (Any {A = ℕ})
     before_suits =
         suits_bind w d (plain_charge w d (facts_of v) (size v)) (λ _ _.
-        suits_bind w d (draw_suits w d (facts_of v) (words_each (size v))) (λ _ _.
-        number_suits w d (facts_of v) (drawn_by (words_each (size v))) v (tell_same (facts_of v)) proper.range))
+        suits_bind w d (draw_suits w d (facts_of v) (words_each own_size)) (λ _ _.
+        number_suits w d (facts_of v) (drawn_by (words_each own_size)) v (tell_same (facts_of v)) proper.range))
 
-    -- the gates that are added, of which the last one opens a value of as many elements
+    -- the gates that are added, of which the last one opens a value of as many words
     pub record OpensSized (h : Stage) : Type 0 where
       pub front : List Gate
       pub number : ℕ
       pub gates : h.gates ≡ s.gates ++ (front ++ Open ring number ∷ [])
-      pub sized : size_of (sizes_after (sizes_of d.inputs) [] (s.gates ++ front)) number ≡ size v
+      pub sized : size_of (sizes_after (sizes_of d.inputs) [] (s.gates ++ front)) number ≡ own_size
 
     pub opens_sized : (h : Stage) → OpensLast s h → OpensSized h
     opens_sized h o =
-        let come : Comes w d s o.at kinds (drawn_by (words_each (size v))) (fact o.u ring v.words ∷ []) (Unit {0}) =
-        subst (λ (r : Run ℕ). ComesAt w d s kinds r (drawn_by (words_each (size v))) (λ u. fact u ring v.words ∷ []) (Any {A = ℕ})) o.before_is
+        let come : Comes w d s o.at kinds (drawn_by (words_each own_size)) (fact o.u ring own_words ∷ []) (Unit {0}) =
+        subst (λ (r : Run ℕ). ComesAt w d s kinds r (drawn_by (words_each own_size)) (λ u. fact u ring own_words ∷ []) (Any {A = ℕ})) o.before_is
         (before_suits.from kinds s at stands) in
         record {
           front = come.grown.gates;
@@ -202,5 +210,6 @@ module _ (w : World) (source : w.source ≡ Answers) (v : Value) where
               ∙ append_assoc s.gates come.grown.gates (Open ring o.u ∷ []);
           sized =
               ap (λ gs. size_of (sizes_after (sizes_of d.inputs) [] gs) o.u) (sym come.grown.more_gates)
-              ∙ stands_size (run_at w d come.later o.at) come.stage.formed o.u ring v.words come.facts.0;
+              ∙ stands_size (run_at w d come.later o.at) come.stage.formed o.u ring own_words come.facts.0
+              ∙ gate_words_size v.shape.element v.words;
         }

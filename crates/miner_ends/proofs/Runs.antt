@@ -22,7 +22,7 @@ use Rattle.shared_gates.proofs.GatesBehind.{sizes-then, gates-then}
 use Rattle.gate_laws.specs.GateRuns.{model_gates}
 use Rattle.gate_laws.proofs.GateRunLaws.{run-needs}
 use Rattle.language_model.specs.Effects.{Words, World, Answers, Stage, RunStop, Run, words_each}
-use Rattle.language_model.specs.Values.{ring_for}
+use Rattle.language_model.specs.Values.{Value, size, ring_for, gate_size}
 use Rattle.language_model.specs.Effects as effects
 use Rattle.language_model.specs.Tapes.{AtMost}
 use Rattle.language_model.specs.Reports.{beginning, dealing, reported, not_dealt}
@@ -43,7 +43,7 @@ use Rattle.gate_laws.proofs.Walks.{keep_standing}
 use Rattle.gate_laws.proofs.Steps.{start_stands}
 use Rattle.driven_nodes.specs.Driven.{telling}
 use Rattle.driven_nodes.specs.Steps.{Went as Led, On, Over, Wants, Stopped, place_of, last_of}
-use Rattle.code_places.specs.Places.{Place, place, telling_stage, went, next_step, first_place, notices_between}
+use Rattle.code_places.specs.Places.{Place, place, telling_stage, went, next_step, answers_told, first_place, notices_between}
 use Rattle.code_places.proofs.Turns.{gained_more}
 use Rattle.gate_node.specs.OwnGates.{GatesEnd, Whole, Stuck, own_gates}
 use Rattle.gate_node.proofs.Always.{EndsAlways, always-then}
@@ -52,6 +52,7 @@ use Rattle.own_code.proofs.Told.{same_when_told}
 use Rattle.miner_ends.specs.Ends.{IsAnEnd, EndsAsItCan}
 use Rattle.miner_ends.proofs.Hears.{longer, HearsAt}
 use Rattle.miner_ends.proofs.HearSteps.{step_hears}
+use Rattle.miner_ends.proofs.Answers.{elements_are, words_are}
 use Rattle.miner_ends.proofs.OwnEnds.{both, draws_of, IsGone, gates_go, LastWords, opened_last, last_sized}
 use Rattle.miner_ends.proofs.Openings.{WantsNone, LeavesNone, OpensSized}
 use Rattle.miner_ends.proofs.Steps.{Opens, opens, none_left_over, wanted, told_wants, told_leaves, opened_sized}
@@ -348,9 +349,12 @@ module _
               let l = later_by [] no_words (Err (effects.Short, h)) is in
               record { kinds = l.kinds; at = l.at; gates = sized.gates; few = l.few }
 
-          -- the value has as many elements
+          abbrev opened_value : Value
+          opened_value = p.machine.registers o.is.1
+
+          -- as many words as the value has in the gates
           counted : (all : Values) (rest : List ℕ) → IsGone i dealt opening_gates values tape (Whole all rest)
-              → length (last_of all) ≡ wanted w c p.machine source (telling_stage [] p.stage) h o
+              → length (last_of all) ≡ gate_size opened_value.shape.element (size opened_value)
           counted all rest gone =
               let ns = sizes_at (p.stage.gates ++ sized.front) in
               let last : List Gate = Open (ring_for (p.machine.registers o.is.1).shape.element) sized.number ∷ [] in
@@ -360,21 +364,28 @@ module _
               ∙ sizes-then (sizes_of d.inputs) [] (p.stage.gates ++ sized.front) last)
               ∙ sized.sized
 
-          module _ (all : Values) (rest : List ℕ) (gone : IsGone i dealt opening_gates values tape (Whole all rest)) (words : AreWords (last_of all)) where
+          module _ (all : Values) (rest : List ℕ) (gone : IsGone i dealt opening_gates values tape (Whole all rest)) (whole : AreWords (last_of all)) where
+            -- the elements of the words that were opened
             abbrev told : List ℕ
-            told = last_of all
+            told = answers_told (last_of all) (next_step p.machine) p.machine
+
+            words : AreWords told
+            words = words_are p.machine o.is.0 o.is.1 (next_step p.machine) o.is.2 (last_of all) whole
+
+            many : length told ≡ wanted w c p.machine source (telling_stage [] p.stage) h o
+            many = elements_are p.machine o.is.0 o.is.1 (next_step p.machine) o.is.2 (last_of all) (counted all rest gone)
 
             same_gates : (r : Run Machine) → one p told ≡ r → (place_of (went p.machine r)).stage.gates ≡ p.stage.gates ++ opening_gates
             same_gates r e =
                 subst (λ r. (place_of (went p.machine r)).stage.gates ≡ p.stage.gates ++ opening_gates) e
-                (same_when_told w c p (place None p.machine h) told (ap (went p.machine) is) ∙ sized.gates)
+                (same_when_told w c p (place None p.machine h) (last_of all) (ap (went p.machine) is) ∙ sized.gates)
 
             told_ends : (r : Run Machine) → one p told ≡ r → EndsWell (tell_and_go_on (own_code w c i dealt k) p (went p.machine r) all rest)
             told_ends (Ok x) e =
                 let l = later_by told words (Ok x) e in
                 let same_l : Later p opening_gates x.1 = record { kinds = l.kinds; at = l.at; gates = same_gates (Ok x) e; few = l.few } in
                 let none : (x.1).answers ≡ [] =
-                subst LeavesNone e (told_leaves w c p.machine source (telling_stage [] p.stage) h o (telling_stage told p.stage) (counted all rest gone)) in
+                subst LeavesNone e (told_leaves w c p.machine source (telling_stage [] p.stage) h o (telling_stage told p.stage) many) in
                 telling_ends (EndsAsItCan w c budget) (notices_between p (place None x.0 x.1) all) (own k (place None x.0 x.1) all rest)
                 (rest_ends (place None x.0 x.1) all rest (goes_on k p values tape at told words x.0 x.1 e none opening_gates same_l all rest gone))
             told_ends (Err (effects.Ended ending, u)) e =
@@ -382,7 +393,7 @@ module _
                 (Ends (Reached (Stopped (place (Some ending) p.machine u)) all)) (stops k p values tape at told ending u e)
             told_ends (Err (effects.Short, u)) e =
                 absurd
-                (subst WantsNone e (told_wants w c p.machine source (telling_stage [] p.stage) h o (telling_stage told p.stage) (counted all rest gone)))
+                (subst WantsNone e (told_wants w c p.machine source (telling_stage [] p.stage) h o (telling_stage told p.stage) many))
 
           short_ends : EndsWell
               (then_do (own_gates i dealt (gates_between p (place None p.machine h)) values tape) (behind (Wants (place None p.machine h))))
@@ -395,7 +406,7 @@ module _
             where
               by : (x : GatesEnd) → IsGone i dealt opening_gates values tape x → LastWords x → EndsWell (behind (Wants (place None p.machine h)) x)
               by Stuck gone words = absurd gone
-              by (Whole all rest) gone words = told_ends all rest gone words (one p (last_of all)) refl
+              by (Whole all rest) gone words = told_ends all rest gone words (one p (answers_told (last_of all) (next_step p.machine) p.machine)) refl
 
         step_ends : (r : Run Machine) → one p [] ≡ r
             → EndsWell (then_do (own_gates i dealt (gates_between p (place_of (went p.machine r))) values tape) (behind (went p.machine r)))

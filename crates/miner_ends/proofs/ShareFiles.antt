@@ -10,12 +10,15 @@ use Rattle.protocol_model.specs.Gates.{sizes_of}
 use Rattle.shared_gates.specs.Model.{miner_of}
 use Rattle.program_trees.specs.declared.expression.DataType.{DataType}
 use Rattle.program_trees.specs.declared.expression.DataType.TheVariants as datatype
+use Rattle.value_file.specs.declared.value.DataType as told
+use Rattle.value_file.specs.declared.value.DataType.TheVariants as kind
 use Rattle.value_file.specs.declared.value.Shape.{Shape}
 use Rattle.value_file.specs.declared.value.Shape.TheVariants.{Scalar, Array}
 use Rattle.value_file.specs.declared.value.Value.TheVariants.{Number as OneNumber, Truth, Numbers, Truths}
 use Rattle.value_file.specs.Input.{AreEntries}
 use Rattle.value_file.specs.Values.{size_of}
 use Rattle.language_model.specs.Effects.{World}
+use Rattle.language_model.specs.Values.{gate_size}
 use Rattle.language_model.specs.Words.{truth_word}
 use Rattle.gate_laws.specs.Dealt.{bound, drawn_by}
 use Rattle.gate_laws.proofs.Ranges.{Below, below_cons, below_none, length_replicated, replicate_below, truth_below}
@@ -25,6 +28,7 @@ use Rattle.input_share.specs.declared.entry.ShareEntry.{ShareEntry}
 use Rattle.input_share.specs.OfWords.{AreSharesRead, IsPartOfWords}
 use Rattle.input_share.specs.Reading.{IsWhole, IsWholePart, part_count, share_count_of, share_name_of}
 use Rattle.input_share.specs.ShareFile.{MinerFile}
+use Rattle.input_share.specs.Values.{shared_size}
 use Rattle.input_share.specs.Shapes.{known_of, shapes_of}
 use Rattle.input_share.proofs.SharesOfWords.{share_read_of_words}
 use Rattle.clear_eval.specs.Offers.{is_array, part_given, public_given, type_given}
@@ -90,6 +94,11 @@ known_from before (e ∷ es) form words = (
   known_from (before ++ e ∷ []) es form.1 (λ k d l. words (suc k) d (omega (arith, l))),
 )
 
+-- as many words as the gates have
+same_sizes : (t : told.DataType) (n : ℕ) → shared_size t n ≡ gate_size (type_given t) n
+same_sizes kind.Uint64 n = refl
+same_sizes kind.Bool n = refl
+
 sizes_from : (es : List ShareEntry) → All IsWhole es → sizes_of (private_shares es) ≡ private_sizes (map part_given (shapes_of es))
 sizes_from [] whole = refl
 sizes_from (e ∷ es) whole = by e.part (whole 0 e (omega arith)) (sizes_from es (λ k d l. whole (suc k) d (omega (arith, l))))
@@ -98,8 +107,10 @@ sizes_from (e ∷ es) whole = by e.part (whole 0 e (omega arith)) (sizes_from es
         → sizes_of (private_then part (private_shares es)) ≡ private_sizes (public_given e.name (known_of part) ∷ map part_given (shapes_of es))
     by (Public value) whole rest = rest
     by (Private shared) whole rest =
-        ap (λ n. n ∷ sizes_of (private_shares es)) (whole ∙ sym (length_replicated (size_of shared.shape) 0))
-        ∙ ap (λ ns. length {A = ℕ} (replicate (size_of shared.shape) 0) ∷ ns) rest
+        let e : DataType = type_given shared.data_type in
+        ap (λ n. n ∷ sizes_of (private_shares es))
+        (whole ∙ same_sizes shared.data_type (size_of shared.shape) ∙ ap (gate_size e) (sym (length_replicated (size_of shared.shape) 0)))
+        ∙ ap (λ ns. gate_size e (length {A = ℕ} (replicate (size_of shared.shape) 0)) ∷ ns) rest
 
 -- ---- the file
 

@@ -21,7 +21,7 @@ const WORDS: [u8; 16] = [2, 1, 0, 0, 0, 0, 0, 0, 0, 0, 0, 0, 0, 0, 0, 128];
 
 // The code of a program that returns at once.
 const CODE: [u8; 17] = [
-    0x53, 0x43, 0x33, 0x50, 1, 0, 0, 1, 0, 0, 0, 0xff, 0, 0, 1, 0, 0x18,
+    0x53, 0x43, 0x33, 0x50, 2, 0, 0, 1, 0, 0, 0, 0xff, 0, 0, 1, 0, 0x18,
 ];
 
 const PUBLIC: &str = "{\"inputs\":[]}";
@@ -133,7 +133,7 @@ fn add_difference(lines: &mut Lines, expected: &Hello, came: &Hello) {
 fn tell_differences(lines: &mut Lines, wanted: &Hello) {
     let other = [1; 32];
     let mut came = Hello {
-        version: 2,
+        version: 1,
         sender: 1,
         receiver: 1,
         code: other,
@@ -160,7 +160,7 @@ fn tell_greeting(alloc: Global, lines: &mut Lines, public: [u8; 32]) {
     add_hex(lines, &public);
     lines.add("\n");
     let sent = Hello {
-        version: 1,
+        version: 2,
         sender: 2,
         receiver: 3,
         code: code_digest(&CODE),

@@ -4,9 +4,10 @@ use row_files::Lines;
 use std::alloc::{AllocError, Global};
 
 // Lines of each kind. Then texts that are refused: a last line with no newline, a line after the end, a text that stops before the end, a
-// share of a type that there isn't, a number with a zero before it, two spaces, and no text.
-const TEXTS: [&str; 8] = [
-    "open 1 18446744073709551615\npublish _s 42\nopen true false\nshare r uint64 5 7\nshare b bool 3\nshare none bool\nend done cost 7\n",
+// share of a type that there isn't, a number with a zero before it, two spaces, and no text. Then truth values in one word and in two, and
+// numbers of truth values that their words don't hold, the greatest and a greater one.
+const TEXTS: [&str; 16] = [
+    "open 1 18446744073709551615\npublish _s 42\nopen true false\nshare r uint64 5 7\nshare b bool 1 3\nshare none bool 0\nend done cost 7\n",
     "open 1\nend done cost 7",
     "end budget cost 6\nopen 1\n",
     "open 1\npublish s 2\n",
@@ -14,6 +15,14 @@ const TEXTS: [&str; 8] = [
     "open 01\nend done cost 0\n",
     "open 1\nopen 2\nshare s  bool 1\nend done cost 0\n",
     "",
+    "share b bool 63 18446744073709551615\nshare b bool 64 0\nshare b bool 65 1 18446744073709551615\nend done cost 7\n",
+    "share b bool 3\nend done cost 7\n",
+    "share b bool 65 1\nend done cost 7\n",
+    "share b bool 64 1 2\nend done cost 7\n",
+    "share b bool 0 0\nend done cost 7\n",
+    "share b bool\nend done cost 7\n",
+    "share b bool 18446744073709551615\nend done cost 7\n",
+    "share b bool 18446744073709551616 1\nend done cost 7\n",
 ];
 
 fn tell_again(lines: &mut Lines, written: Result<Vec<u8>, AllocError>, read: &[u8]) {

@@ -18,11 +18,25 @@ const OPENED: [&str; 3] = [
     "open 42\nend done cost 7\n",
 ];
 
-// The second has one word fewer.
+// The second has one truth value fewer, and one word.
 const SHORTER: [&str; 3] = [
-    "share b bool 3 0\nend done cost 7\n",
-    "share b bool 2\nend done cost 7\n",
-    "share b bool 1 0\nend done cost 7\n",
+    "share b bool 65 3 0\nend done cost 7\n",
+    "share b bool 64 2\nend done cost 7\n",
+    "share b bool 65 1 0\nend done cost 7\n",
+];
+
+// The second has one truth value fewer in as many words.
+const FEWER: [&str; 3] = [
+    "share b bool 64 3\nend done cost 7\n",
+    "share b bool 63 2\nend done cost 7\n",
+    "share b bool 64 1\nend done cost 7\n",
+];
+
+// The words have bits after the last truth value.
+const SURPLUS: [&str; 3] = [
+    "share b bool 2 18446744073709551615\nend done cost 7\n",
+    "share b bool 2 4\nend done cost 7\n",
+    "share b bool 2 10\nend done cost 7\n",
 ];
 
 // The third is the end alone.
@@ -145,6 +159,8 @@ pub fn tell(alloc: Global, lines: &mut Lines) {
     tell_case(alloc, lines, &PRODUCT, &[0, 0, 0], &[]);
     tell_case(alloc, lines, &OPENED, &[0, 0, 0], &[]);
     tell_case(alloc, lines, &SHORTER, &[0, 0, 0], &[]);
+    tell_case(alloc, lines, &FEWER, &[0, 0, 0], &[]);
+    tell_case(alloc, lines, &SURPLUS, &[0, 0, 0], &[]);
     tell_case(alloc, lines, &ENDED, &[7, 7, 7], &[]);
     tell_case(alloc, lines, &WRONG, &[0, 1, 8], &[]);
     tell_case(alloc, lines, &PRODUCT[..2], &[0, 0, 0], &[]);

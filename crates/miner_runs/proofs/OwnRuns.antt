@@ -16,6 +16,7 @@ use Rattle.protocol_model.proofs.GateSchedules.{moves-along_run, made-order_acce
 use Rattle.protocol_model.proofs.NetCounts.{posted-counted}
 use Rattle.shared_gates.specs.Model.{AllSizesSuit}
 use Rattle.shared_gates.proofs.Models.{gates-sound}
+use Rattle.language_model.specs.Learned.{learned_of}
 use Rattle.language_model.specs.Reports.{Report, Offered}
 use Rattle.verified_code.specs.Steps.{Function}
 use Rattle.miner_core.specs.Meaning.{fuel}
@@ -133,7 +134,7 @@ module _ (o : Offered) (d : Dealt) (c : List Function) (budget : ℕ) (tapes : T
       let mail = into i (messages d report tapes) in
       (as_driven i mail (λ l. begins-self (mail l))).acts
 
-  open_the_words : (i : Number) → opened_by own (messages d report tapes) i ≡ (report).opened
+  open_the_words : (i : Number) → opened_by own (messages d report tapes) i ≡ learned_of (report).events
   open_the_words i = ap opened_in (same_acts i) ∙ (reported).opened i
 
   tell_the_events : Tells (report).events (λ i. told_in (run_of own (messages d report tapes) i).acts)

@@ -10,6 +10,7 @@ use Rattle.protocol_model.specs.Network.{Accepted, Default, Shuffled, order_of, 
 use Rattle.protocol_model.specs.Runs.{Tapes}
 use Rattle.protocol_model.specs.Schedules.{AnyOrder}
 use Rattle.language_model.specs.Effects.{World, Answers}
+use Rattle.language_model.specs.Learned.{learned_of}
 use Rattle.language_model.specs.Reports.{Report, Offered, world_of, public_part}
 use Rattle.verified_code.specs.Steps.{Function}
 use Rattle.miner_core.specs.Meaning.{fuel}
@@ -39,7 +40,7 @@ module _ (o : Offered) (d : Dealt) (c : List Function) (budget : ℕ) (tapes : T
   pub record OwnRunAsReported (r : Report) : Type 0 where
     pub turns : TurnsComeTo o d c budget tapes r
     pub finishes : Finishes (own_nodes o d c budget tapes) (messages d r tapes) (own_end d tapes r turns.last)
-    pub opened : (i : Number) → opened_by (own_nodes o d c budget tapes) (messages d r tapes) i ≡ r.opened
+    pub opened : (i : Number) → opened_by (own_nodes o d c budget tapes) (messages d r tapes) i ≡ learned_of r.events
     pub told : Tells r.events (λ i. told_in (run_of (own_nodes o d c budget tapes) (messages d r tapes) i).acts)
     pub counted_from :
         (order : List Link) (entry : ℕ) (mail : Mail) → MailBegins mail (messages d r tapes)

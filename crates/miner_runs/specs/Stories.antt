@@ -9,6 +9,7 @@ use Rattle.proto_core.specs.Net.{nothing, run_of, all_delivered}
 use Rattle.protocol_model.specs.Network.{Accepted, walked}
 use Rattle.protocol_model.specs.Runs.{Tapes}
 use Rattle.language_model.specs.Effects as effects
+use Rattle.language_model.specs.Learned.{learned_of}
 use Rattle.language_model.specs.Reports.{Report, Offered}
 use Rattle.verified_code.specs.Steps.{Function}
 use Rattle.miner_core.specs.Meaning.{mean}
@@ -39,7 +40,7 @@ module _ (o : Offered) (d : Dealt) (c : List Function) (budget : ℕ) (tapes : T
     pub ending : Ending
     pub stop : r.stop ≡ effects.Ended ending
     pub ended : (i : Number) → HasEnded (node i (stories i)).left (end.Over ending)
-    pub opened : (i : Number) → has_opened i (stories i) ≡ r.opened
+    pub opened : (i : Number) → has_opened i (stories i) ≡ learned_of r.events
     pub told : Tells r.events (λ i. has_told i (stories i))
 
   -- where they received what an accepted order brings

@@ -2,26 +2,15 @@
 use Rattle.std.proofs.Common.{◌≡◌, ℕ, ◌<◌, ◌≤◌, ◌+◌, List, [], ◌∷◌, ◌++◌, map, drop, length, refl, sym, ◌∙◌, ap, arith, append_assoc, length-drop}
 use Rattle.std.specs.Prelude.{Option, Some, None, Result, Ok, Err, get_or}
 use Rattle.std.specs.Borrow.{Bor}
-use Rattle.std.proofs.lemmas.List.{drop_all, drop_more}
+use Rattle.std.proofs.lemmas.List.{drop_all}
 use Rattle.sc_text.specs.declared.end.End.{End}
 use Rattle.view_text.specs.Reading.{words_in_line, lines_in}
+use Rattle.view_reader.proofs.LinesRead.{left_from, left_more, map_last}
 use Rattle.miner_text.specs.Reading.{line_in, in_front, at_the_end, at_line, lines_from, read_of}
 use Rattle.miner_text.specs.declared.line.MinerLine.{MinerLine}
 use Rattle.miner_text.specs.declared.line.MinerLine.TheVariants as lines
 use Rattle.miner_text.specs.declared.reading.Kind.TheVariants.{Wrong, Inner, Last}
 use Rattle.miner_text.specs.inner.Pushing.{Pushed}
-
--- what is left of the lines from number i on, and what stands after the last newline
-abbrev pub left_from : ℕ → List (Bor (List ℕ)) → List ℕ → List (List ℕ)
-left_from i lines rest = map (λ line. line.now) (drop i lines) ++ rest ∷ []
-
-left_more : (lines : List (Bor (List ℕ))) (i : ℕ) (d : Bor (List ℕ)) (rest : List ℕ) → i < length lines →
-    left_from i lines rest ≡ (get_or lines i d).now ∷ left_from (i + 1) lines rest
-left_more lines i d rest lt = ap (λ ls. map (λ line. line.now) ls ++ rest ∷ []) (drop_more lines i d lt)
-
-map_last : (ls : List (Bor (List ℕ))) (r : Bor (List ℕ)) → map (λ line. line.now) (ls ++ r ∷ []) ≡ map (λ line. line.now) ls ++ r.now ∷ []
-map_last [] r = refl
-map_last (l ∷ ls) r = ap (λ xs. l.now ∷ xs) (map_last ls r)
 
 -- lines that were read, and those that come after them
 abbrev pub behind : List MinerLine → Result (List MinerLine) ℕ → Result (List MinerLine) ℕ

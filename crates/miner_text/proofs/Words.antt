@@ -1,8 +1,10 @@
 -- The words of a line: they are written with a space between them, and read as the line.
 use Rattle.std.proofs.Common.{◌≡◌, ℕ, List, [], ◌∷◌, ◌++◌, map, if◌then◌else◌, true, refl, sym, ◌∙◌, ap, subst, append_assoc}
-use Rattle.std.specs.Prelude.{codes, bytes_eq, Option, Some, None, option_map, option_and_then}
+use Rattle.std.specs.Prelude.{◌==◌, length, codes, bytes_eq, Option, Some, None, option_map, option_and_then}
 use Rattle.std.specs.Fmt.{decimal}
+use Rattle.std.proofs.lemmas.Bool.Decides.{Decides-eqb}
 use Rattle.std.proofs.lemmas.Slice.Eq.{bytes_eq-Decides}
+use Rattle.bit_words.specs.Bits.{words_for}
 use Rattle.program_trees.specs.declared.expression.DataType.{DataType}
 use Rattle.program_trees.specs.declared.expression.DataType.TheVariants.{Uint64}
 use Rattle.program_trees.specs.declared.expression.DataType.TheVariants as datatype
@@ -24,9 +26,9 @@ use Rattle.view_text.proofs.LinesRead.{line_read as view_line_read}
 use Rattle.view_text.proofs.RunLines.{opened_line, ended_line}
 use Rattle.proto_core.proofs.Beginnings.{append-none}
 use Rattle.miner_text.specs.Shares.{ResultShare}
-use Rattle.miner_text.specs.Lines.{type_word, share_line, line_text}
-use Rattle.miner_text.specs.Reading.{type_in, published_in, share_in, line_in}
-use Rattle.miner_text.specs.Texts.{IsEvent, IsShare, IsEnd}
+use Rattle.miner_text.specs.Lines.{type_word, count_of_type, count_told, share_line, line_text}
+use Rattle.miner_text.specs.Reading.{type_in, published_in, share_of, share_in, line_in}
+use Rattle.miner_text.specs.Texts.{IsEvent, AreHeld, IsShare, IsEnd}
 use Rattle.miner_text.specs.declared.line.MinerLine.{MinerLine}
 use Rattle.miner_text.specs.declared.line.MinerLine.TheVariants as lines
 
@@ -40,9 +42,13 @@ event_words (Open es) = codes "open" ∷ map element_text es
 event_words (Publish name es) = codes "publish" ∷ name ∷ map element_text es
 event_words (Hand name es) = codes "publish" ∷ name ∷ map element_text es
 
+-- the numbers in the line of a share
+abbrev pub numbers_told : ResultShare → List ℕ
+numbers_told s = count_told s ++ s.words
+
 abbrev pub line_words : MinerLine → List (List ℕ)
 line_words (lines.Told event) = event_words event
-line_words (lines.Share s) = codes "share" ∷ s.name ∷ type_word s.element ∷ map decimal s.words
+line_words (lines.Share s) = codes "share" ∷ s.name ∷ type_word s.element ∷ map decimal (numbers_told s)
 line_words (lines.Ended end) = codes "end" ∷ ending_words end.how end.cost
 
 -- ---- the line is written so
@@ -56,6 +62,12 @@ spaced_words : (w : List ℕ) (ns : List ℕ) → spaced (w ∷ map decimal ns) 
 spaced_words w [] = sym (append-none w)
 spaced_words w (n ∷ ns) = ap (λ x. w ++ 32 ∷ x) (spaced_words (decimal n) ns)
 
+-- the number of elements is written by itself
+pub count_then_words : (t : DataType) (count : ℕ) (ns : List ℕ) →
+    words_behind (count_of_type t count ++ ns) ≡ words_behind (count_of_type t count) ++ words_behind ns
+count_then_words Uint64 count ns = refl
+count_then_words datatype.Bool count ns = ap (λ x. x ++ words_behind ns) (sym (append-none (32 ∷ decimal count)))
+
 event_written : (event : Event) → event_line event ≡ spaced (event_words event) ++ 10 ∷ []
 unfolding event_line
 event_written (Open es) = sym (opened_line es)
@@ -66,10 +78,11 @@ share_written : (s : ResultShare) → share_line s ≡ spaced (line_words (lines
 unfolding share_line
 share_written s =
     let word = type_word s.element in
+    let numbers = numbers_told s in
     ap (λ x. codes "share " ++ (x ++ 10 ∷ []))
-    (append_assoc (s.name ++ 32 ∷ []) word (words_behind s.words)
-    ∙ append_assoc s.name (32 ∷ []) (word ++ words_behind s.words)
-    ∙ ap (λ x. s.name ++ 32 ∷ x) (sym (spaced_words word s.words)))
+    (append_assoc (s.name ++ 32 ∷ []) word (words_behind numbers)
+    ∙ append_assoc s.name (32 ∷ []) (word ++ words_behind numbers)
+    ∙ ap (λ x. s.name ++ 32 ∷ x) (sym (spaced_words word numbers)))
 
 pub line_written : (l : MinerLine) → line_text l ≡ spaced (line_words l) ++ 10 ∷ []
 unfolding line_text
@@ -86,12 +99,19 @@ type_plain : (t : DataType) → NoGap (type_word t)
 type_plain Uint64 = plain (codes "uint64") refl
 type_plain datatype.Bool = plain (codes "bool") refl
 
+numbers_fit : (t : DataType) (count : ℕ) (ns : List ℕ) → AreHeld t count (length ns) → Words ns → Words (count_of_type t count ++ ns)
+numbers_fit Uint64 count ns held h = h
+numbers_fit datatype.Bool count ns held h = (held.0, h)
+
+numbers_are_words : (s : ResultShare) → IsShare s → Words (numbers_told s)
+numbers_are_words s h = numbers_fit s.element s.count s.words h.1.1 h.1.0
+
 pub line_plain : (l : MinerLine) → IsLine l → NoGaps (line_words l)
 line_plain (lines.Told (Open es)) h = view_line_plain (Opened es) h
 line_plain (lines.Told (Publish name es)) h = (plain (codes "publish") refl, (name_plain name h.0, (view_line_plain (Opened es) h.1).1))
 line_plain (lines.Told (Hand name es)) h = absurd h
 line_plain (lines.Share s) h =
-    (plain (codes "share") refl, (name_plain s.name h.0, (type_plain s.element, (view_line_plain (Drew s.words) h.1).1)))
+    (plain (codes "share") refl, (name_plain s.name h.0, (type_plain s.element, (view_line_plain (Drew (numbers_told s)) (numbers_are_words s h)).1)))
 line_plain (lines.Ended end) h = view_line_plain (Ended end) (record { how = h.0; cost = h.1 })
 
 -- ---- the words are read as the line
@@ -130,13 +150,23 @@ published_back name es h =
     ap (option_and_then (λ n. option_and_then (found n) (all_in element_in (map element_text es)))) (name_back name h.0)
     ∙ ap (option_and_then (found name)) (elements_back es h.1)
 
-share_back : (s : ResultShare) → IsShare s → share_in (s.name ∷ type_word s.element ∷ map decimal s.words) ≡ Some s
+same_number : (n m : ℕ) → n ≡ m → (n == m) ≡ true
+same_number n m e = (Decides-eqb n m).1 e
+
+numbers_back : (name : List ℕ) (t : DataType) (count : ℕ) (ns : List ℕ) → AreHeld t count (length ns) →
+    share_of name t (count_of_type t count ++ ns) ≡ Some (record { name = name; element = t; count = count; words = ns })
+numbers_back name Uint64 count ns h = ap (λ n. Some (record { name = name; element = Uint64; count = n; words = ns })) (sym h)
+numbers_back name datatype.Bool count ns h =
+    ap (λ b. if b then Some (record { name = name; element = datatype.Bool; count = count; words = ns }) else None)
+    (same_number (length ns) (words_for count) h.1)
+
+share_back : (s : ResultShare) → IsShare s → share_in (s.name ∷ type_word s.element ∷ map decimal (numbers_told s)) ≡ Some s
 share_back s h =
-    let found : DataType → List ℕ → List ℕ → Option ResultShare = λ t n ws. Some (record { name = n; element = t; words = ws }) in
-    let words = all_in word_in (map decimal s.words) in
-    ap (option_and_then (λ t. option_and_then (λ n. option_and_then (found t n) words) (name_in s.name))) (type_back s.element)
-    ∙ ap (option_and_then (λ n. option_and_then (found s.element n) words)) (name_back s.name h.0)
-    ∙ ap (option_and_then (found s.element s.name)) (words_back s.words h.1)
+    let numbers = all_in word_in (map decimal (numbers_told s)) in
+    ap (option_and_then (λ t. option_and_then (λ n. option_and_then (share_of n t) numbers) (name_in s.name))) (type_back s.element)
+    ∙ ap (option_and_then (λ n. option_and_then (share_of n s.element) numbers)) (name_back s.name h.0)
+    ∙ ap (option_and_then (share_of s.name s.element)) (words_back (numbers_told s) (numbers_are_words s h))
+    ∙ numbers_back s.name s.element s.count s.words h.1.1
 
 pub line_back : (l : MinerLine) → IsLine l → line_in (line_words l) ≡ Some l
 line_back (lines.Told (Open es)) h = ap (option_map (λ xs. lines.Told (Open xs))) (elements_back es h)
@@ -203,24 +233,41 @@ published_read (w ∷ ws) event h =
 abbrev ShareRead : List (List ℕ) → ResultShare → Type 0
 ShareRead ws s = LineRead (codes "share" ∷ ws) (lines.Share s)
 
+-- a share that was made of these numbers
+record IsMadeOf (name : List ℕ) (t : DataType) (ns : List ℕ) (s : ResultShare) : Type 0 where
+  names : s.name ≡ name
+  types : s.element ≡ t
+  numbers : numbers_told s ≡ ns
+  words : Words s.words
+  held : AreHeld s.element s.count (length s.words)
+
+share_made : (name : List ℕ) (t : DataType) (ns : List ℕ) (s : ResultShare) → Words ns → share_of name t ns ≡ Some s → IsMadeOf name t ns s
+share_made name Uint64 ns s h e =
+    subst (IsMadeOf name Uint64 ns) (same_found _ s e) (record { names = refl; types = refl; numbers = refl; words = h; held = refl })
+share_made name datatype.Bool [] s h e = nothing_found s e
+share_made name datatype.Bool (n ∷ ns) s h e =
+    then_found (length ns == words_for n) _ s e
+    (λ good same. subst (IsMadeOf name datatype.Bool (n ∷ ns)) same
+    (record { names = refl; types = refl; numbers = refl; words = h.1; held = (h.0, (Decides-eqb (length ns) (words_for n)).0 good) }))
+
 share_read : (ws : List (List ℕ)) (s : ResultShare) → share_in ws ≡ Some s → ShareRead ws s
 share_read [] s h = nothing_found s h
 share_read (w ∷ []) s h = nothing_found s h
 share_read (w ∷ v ∷ vs) s h =
-    next_found (λ t. option_and_then (λ name. option_and_then (found t name) (all_in word_in vs)) (name_in w)) (type_in v) s h
-    (λ t first after_type. next_found (λ name. option_and_then (found t name) (all_in word_in vs)) (name_in w) s after_type
-    (λ name second after_name. next_found (found t name) (all_in word_in vs) s after_name
-    (λ ns third is. subst (ShareRead (w ∷ v ∷ vs)) (same_found _ s is)
-    (together t name ns (type_read v t first) (name_read w name second) (words_read vs ns third)))))
+    next_found (λ t. option_and_then (λ name. option_and_then (share_of name t) (all_in word_in vs)) (name_in w)) (type_in v) s h
+    (λ t first after_type. next_found (λ name. option_and_then (share_of name t) (all_in word_in vs)) (name_in w) s after_type
+    (λ name second after_name. next_found (share_of name t) (all_in word_in vs) s after_name
+    (λ ns third is.
+    let numbers = words_read vs ns third in
+    together t name ns (type_read v t first) (name_read w name second) numbers.0 (share_made name t ns s numbers.1 is))))
   where
-    found : DataType → List ℕ → List ℕ → Option ResultShare
-    found t name ns = Some (record { name = name; element = t; words = ns })
-
-    together : (t : DataType) (name ns : List ℕ) → v ≡ type_word t → NameRead w name → WordsRead vs ns →
-        ShareRead (w ∷ v ∷ vs) (record { name = name; element = t; words = ns })
-    together t name ns is a b = (
-      ap (λ x. codes "share" ∷ x ∷ v ∷ vs) a.0 ∙ ap (λ x. codes "share" ∷ name ∷ x ∷ vs) is ∙ ap (λ xs. codes "share" ∷ name ∷ type_word t ∷ xs) b.0,
-      (a.1, b.1),
+    together : (t : DataType) (name ns : List ℕ) → v ≡ type_word t → NameRead w name → vs ≡ map decimal ns → IsMadeOf name t ns s →
+        ShareRead (w ∷ v ∷ vs) s
+    together t name ns is a b made = (
+      ap (λ x. codes "share" ∷ x ∷ v ∷ vs) (a.0 ∙ sym made.names)
+      ∙ ap (λ x. codes "share" ∷ s.name ∷ x ∷ vs) (is ∙ ap type_word (sym made.types))
+      ∙ ap (λ xs. codes "share" ∷ s.name ∷ type_word s.element ∷ xs) (b ∙ ap (map decimal) (sym made.numbers)),
+      (subst (λ n. is_name n ≡ true) (sym made.names) a.1, (made.words, made.held)),
     )
 
 end_read : (ws : List (List ℕ)) (end : End) → end_in ws ≡ Some end → LineRead (codes "end" ∷ ws) (lines.Ended end)

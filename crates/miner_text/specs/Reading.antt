@@ -1,5 +1,6 @@
 -- The reader of a miner's text: its lines, or the number of the first line that is not as it must be.
-use Rattle.std.specs.Prelude.{ℕ, ◌+◌, if◌then◌else◌, List, [], ◌∷◌, codes, bytes_eq, Option, Some, None, Result, Ok, Err, option_map}
+use Rattle.std.specs.Prelude.{ℕ, ◌+◌, ◌==◌, if◌then◌else◌, List, [], ◌∷◌, length, codes, bytes_eq, Option, Some, None, Result, Ok, Err, option_map}
+use Rattle.bit_words.specs.Bits.{words_for}
 use Rattle.program_trees.specs.declared.expression.DataType.{DataType}
 use Rattle.program_trees.specs.declared.expression.DataType.TheVariants.{Uint64}
 use Rattle.program_trees.specs.declared.expression.DataType.TheVariants as datatype
@@ -26,15 +27,22 @@ published_in (w ∷ ws) = do
   elements ← all_in element_in ws
   Some (Publish name elements)
 
--- the share with this name, this type and these words
+-- the share that has these numbers in its line: of truth values the first says how many there are, and as many words follow as hold them
+abbrev pub share_of : List ℕ → DataType → List ℕ → Option ResultShare
+share_of name Uint64 words = Some (record { name = name; element = Uint64; count = length words; words = words })
+share_of name datatype.Bool [] = None
+share_of name datatype.Bool (count ∷ words) =
+    if length words == words_for count then Some (record { name = name; element = datatype.Bool; count = count; words = words }) else None
+
+-- the share with this name, this type and these numbers
 abbrev pub share_in : List (List ℕ) → Option ResultShare
 share_in [] = None
 share_in (w ∷ []) = None
 share_in (w ∷ v ∷ vs) = do
   element ← type_in v
   name ← name_in w
-  words ← all_in word_in vs
-  Some (record { name = name; element = element; words = words })
+  numbers ← all_in word_in vs
+  share_of name element numbers
 
 -- the line of these words
 abbrev pub line_in : List (List ℕ) → Option MinerLine

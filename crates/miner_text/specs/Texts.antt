@@ -1,5 +1,9 @@
 -- Lines that a text can have.
-use Rattle.std.specs.Prelude.{◌≡◌, ◌<◌, ◌^◌, true, List, [], ◌∷◌}
+use Rattle.std.specs.Prelude.{◌≡◌, ℕ, ◌<◌, ◌^◌, true, List, [], ◌∷◌, length}
+use Rattle.bit_words.specs.Bits.{words_for}
+use Rattle.program_trees.specs.declared.expression.DataType.{DataType}
+use Rattle.program_trees.specs.declared.expression.DataType.TheVariants.{Uint64}
+use Rattle.program_trees.specs.declared.expression.DataType.TheVariants as datatype
 use Rattle.sc_text.specs.declared.event.Event.{Event}
 use Rattle.sc_text.specs.declared.event.Event.TheVariants.{Open, Publish, Hand}
 use Rattle.sc_text.specs.declared.end.End.{End}
@@ -15,8 +19,13 @@ IsEvent (Open es) = AreElements es
 IsEvent (Publish name es) = (is_name name ≡ true) × AreElements es
 IsEvent (Hand name es) = ⊥
 
+-- so many elements take so many words: each number one, 64 truth values one
+abbrev pub AreHeld : DataType → (count words : ℕ) → Type 0
+AreHeld Uint64 count words = count ≡ words
+AreHeld datatype.Bool count words = (count < 2 ^ 64) × (words ≡ words_for count)
+
 abbrev pub IsShare : ResultShare → Type 0
-IsShare s = (is_name s.name ≡ true) × Words s.words
+IsShare s = (is_name s.name ≡ true) × Words s.words × AreHeld s.element s.count (length s.words)
 
 abbrev pub IsEnd : End → Type 0
 IsEnd end = IsEnding end.how × (end.cost < 2 ^ 64)

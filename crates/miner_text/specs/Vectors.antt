@@ -19,27 +19,52 @@ use Rattle.miner_text.specs.declared.line.MinerLine.TheVariants as lines
 abbrev pub ended : List MinerLine
 ended = lines.Ended (record { how = Done; cost = 7 }) ∷ []
 
--- an opening, a public value, and shares of a number and of an array of truth values
+-- an opening, a public value, and shares of a number and of 65 truth values
 abbrev pub told : List MinerLine
 told =
     lines.Told (Open (Word 42 ∷ []))
     ∷ lines.Told (Publish (codes "p") (Truth true ∷ Word 0 ∷ []))
-    ∷ lines.Share (record { name = codes "c"; element = Uint64; words = 7 ∷ [] })
-    ∷ lines.Share (record { name = codes "b"; element = datatype.Bool; words = 3 ∷ 0 ∷ [] })
+    ∷ lines.Share (record { name = codes "c"; element = Uint64; count = 1; words = 7 ∷ [] })
+    ∷ lines.Share (record { name = codes "b"; element = datatype.Bool; count = 65; words = 3 ∷ 0 ∷ [] })
     ∷ ended
 
-pub written : text_of told ≡ codes "open 42\npublish p true 0\nshare c uint64 7\nshare b bool 3 0\nend done cost 7\n"
+pub written : text_of told ≡ codes "open 42\npublish p true 0\nshare c uint64 7\nshare b bool 65 3 0\nend done cost 7\n"
 unfolding text_of line_text share_line event_line elements_text element_text end_line ending_text digits
 written = refl
 
-pub read : read_of (codes "open 42\npublish p true 0\nshare c uint64 7\nshare b bool 3 0\nend done cost 7\n") ≡ Ok told
+pub read : read_of (codes "open 42\npublish p true 0\nshare c uint64 7\nshare b bool 65 3 0\nend done cost 7\n") ≡ Ok told
 unfolding read_of number_in is_name digits
 read = refl
 
-pub share_of_nothing : read_of (codes "share e bool\nend done cost 7\n")
-    ≡ Ok (lines.Share (record { name = codes "e"; element = datatype.Bool; words = [] }) ∷ ended)
+pub share_of_nothing : read_of (codes "share e bool 0\nend done cost 7\n")
+    ≡ Ok (lines.Share (record { name = codes "e"; element = datatype.Bool; count = 0; words = [] }) ∷ ended)
 unfolding read_of number_in is_name digits
 share_of_nothing = refl
+
+pub share_of_one : read_of (codes "share e bool 1 3\nend done cost 7\n")
+    ≡ Ok (lines.Share (record { name = codes "e"; element = datatype.Bool; count = 1; words = 3 ∷ [] }) ∷ ended)
+unfolding read_of number_in is_name digits
+share_of_one = refl
+
+pub truth_values_without_their_number : read_of (codes "share e bool\nend done cost 7\n") ≡ Err 1
+unfolding read_of number_in is_name digits
+truth_values_without_their_number = refl
+
+pub a_word_too_few : read_of (codes "open 1\nshare b bool 65 3\nend done cost 7\n") ≡ Err 2
+unfolding read_of number_in is_name digits
+a_word_too_few = refl
+
+pub a_word_too_many : read_of (codes "open 1\nshare b bool 64 3 0\nend done cost 7\n") ≡ Err 2
+unfolding read_of number_in is_name digits
+a_word_too_many = refl
+
+pub more_than_words_hold : read_of (codes "share b bool 18446744073709551615 3\nend done cost 7\n") ≡ Err 1
+unfolding read_of number_in is_name digits
+more_than_words_hold = refl
+
+pub no_word_as_their_number : read_of (codes "share b bool 18446744073709551616\nend done cost 7\n") ≡ Err 1
+unfolding read_of number_in is_name digits
+no_word_as_their_number = refl
 
 pub nothing_there : read_of [] ≡ Err 1
 unfolding read_of

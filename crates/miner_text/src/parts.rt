@@ -1,14 +1,17 @@
 // The lines of a miner's text, from their words.
 ghost use Rattle.std.specs.Prelude.{◌≡◌, map, IfOk, option_map};
+ghost use Rattle.program_trees.specs.declared.expression.DataType.TheVariants as datatype;
 ghost use Rattle.sc_text.specs.declared.event.Event.TheVariants.{Open};
 ghost use Rattle.view_text.specs.Reading.{all_in, element_in};
 ghost use Rattle.miner_text.specs.declared.line.MinerLine.TheVariants.{Ended};
-ghost use Rattle.miner_text.specs.Reading.{published_in, share_in, line_in};
+ghost use Rattle.miner_text.specs.Reading.{published_in, share_of, share_in, line_in};
 
 use crate::line::MinerLine;
 use crate::result_share::ResultShare;
 use crate::types::type_in;
-use sc_text::{Elements, Event};
+use bit_words::words_for;
+use program_trees::DataType;
+use sc_text::{Elements, Event, Name};
 use std::alloc::{AllocError, Global};
 use view_reader::{elements_in, end_in, is_word, name_in, words_in};
 
@@ -38,7 +41,35 @@ fn published_in(alloc: Global, words: &[&[u8]]) -> Result<Option<Event>, AllocEr
     }
 }
 
-/// The share with this name, this type and these words.
+/// The share of truth values with these numbers: how many there are, and then the words that hold them.
+fn truths_of(name: Name, mut numbers: Vec<u64>) -> Option<ResultShare>
+    ensures { result ≡ share_of name datatype.Bool numbers.items }
+{
+    if numbers.is_empty() {
+        return None;
+    }
+    let count = numbers.remove(0);
+    if numbers.len() as u64 == words_for(count) {
+        Some(ResultShare::new(name, DataType::Bool, count, numbers))
+    } else {
+        None
+    }
+}
+
+/// The share that has these numbers in its line.
+fn share_of(name: Name, element: DataType, numbers: Vec<u64>) -> Option<ResultShare>
+    ensures { result ≡ share_of name element numbers.items }
+{
+    match element {
+        DataType::Uint64 => {
+            let count = numbers.len() as u64;
+            Some(ResultShare::new(name, element, count, numbers))
+        }
+        DataType::Bool => truths_of(name, numbers),
+    }
+}
+
+/// The share with this name, this type and these numbers.
 fn share_in(alloc: Global, words: &[&[u8]]) -> Result<Option<ResultShare>, AllocError>
     ensures { IfOk result (λ found. found ≡ share_in (map (λ word. word.now) words.now)) }
 {
@@ -52,7 +83,7 @@ fn share_in(alloc: Global, words: &[&[u8]]) -> Result<Option<ResultShare>, Alloc
         return Ok(None);
     };
     match words_in(alloc, rest)? {
-        Some(words) => Ok(Some(ResultShare::new(name, element, words))),
+        Some(numbers) => Ok(share_of(name, element, numbers)),
         None => Ok(None),
     }
 }

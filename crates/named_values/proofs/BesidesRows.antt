@@ -26,7 +26,8 @@ use Rattle.program_trees.specs.declared.operators.Cast.{Cast}
 use Rattle.program_trees.specs.declared.operators.Cast.TheVariants.{WordToWord, WordToBool, BoolToWord, BoolToBool}
 use Rattle.program_trees.specs.Shapes.{shape_of}
 use Rattle.language_model.specs.Effects.{World, GivenInput, Effect, words_each}
-use Rattle.language_model.specs.Values.{Secrecy, Plain, Private, Value, plain, hidden, size, visible_words, is_true, ring_for, gate_words, gate_size, elements_of}
+use Rattle.language_model.specs.Values.{Secrecy, Plain, Private, Value, plain, hidden, size, visible_words, is_true, elements_of}
+use Rattle.language_model.specs.Values.{ring_for, gate_words, gate_size}
 use Rattle.language_model.specs.Words as W
 use Rattle.language_model.specs.Operations.{charged, no_traps, not_too_large, number_from, number_of, made_private, classified_from}
 use Rattle.language_model.specs.Operations.{read_answer, revealed, opened_from, declassified}
@@ -69,7 +70,8 @@ made_besides shape words k = besides_done (hidden shape k words)
 classified_from_besides : (x : Secrecy) (v : Value) → Besides (classified_from x v)
 classified_from_besides (Private k) v = besides_done v
 classified_from_besides Plain v =
-    besides_bind (untrapped_besides (size v)) (λ _. besides_bind (besides_gate (Const (gate_words v.shape.element v.words))) (λ k. made_besides v.shape v.words k))
+    besides_bind (untrapped_besides (size v)) (λ _. besides_bind (besides_gate (Const (gate_words v.shape.element v.words))) (λ k.
+    made_besides v.shape v.words k))
 
 pub classified_besides : (v : Value) → Besides (classified v)
 classified_besides v = classified_from_besides v.secrecy v
@@ -140,7 +142,8 @@ private_besides : (w : World) (op : BinaryOperator) (ds : Operands) (x y : Value
 private_besides w op ds x y =
     let n = W.result_size ds x y in
     besides_bind (besides_draw w (words_of_operator op n)) (λ _. besides_bind (number_besides x) (λ j. besides_bind (number_besides y) (λ k.
-    besides_bind (stretched_besides x.shape.element (is_scalar_left ds) n j) (λ u. besides_bind (stretched_besides y.shape.element (is_scalar_right ds) n k) (λ v.
+    besides_bind (stretched_besides x.shape.element (is_scalar_left ds) n j) (λ u.
+    besides_bind (stretched_besides y.shape.element (is_scalar_right ds) n k) (λ v.
     besides_bind (operator_besides op n u v) (λ r. made_besides (result_shape op ds) (W.result_words op ds x y) r))))))
 
 product_besides : (op : BinaryOperator) (ds : Operands) (scalar : Bool) (x : Value) (known words : List ℕ)
@@ -220,8 +223,8 @@ bits_besides w line v = besides_bind (large_besides line (64 * size v)) (λ _. b
 
 cat_besides : (x y : Value) → Besides (concatenated_from (Private None) Plain x y)
 cat_besides x y =
-    besides_bind (number_besides x) (λ u. besides_bind (number_besides y) (λ v. besides_bind (besides_gate (joined_gate x.shape.element u (size x) v (size y))) (λ r.
-    made_besides x.shape (x.words ++ y.words) r)))
+    besides_bind (number_besides x) (λ u. besides_bind (number_besides y) (λ v.
+    besides_bind (besides_gate (joined_gate x.shape.element u (size x) v (size y))) (λ r. made_besides x.shape (x.words ++ y.words) r)))
 
 concatenated_from_besides : (a b : Secrecy) (x y : Value) → Besides (concatenated_from a b x y)
 concatenated_from_besides Plain Plain x y = besides_done (plain x.shape (x.words ++ y.words))
@@ -246,7 +249,8 @@ element_besides line v i =
 with_element_from_besides : (s : Secrecy) (v : Value) (i : ℕ) (x : Value) → Besides (with_element_from s v i x)
 with_element_from_besides Plain v i x = besides_done _
 with_element_from_besides (Private k) v i x =
-    besides_bind (number_besides v) (λ u. besides_bind (number_besides x) (λ e. besides_bind (besides_gate (stored_gate v.shape.element u i e)) (λ r. besides_done _)))
+    besides_bind (number_besides v) (λ u. besides_bind (number_besides x) (λ e.
+    besides_bind (besides_gate (stored_gate v.shape.element u i e)) (λ r. besides_done _)))
 
 pub with_element_besides : (line : ℕ) (v i x : Value) → Besides (with_element line v i x)
 with_element_besides line v i x =

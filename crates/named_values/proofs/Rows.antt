@@ -25,7 +25,8 @@ use Rattle.program_trees.specs.declared.operators.Cast.{Cast}
 use Rattle.program_trees.specs.declared.operators.Cast.TheVariants.{WordToWord, WordToBool, BoolToWord, BoolToBool}
 use Rattle.program_trees.specs.Shapes.{shape_of}
 use Rattle.language_model.specs.Effects.{World, GivenInput, Effect, ◌>>=◌, done, test, words_each, gate, planned}
-use Rattle.language_model.specs.Values.{Secrecy, Plain, Private, Value, plain, hidden, never_stored, size, visible_words, is_true, ring_for, gate_words, gate_size, elements_of}
+use Rattle.language_model.specs.Values.{Secrecy, Plain, Private, Value, plain, hidden, never_stored, size, visible_words, is_true, elements_of}
+use Rattle.language_model.specs.Values.{ring_for, gate_words, gate_size}
 use Rattle.language_model.specs.Words as W
 use Rattle.language_model.specs.Operations as row
 use Rattle.language_model.specs.Evaluation.{is_as_declared, given_value, asked_for}
@@ -194,13 +195,15 @@ module _ (N : Numbers) where
     private_naming =
         let n = W.result_size ds x y in
         naming_bind (draw_naming w (row.words_of_operator op n)) (λ _ _. naming_bind (number_naming x a) (λ i f. naming_bind (number_naming y b) (λ j g.
-        naming_bind (stretched_naming x.shape.element (row.is_scalar_left ds) n i f) (λ u h. naming_bind (stretched_naming y.shape.element (row.is_scalar_right ds) n j g) (λ v k.
+        naming_bind (stretched_naming x.shape.element (row.is_scalar_left ds) n i f) (λ u h.
+        naming_bind (stretched_naming y.shape.element (row.is_scalar_right ds) n j g) (λ v k.
         naming_bind (operator_naming n u v h k op) (λ r m. made_naming (row.result_shape op ds) (W.result_words op ds x y) r m))))))
 
     product_naming : (scalar : Bool) (z : Value) (known words : List ℕ) → Names N z → Naming N (row.product_with op ds scalar z known words) (Names N)
     product_naming scalar z known words h =
         naming_bind (number_naming z h) (λ j f. naming_bind (stretched_naming z.shape.element scalar (length known) j f) (λ u g.
-        naming_bind (gate_naming (gates.MulPub (ring_for z.shape.element) u (gate_words z.shape.element known)) refl (g, tt)) (λ r m. made_naming (row.result_shape op ds) words r m)))
+        naming_bind (gate_naming (gates.MulPub (ring_for z.shape.element) u (gate_words z.shape.element known)) refl (g, tt)) (λ r m.
+        made_naming (row.result_shape op ds) words r m)))
 
     combined_naming : (j k : Secrecy) → Naming N (row.combined_from j k w op ds x y) (Names N)
     combined_naming Plain Plain = shown_naming (row.result_shape op ds) (W.result_words op ds x y)
@@ -307,7 +310,8 @@ module _ (N : Numbers) where
 
     pub published_naming : (w : World) (text : List ℕ) → Naming N (row.published w text v) (Any {A = Unit {0}})
     published_naming w text =
-        naming_bind (plain_charge (size v)) (λ _ _. naming_bind (handed_naming w v.secrecy) (λ _ _. emit_naming (row.publication v.secrecy text (elements_of v))))
+        naming_bind (plain_charge (size v)) (λ _ _. naming_bind (handed_naming w v.secrecy) (λ _ _.
+        emit_naming (row.publication v.secrecy text (elements_of v))))
 
   module _ (x y : Value) (a : Names N x) (b : Names N y) where
     both_naming : {f : ℕ → ℕ → Effect ℕ} (shape : Shape) (words : List ℕ) → ((u v : ℕ) → N u → N v → Naming N (f u v) N)

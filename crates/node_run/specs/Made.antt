@@ -97,4 +97,4 @@ known_text share budget = public_text (part_bytes (shapes_of share.entries)) bud
 -- the hello of a miner, by the digest of the file of its code; each peer is sent it with the peer's number as the receiver
 abbrev pub hello_of : Number → (code : List ℕ) → MinerFile → (budget : ℕ) → Hello
 hello_of me code share budget =
-    record { version = 1; sender = count_of me; receiver = 0; code = code; public = sha256 (known_text share budget) }
+    record { version = 2; sender = count_of me; receiver = 0; code = code; public = sha256 (known_text share budget) }

@@ -9,7 +9,7 @@ use value_file::write_public;
 use wire::{Hello, public_digest};
 
 /// The version of hellos and frames.
-const VERSION: u8 = 1;
+const VERSION: u8 = 2;
 
 /// The hello of a miner with this share file, by the digest of its code file. What everybody knows of the run is told by a second digest: the
 /// public part of the inputs, the budget, and the lengths of the tapes.

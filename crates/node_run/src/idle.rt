@@ -8,7 +8,7 @@ use std::alloc::{AllocError, Global};
 use verified_code::{Verified, verify};
 
 /// The code of a program whose `main` returns at once.
-const IDLE: [u8; 17] = [83, 67, 51, 80, 1, 0, 0, 1, 0, 0, 0, 255, 0, 0, 1, 0, 24];
+const IDLE: [u8; 17] = [83, 67, 51, 80, 2, 0, 0, 1, 0, 0, 0, 255, 0, 0, 1, 0, 24];
 
 fn read_idle(alloc: Global) -> Result<Code, AllocError>
     ensures { IfOk result (λ code. raw_code code ≡ idle_code) }

@@ -25,10 +25,15 @@ fn line_told(alloc: Global, notice: &Notice) -> Result<MinerLine, AllocError>
             let given = elements(alloc, shape.element, words)?;
             Ok(MinerLine::Told(Event::Publish(name, given)))
         }
-        Notice::Handed { name, shape, words } => {
+        Notice::Handed {
+            name,
+            shape,
+            count,
+            words,
+        } => {
             let name = name.copy(alloc)?;
             let words = Vec::from_slice(alloc, words)?;
-            let share = ResultShare::new(name, shape.element, words);
+            let share = ResultShare::new(name, shape.element, *count, words);
             Ok(MinerLine::Share(share))
         }
     }

@@ -4,17 +4,19 @@ use Rattle.std.specs.Prelude.{sum_by}
 use Rattle.std.proofs.lemmas.List.{length-map}
 use Rattle.std.proofs.lemmas.List.Sums.{sum-map, sum_by-cons}
 use Rattle.value_file.specs.declared.inputs.Entry.{Entry}
+use Rattle.value_file.specs.declared.value.DataType.TheVariants as data_type
 use Rattle.value_file.specs.declared.value.Domain.{Domain}
 use Rattle.value_file.specs.declared.value.Domain.TheVariants.{Public, Private}
 use Rattle.value_file.specs.declared.value.Value.{Value}
 use Rattle.value_file.specs.declared.value.Value.TheVariants.{Number, Truth, Numbers, Truths}
 use Rattle.value_file.specs.Values.{count_of, type_of}
 use Rattle.input_share.specs.Dealing.{draws_for, draws_of, need_of}
-use Rattle.input_share.specs.Values.{bit_word, elements_of}
+use Rattle.input_share.specs.Values.{bit_word, elements_of, shared_size}
 use Rattle.program_trees.specs.Shapes.{shape_of}
 use Rattle.language_model.specs.Effects.{Clear}
 use Rattle.language_model.specs.Evaluation.{either}
 use Rattle.language_model.specs.Reports.{words_dealt, dealing, world_of}
+use Rattle.language_model.specs.Values.{gate_size}
 use Rattle.language_model.specs.Words.{truth_word}
 use Rattle.clear_eval.specs.Offers.{input_given, is_private, offered, shape_given, words_given}
 use Rattle.code_inputs.specs.Inputs.{AreGivenAs, IsGivenAs, element_given, is_array}
@@ -61,12 +63,21 @@ count_same (Truth b) = refl
 count_same (Numbers ns) = refl
 count_same (Truths bs) = length-map bs truth_word
 
+size_same : (v : Value) → gate_size (shape_given v).element (length (words_given v)) ≡ shared_size (type_of v) (count_of v)
+size_same (Number n) = refl
+size_same (Truth b) = refl
+size_same (Numbers ns) = refl
+size_same (Truths bs) = ap (shared_size data_type.Bool) (count_same (Truths bs))
+
 draws_same : (e : Entry) → words_dealt (input_given e) ≡ draws_of e
 draws_same e = of_domain e.domain
   where
-    of_domain : (d : Domain) → either (is_private d) (2 * length (words_given e.value)) 0 ≡ draws_for d (count_of e.value)
+    words : ℕ
+    words = gate_size (shape_given e.value).element (length (words_given e.value))
+
+    of_domain : (d : Domain) → either (is_private d) (2 * words) 0 ≡ draws_for d (shared_size (type_of e.value) (count_of e.value))
     of_domain Public = refl
-    of_domain Private = ap (λ n. 2 * n) (count_same e.value)
+    of_domain Private = ap (λ n. 2 * n) (size_same e.value)
 
 all_same : (es : List Entry) → sum_by words_dealt (map input_given es) ≡ need_of es
 all_same [] = refl

@@ -10,6 +10,7 @@ use Rattle.value_file.specs.declared.inputs.Entry.{Entry}
 use Rattle.value_file.specs.Public.{part_of}
 use Rattle.program_trees.specs.TypedPrograms.{TypedProgramTree}
 use Rattle.language_model.specs.Effects.{Answers, GivenInput, RunStop, Ended, Short}
+use Rattle.language_model.specs.Learned.{elements_words, learned_of}
 use Rattle.language_model.specs.Reports.{Report, Offered, world_of, evaluated, public_part}
 use Rattle.blind_evaluation.specs.Courses.{LikeEvents, TakeSameCourse, IsEnded}
 use Rattle.blind_evaluation.proofs.Course.{same_course, never_short}
@@ -53,6 +54,21 @@ same_openings (Publish text elements ∷ es) (Open others ∷ fs) h = absurd h.0
 same_openings (Publish text elements ∷ es) (Hand text' others ∷ fs) h = absurd h.0
 same_openings (Hand text elements ∷ es) (Open others ∷ fs) h = absurd h.0
 same_openings (Hand text elements ∷ es) (Publish text' others ∷ fs) h = absurd h.0
+
+-- the words that the gates open are those of the openings
+words_of : List (List Element) → List ℕ
+words_of [] = []
+words_of (es ∷ ess) = elements_words es ++ words_of ess
+
+learned_so : (es : List Event) → learned_of es ≡ words_of (openings es)
+unfolding words_of
+learned_so [] = refl
+learned_so (Open elements ∷ es) = ap (λ ws. elements_words elements ++ ws) (learned_so es)
+learned_so (Publish text elements ∷ es) = learned_so es
+learned_so (Hand text elements ∷ es) = learned_so es
+
+pub same_learned : (es fs : List Event) → LikeEvents es fs → learned_of es ≡ learned_of fs
+same_learned es fs h = learned_so es ∙ ap words_of (same_openings es fs h) ∙ sym (learned_so fs)
 
 module _ (i : Number) (seen : Seen) where
   abbrev shown : Ending → List (List Element) → (cost : ℕ) → Option View

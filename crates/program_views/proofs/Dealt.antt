@@ -10,6 +10,7 @@ use Rattle.value_file.specs.declared.inputs.Entry.{Entry}
 use Rattle.input_share.specs.Dealing.{need_of}
 use Rattle.tape_file.specs.Tapes.{FourTapes}
 use Rattle.language_model.specs.Effects.{Words, World, Clear}
+use Rattle.language_model.specs.Learned.{learned_of}
 use Rattle.language_model.specs.Reports.{Report}
 use Rattle.language_model.specs.Tapes.{AtMost, HasWords}
 use Rattle.gate_laws.specs.Dealt.{drawn_by}
@@ -47,7 +48,7 @@ module _
           reach = λ i. subst (λ ns. words_of_all (sizes_after ns [] r.gates) (miner_of i) r.gates ≤ length (miners_of t i)) sizes (drawn_within i);
         }
 
-    pub opens_its_words : r.opened ≡ opened_by_all entries r.gates t
+    pub opens_its_words : learned_of r.events ≡ opened_by_all entries r.gates t
     opens_its_words =
         let c = run_computes entries r.gates t suits.kinds are sound.words enough reaches suits.formed.kinded in
         suits.opened clear c.more c.fit ∙ sym c.opens

@@ -1,7 +1,9 @@
 -- What evaluation makes of an entry is given so, and the public part tells how many words are dealt.
 use Rattle.std.proofs.Common.{◌≡◌, ◌+◌, ◌*◌, List, [], ◌∷◌, length, map, Bool, true, false, refl, sym, ap, ◌∙◌}
 use Rattle.std.specs.Prelude.{sum}
+use Rattle.std.proofs.lemmas.List.{length-map}
 use Rattle.std.proofs.lemmas.List.Sums.{sum_by-cons}
+use Rattle.gates.specs.Bits.{words_for}
 use Rattle.program_trees.specs.Shapes.{shape_of}
 use Rattle.value_file.specs.declared.value.Value.{Value}
 use Rattle.value_file.specs.declared.value.Value.TheVariants.{Number, Truth, Numbers, Truths}
@@ -10,9 +12,9 @@ use Rattle.value_file.specs.declared.value.Domain.TheVariants.{Public, Private}
 use Rattle.value_file.specs.declared.inputs.Entry.{Entry}
 use Rattle.value_file.specs.Public.{part_of}
 use Rattle.value_file.specs.Values.{type_of, count_of}
-use Rattle.input_share.specs.Values.{bit_word, elements_of}
+use Rattle.input_share.specs.Values.{bit_word, elements_of, shared_size}
 use Rattle.input_share.specs.Dealing.{need_of, draws_of, draws_for}
-use Rattle.input_share.proofs.Elements.{length-elements_of}
+use Rattle.language_model.specs.Values.{gate_size}
 use Rattle.language_model.specs.Words.{truth_word}
 use Rattle.language_model.specs.Evaluation.{either}
 use Rattle.language_model.specs.Reports.{words_dealt}
@@ -56,9 +58,16 @@ need_known (e ∷ es) =
 
 -- ---- WHAT IS DEALT
 
-dealt_for : (d : Domain) (v : Value) → either (is_private d) (2 * length (words_given v)) 0 ≡ draws_for d (count_of v)
+size_for : (v : Value) → gate_size (shape_given v).element (length (words_given v)) ≡ shared_size (type_of v) (count_of v)
+size_for (Number n) = refl
+size_for (Truth b) = refl
+size_for (Numbers ns) = refl
+size_for (Truths bs) = ap words_for (length-map bs truth_word)
+
+dealt_for : (d : Domain) (v : Value)
+    → either (is_private d) (2 * gate_size (shape_given v).element (length (words_given v))) 0 ≡ draws_for d (shared_size (type_of v) (count_of v))
 dealt_for Public v = refl
-dealt_for Private v = ap (λ n. 2 * n) (ap length (given_of v).1 ∙ length-elements_of v)
+dealt_for Private v = ap (λ n. 2 * n) (size_for v)
 
 pub same_need : (es : List Entry) → sum (map words_dealt (map input_given es)) ≡ need_of es
 same_need [] = refl

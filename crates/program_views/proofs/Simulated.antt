@@ -15,6 +15,7 @@ use Rattle.value_file.specs.Public.{part_of}
 use Rattle.input_share.specs.Dealing.{need_of}
 use Rattle.tape_file.specs.Tapes.{FourTapes}
 use Rattle.language_model.specs.Effects.{Words, World, Clear, words_each}
+use Rattle.language_model.specs.Learned.{learned_of}
 use Rattle.language_model.specs.Reports.{Report, world_of}
 use Rattle.language_model.proofs.Kept.{words_kept}
 use Rattle.gate_laws.specs.Dealt.{drawn_by}
@@ -34,7 +35,7 @@ use Rattle.program_views.specs.Simulated.{ViewIsSimulated}
 use Rattle.program_views.proofs.Given.{given_so, need_known}
 use Rattle.program_views.proofs.Dealt.{reaches, opens_its_words, draws_its_words}
 use Rattle.program_views.proofs.Undealt.{none_drawn}
-use Rattle.program_views.proofs.Blind.{takes_same_course, same_course_exactly, is_ended, same_view, gives_view}
+use Rattle.program_views.proofs.Blind.{takes_same_course, same_course_exactly, is_ended, same_learned, same_view, gives_view}
 
 pub same_lengths : (t s : FourTapes) → SameLengths t s → lengths_of t ≡ lengths_of s
 same_lengths t s h =
@@ -72,7 +73,7 @@ module _
     can_run h =
         reaches entries t are given.inputs h (world entries t) refl (as_long entries t) r (suited h) (words_kept (world entries t) p budget [])
 
-    pub opens_them : need_of entries ≤ length t.dealer → r.opened ≡ opened_by_all entries r.gates t
+    pub opens_them : need_of entries ≤ length t.dealer → learned_of r.events ≡ opened_by_all entries r.gates t
     unfolding world
     opens_them h =
         opens_its_words entries t are given.inputs h (world entries t) refl (as_long entries t) r (suited h)
@@ -107,7 +108,7 @@ module _
 
 module _
     (i : Number) (entries : List Entry) (t : FourTapes) (are : AreTapes t) (r s : Report) (course : TakeSameCourse r s)
-    (can : CanRun entries r.gates t) (opens : need_of entries ≤ length t.dealer → r.opened ≡ opened_by_all entries r.gates t) (delivery : Delivery)
+    (can : CanRun entries r.gates t) (opens : need_of entries ≤ length t.dealer → learned_of r.events ≡ opened_by_all entries r.gates t) (delivery : Delivery)
   where
     abbrev m : FourTapes
     m = to_simulated i entries r.gates t
@@ -116,19 +117,22 @@ module _
     same_test =
         ap (λ n. nat_le n (length m.dealer)) (need_known entries) ∙ ap (nat_le (need_of entries)) (correspond i entries r.gates t are can).kept.0
 
-    made_seen : need_of entries ≤ length t.dealer → made_for i (part_of entries) s.gates s.opened m delivery ≡ seen_by i entries r.gates t delivery
+    abbrev told : List ℕ
+    told = learned_of s.events
+
+    made_seen : need_of entries ≤ length t.dealer → made_for i (part_of entries) s.gates told m delivery ≡ seen_by i entries r.gates t delivery
     made_seen h =
-        ap (λ gates. made_for i (part_of entries) gates s.opened m delivery) (sym course.gates)
-        ∙ ap (λ opened. made_for i (part_of entries) r.gates opened m delivery) (sym course.opened ∙ opens h)
+        ap (λ gates. made_for i (part_of entries) gates told m delivery) (sym course.gates)
+        ∙ ap (λ opened. made_for i (part_of entries) r.gates opened m delivery) (sym (same_learned r.events s.events course.events) ∙ opens h)
         ∙ sym (seen_is_made i entries r.gates t are h (can h) delivery)
 
     made_is_seen : made_of i (part_of entries) m delivery s ≡ seen_of i entries t delivery r
     made_is_seen =
-        ap (λ b. if b then made_for i (part_of entries) s.gates s.opened m delivery else nothing_seen) same_test ∙ by_test (is_dealt entries t) refl
+        ap (λ b. if b then made_for i (part_of entries) s.gates told m delivery else nothing_seen) same_test ∙ by_test (is_dealt entries t) refl
       where
         by_test :
             (b : Bool) → is_dealt entries t ≡ b
-            → (if b then made_for i (part_of entries) s.gates s.opened m delivery else nothing_seen)
+            → (if b then made_for i (part_of entries) s.gates told m delivery else nothing_seen)
             ≡ (if b then seen_by i entries r.gates t delivery else nothing_seen)
         by_test true e = made_seen (le_from _ _ e)
         by_test false e = refl

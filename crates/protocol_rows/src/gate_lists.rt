@@ -34,7 +34,7 @@ fn tell_copies(alloc: Global, lines: &mut Lines, list: Words) {
 }
 
 // A list of gates over one input of two words.
-fn listed() -> [Gate; 8] {
+fn listed() -> [Gate; 7] {
     [
         Gate::Input { number: 0 },
         Gate::Split {
@@ -48,11 +48,10 @@ fn listed() -> [Gate; 8] {
             index: 1,
             element: 4,
         },
-        Gate::Spread { operand: 5 },
         Gate::Part {
-            operand: 6,
-            from: 0,
-            count: 3,
+            operand: 5,
+            from: 1,
+            count: 1,
         },
         Gate::Shl {
             operand: 5,
@@ -156,7 +155,7 @@ pub fn tell(alloc: Global, lines: &mut Lines) {
         Ok(list) => tell_copies(alloc, lines, list),
         Err(AllocError) => lines.run_short(),
     }
-    tell_evaluated(alloc, lines, &listed(), &[1, 5, 7, 8]);
+    tell_evaluated(alloc, lines, &listed(), &[1, 5, 6, 7]);
     tell_evaluated(alloc, lines, &packing(), &[1, 2, 3, 4, 5, 6]);
     tell_evaluated(alloc, lines, &repeating(), &[1, 2, 3]);
 }

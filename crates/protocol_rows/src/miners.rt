@@ -26,7 +26,7 @@ struct Source {
 // Two numbers, a and b, are stored; their sum is opened and published as s.
 const SUM: Source = Source {
     code: &[
-        83, 67, 51, 80, 1, 3, 0, 1, 97, 1, 98, 1, 115, 1, 0, // three names, one function
+        83, 67, 51, 80, 2, 3, 0, 1, 97, 1, 98, 1, 115, 1, 0, // three names, one function
         0, 0, 255, 4, 0, 1, 1, 1, 0, 8, 0, // three private registers and a public one, eight instructions
         16, 2, 0, 0, 0, 2, 0, 0, 0, 3, 0, 0, 2, 0, // a
         16, 2, 0, 1, 0, 2, 0, 0, 0, 3, 1, 0, 2, 0, // b
@@ -39,7 +39,7 @@ const SUM: Source = Source {
 // A truth value, b, becomes a number that is opened and published as n.
 const NUMBER: Source = Source {
     code: &[
-        83, 67, 51, 80, 1, 2, 0, 1, 98, 1, 110, 1, 0, // two names, one function
+        83, 67, 51, 80, 2, 2, 0, 1, 98, 1, 110, 1, 0, // two names, one function
         0, 0, 255, 3, 0, 3, 1, 0, 5, 0, // a private truth value, a private and a public number, five instructions
         16, 0, 0, 0, 0, 2, 0, 0, 0, 6, 1, 0, 0, 0, 15, 2, 0, 1, 0, 17, 1, 0, 2, 0, 24,
     ],

@@ -16,7 +16,7 @@ use Rattle.code_model.specs.Meaning.{fuel, report_at, stopped_or, mean_in}
 use Rattle.code_runs.proofs.Onwards.{step_onward}
 use Rattle.driven_nodes.specs.Steps.{On, Over, Wants, Stand, Running, Stopped, Short, place_of, stand_of, last_of}
 use Rattle.driven_nodes.specs.Steps as steps
-use Rattle.code_places.specs.Places.{Place, telling_stage, stopped, went, next_step, notices_between, step_told}
+use Rattle.code_places.specs.Places.{Place, telling_stage, stopped, went, next_step, answers_told, notices_between, step_told}
 use Rattle.gate_node.specs.OwnGates.{GatesEnd, Whole, Stuck, own_gates}
 use Rattle.gate_node.proofs.Always.{EndsAlways, always-then}
 use Rattle.own_code.specs.OwnCode.{Reached, Unfit, From, gates_between, led_by, go_on, tell_and_go_on, behind_gates, own_code}
@@ -90,7 +90,7 @@ module _ (w : World) where
 
     told_fits : (p : Place) (told : List ℕ) → Fits p.stage → Fits (place_of (step_told w c p told)).stage
     told_fits p told h =
-        let s : Stage = telling_stage told p.stage in
+        let s : Stage = telling_stage (answers_told told (next_step p.machine) p.machine) p.stage in
         subst (λ d. AtMost d w.lengths) (sym (went_drawn p.machine (step w c (next_step p.machine) p.machine s)))
         (step_fits (next_step p.machine) p.machine s h)
 

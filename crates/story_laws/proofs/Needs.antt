@@ -37,7 +37,7 @@ use Rattle.code_runs.proofs.Onwards.{step_onward}
 use Rattle.driven_nodes.specs.Driven.{telling}
 use Rattle.driven_nodes.specs.Steps.{On, Over, Wants, Stand, Running, Stopped, Went, gained, place_of, stand_of, last_of}
 use Rattle.driven_nodes.specs.Steps as steps
-use Rattle.code_places.specs.Places.{Place, next_step, notices_between, step_told, stopped, telling_stage, went}
+use Rattle.code_places.specs.Places.{Place, next_step, answers_told, notices_between, step_told, stopped, telling_stage, went}
 use Rattle.own_code.specs.OwnCode.{Reached, Unfit, From, gates_between, led_by, go_on, own_code, behind_gates}
 use Rattle.own_code.specs.OwnCode as own
 use Rattle.own_code.proofs.Told.{same_when_told}
@@ -211,7 +211,7 @@ module _ (w : World) (c : List Function) where
   -- its gates come after those that were there
   gates_grow : (p : Place) (told : List ℕ) → Begins p.stage.gates (place_of (step_told w c p told)).stage.gates
   gates_grow p told =
-      let s : Stage = telling_stage told p.stage in
+      let s : Stage = telling_stage (answers_told told (next_step p.machine) p.machine) p.stage in
       subst (Begins p.stage.gates) (sym (went_gates p.machine (step w c (next_step p.machine) p.machine s)))
       ((step_onward w c p.machine (next_step p.machine)).from s).gates
 

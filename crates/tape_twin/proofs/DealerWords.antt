@@ -33,9 +33,9 @@ use Rattle.value_file.specs.declared.value.Domain.TheVariants as domain
 use Rattle.value_file.specs.declared.value.Value.{Value}
 use Rattle.value_file.specs.declared.inputs.Entry.{Entry}
 use Rattle.value_file.specs.Values.{type_of, count_of}
-use Rattle.input_share.specs.Values.{elements_of, ring_of}
+use Rattle.input_share.specs.Values.{shared_words, shared_size, ring_of}
 use Rattle.input_share.specs.Dealing.{share_of, draws_for, draws_of, need_of, part_of}
-use Rattle.input_share.proofs.Elements.{length-elements_of}
+use Rattle.input_share.proofs.Elements.{length-shared_words}
 use Rattle.view_model.specs.Dealing.{dealt_to, private_then, seen_for, seen_dealer}
 use Rattle.view_model.proofs.Masks.{share_front}
 use Rattle.view_model.proofs.Dealings.{need_rest}
@@ -76,15 +76,19 @@ regrouped : (x y p d : List ℕ) → (x ++ (y ++ p)) ++ d ≡ (x ++ y) ++ (p ++ 
 regrouped x y p d = simp append_assoc
 
 module _ (v : Value) (words : List ℕ) (T S : Values) (tail seen : List ℕ) (later : pairs T S ++ tail ≡ seen) where
+  -- in how many words it is shared
+  abbrev m : ℕ
+  m = shared_size (type_of v) (count_of v)
+
   one-value :
-      (d : Domain) → draws_for d (count_of v) ≤ length words → length (elements_of v) ≡ count_of v →
+      (d : Domain) → draws_for d m ≤ length words → length (shared_words v) ≡ m →
       pairs (private_then (part_of Three d v words) T) (private_then (part_of Two d v words) S) ++ tail
-      ≡ seen_for Three d v (take (draws_for d (count_of v)) words) ++ seen
+      ≡ seen_for Three d v (take (draws_for d m) words) ++ seen
   one-value domain.Public enough count = later
   one-value domain.Private enough count =
       let r : Ring = ring_of (type_of v) in
-      let xs : List ℕ = elements_of v in
-      let n : ℕ = 2 * count_of v in
+      let xs : List ℕ = shared_words v in
+      let n : ℕ = 2 * m in
       let size : 2 * length xs ≤ n = omega arith in
       regrouped (share_of Three r xs words) (share_of Two r xs words) (pairs T S) tail
       ∙ ap (λ w. (share_of Three r xs words ++ share_of Two r xs words) ++ w) later
@@ -101,7 +105,7 @@ pairs-seen (e ∷ es) words h =
     ap (λ w. pairs (dealt_to (e ∷ es) words Three) (dealt_to (e ∷ es) words Two) ++ w)
     (ap (λ k. drop k words) need ∙ sym (drop-drop (need_of es) (draws_of e) words))
     ∙ one-value e.value words (dealt_to es rest Three) (dealt_to es rest Two) (drop (need_of es) rest) (seen_dealer Three es rest)
-    (pairs-seen es rest (need_rest e es words h)) e.domain (omega arith) (length-elements_of e.value)
+    (pairs-seen es rest (need_rest e es words h)) e.domain (omega arith) (length-shared_words e.value)
 
 -- the words from a place on, as the code takes them
 pub rest-of : (words : List ℕ) (n : ℕ) → take (length words - n) (drop n words) ≡ drop n words

@@ -10,6 +10,7 @@ use Rattle.sc_text.specs.declared.elements.Element.TheVariants.{Word}
 use Rattle.sc_text.specs.declared.end.End.{End}
 use Rattle.sc_text.specs.declared.end.Ending.TheVariants.{Done}
 use Rattle.sc_text.specs.declared.event.Event.TheVariants.{Open}
+use Rattle.gates.specs.Gathered.{unpacked}
 use Rattle.miner_text.specs.Lines.{share_line, line_text}
 use Rattle.miner_text.specs.declared.line.MinerLine.{MinerLine}
 use Rattle.miner_text.specs.declared.line.MinerLine.TheVariants as lines
@@ -22,27 +23,36 @@ abbrev pub with_end : MinerLine → List MinerLine
 with_end line = line ∷ lines.Ended done ∷ []
 
 -- the product of 6 and 7, of which the third miner has the whole
-pub product : joined_of (with_end (lines.Share (record { name = codes "c"; element = Uint64; words = 0 ∷ [] })))
-    (with_end (lines.Share (record { name = codes "c"; element = Uint64; words = 0 ∷ [] })))
-    (with_end (lines.Share (record { name = codes "c"; element = Uint64; words = 42 ∷ [] })))
+pub product : joined_of (with_end (lines.Share (record { name = codes "c"; element = Uint64; count = 1; words = 0 ∷ [] })))
+    (with_end (lines.Share (record { name = codes "c"; element = Uint64; count = 1; words = 0 ∷ [] })))
+    (with_end (lines.Share (record { name = codes "c"; element = Uint64; count = 1; words = 42 ∷ [] })))
     ≡ Ok (record { text = codes "publish c 42\nend done cost 7\n"; end = done })
 unfolding line_text share_line event_line elements_text element_text end_line ending_text digits
 product = refl
 
--- numbers wrap, and of truth values bit 0 of the three xored counts
-pub wrapped : joined_of (with_end (lines.Share (record { name = codes "c"; element = Uint64; words = 18446744073709551615 ∷ [] })))
-    (with_end (lines.Share (record { name = codes "c"; element = Uint64; words = 1 ∷ [] })))
-    (with_end (lines.Share (record { name = codes "c"; element = Uint64; words = 5 ∷ [] })))
+-- numbers wrap
+pub wrapped : joined_of (with_end (lines.Share (record { name = codes "c"; element = Uint64; count = 1; words = 18446744073709551615 ∷ [] })))
+    (with_end (lines.Share (record { name = codes "c"; element = Uint64; count = 1; words = 1 ∷ [] })))
+    (with_end (lines.Share (record { name = codes "c"; element = Uint64; count = 1; words = 5 ∷ [] })))
     ≡ Ok (record { text = codes "publish c 5\nend done cost 7\n"; end = done })
 unfolding line_text share_line event_line elements_text element_text end_line ending_text digits
 wrapped = refl
 
-pub truths : joined_of (with_end (lines.Share (record { name = codes "b"; element = datatype.Bool; words = 7 ∷ 1 ∷ [] })))
-    (with_end (lines.Share (record { name = codes "b"; element = datatype.Bool; words = 4 ∷ 1 ∷ [] })))
-    (with_end (lines.Share (record { name = codes "b"; element = datatype.Bool; words = 2 ∷ 2 ∷ [] })))
+-- of truth values the bits of the three xored count, and no bit beyond them
+pub truths : joined_of (with_end (lines.Share (record { name = codes "b"; element = datatype.Bool; count = 2; words = 7 ∷ [] })))
+    (with_end (lines.Share (record { name = codes "b"; element = datatype.Bool; count = 2; words = 4 ∷ [] })))
+    (with_end (lines.Share (record { name = codes "b"; element = datatype.Bool; count = 2; words = 2 ∷ [] })))
     ≡ Ok (record { text = codes "publish b true false\nend done cost 7\n"; end = done })
-unfolding line_text share_line event_line elements_text element_text end_line ending_text digits
+unfolding line_text share_line event_line elements_text element_text end_line ending_text digits unpacked
 truths = refl
+
+-- as many truth values must be there, also where as many words hold them
+pub fewer_truths : joined_of (with_end (lines.Share (record { name = codes "b"; element = datatype.Bool; count = 2; words = 7 ∷ [] })))
+    (with_end (lines.Share (record { name = codes "b"; element = datatype.Bool; count = 2; words = 4 ∷ [] })))
+    (with_end (lines.Share (record { name = codes "b"; element = datatype.Bool; count = 1; words = 2 ∷ [] })))
+    ≡ Err (record { line = 1; first = codes "share b bool 2 7\n"; second = codes "share b bool 1 2\n" })
+unfolding line_text share_line event_line elements_text element_text end_line ending_text digits
+fewer_truths = refl
 
 -- the second text has another opening; the third one would differ in it, too
 pub opened_apart : joined_of (with_end (lines.Told (Open (Word 42 ∷ [])))) (with_end (lines.Told (Open (Word 41 ∷ [])))) (lines.Ended done ∷ [])
@@ -57,9 +67,9 @@ unfolding line_text share_line event_line elements_text element_text end_line en
 third_is_short = refl
 
 -- as many words must be there
-pub fewer_words : joined_of (with_end (lines.Share (record { name = codes "c"; element = Uint64; words = 1 ∷ [] })))
-    (with_end (lines.Share (record { name = codes "c"; element = Uint64; words = [] })))
-    (with_end (lines.Share (record { name = codes "c"; element = Uint64; words = 1 ∷ [] })))
+pub fewer_words : joined_of (with_end (lines.Share (record { name = codes "c"; element = Uint64; count = 1; words = 1 ∷ [] })))
+    (with_end (lines.Share (record { name = codes "c"; element = Uint64; count = 0; words = [] })))
+    (with_end (lines.Share (record { name = codes "c"; element = Uint64; count = 1; words = 1 ∷ [] })))
     ≡ Err (record { line = 1; first = codes "share c uint64 1\n"; second = codes "share c uint64\n" })
 unfolding line_text share_line event_line elements_text element_text end_line ending_text digits
 fewer_words = refl

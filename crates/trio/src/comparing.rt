@@ -6,12 +6,13 @@ use crate::difference::Difference;
 use miner_text::{MinerLine, ResultShare, type_word};
 use std::alloc::{AllocError, Global};
 
-/// Whether two shares are of one value, as far as can be seen: alike in all but their words, of which there are as many.
+/// Whether two shares are of one value, as far as can be seen: alike in all but their words, of as many elements and as many words.
 fn same_form(one: &ResultShare, other: &ResultShare) -> bool
     ensures { result ≡ same_form one.now other.now }
 {
     one.name().as_str() == other.name().as_str()
         && type_word(one.element()) == type_word(other.element())
+        && one.count() == other.count()
         && one.words().len() == other.words().len()
 }
 

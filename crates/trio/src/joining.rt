@@ -35,8 +35,9 @@ fn elements_added(
 ) -> Result<Elements, AllocError>
     ensures { IfOk result (λ e. e ≡ elements_added share.now second.now third.now) }
 {
-    let words = all_added_up(alloc, share.element(), share.words(), second, third)?;
-    elements(alloc, share.element(), &words)
+    let (element, count) = (share.element(), share.count());
+    let words = all_added_up(alloc, element, count, share.words(), second, third)?;
+    elements(alloc, element, &words)
 }
 
 /// Puts the line after those that are there which three miners make together: a share becomes the value that is published.
@@ -83,7 +84,7 @@ fn line_at(lines: &[MinerLine], place: usize) -> Option<&MinerLine>
 }
 
 /// Puts the texts of three miners together, line by line: the three lines must be alike, but for the words of shares, of which there
-/// must be as many. Shares of numbers are added up, and of truth values bit 0 of the three xored is taken.
+/// must be as many, of as many elements. Shares of numbers are added up, and of truth values the bits of the three xored are taken.
 ///
 /// `Disagree` tells the first line in which two texts differ, of miners 1 and 2, or else of 1 and 3.
 pub fn join(

@@ -5,12 +5,12 @@ ghost use Rattle.language_model.specs.Values.{size};
 ghost use Rattle.value_steps.specs.Steps.{Does, itself};
 ghost use Rattle.value_steps.specs.Views.{stage_seen, value_seen, written};
 
+use crate::element_gates::{Joined, element_gate, joined_gate, repeated_gate, stored_gate};
 use crate::gating::{gate, number_of};
 use crate::halt::Halt;
 use crate::stage::Stage;
 use crate::steps::{charge, charged_array, test_at};
 use crate::value::{Secrecy, Value};
-use gates::Gate;
 use program_trees::Shape;
 use sc_text::TrapKind;
 use std::alloc::{AllocError, Global};
@@ -44,13 +44,18 @@ pub fn concatenated(
         (Secrecy::Private(_), _) | (Secrecy::Plain, Secrecy::Private(_)) => {
             let first = number_of(alloc, stage, &left)?;
             let second = number_of(alloc, stage, right)?;
-            let number = gate(
-                stage,
-                Gate::Cat {
-                    left: first,
-                    right: second,
+            let joined = joined_gate(
+                shape.element,
+                Joined {
+                    number: first,
+                    size: left.size(),
                 },
-            )?;
+                Joined {
+                    number: second,
+                    size: right.size(),
+                },
+            );
+            let number = gate(stage, joined)?;
             let words = extended(left.into_words(), &right.words)?;
             Ok(Value::hidden(shape, number, words))
         }
@@ -80,14 +85,7 @@ pub fn element_of_array(
         Secrecy::Plain => Ok(Value::plain(shape, words)),
         Secrecy::Private(_) => {
             let operand = number_of(alloc, stage, array)?;
-            let number = gate(
-                stage,
-                Gate::Part {
-                    operand,
-                    from: at,
-                    count: 1,
-                },
-            )?;
+            let number = gate(stage, element_gate(shape.element, operand, at))?;
             Ok(Value::hidden(shape, number, words))
         }
     }
@@ -141,14 +139,8 @@ pub fn element_written(
         Secrecy::Private(_) => {
             let operand = number_of(alloc, stage, array)?;
             let element_number = number_of(alloc, stage, element)?;
-            let number = gate(
-                stage,
-                Gate::Put {
-                    operand,
-                    index: place,
-                    element: element_number,
-                },
-            )?;
+            let stored = stored_gate(array.shape.element, operand, place, element_number);
+            let number = gate(stage, stored)?;
             Ok(WrittenElement {
                 index: place,
                 word: element.word(),
@@ -198,7 +190,7 @@ pub fn filled(
         Secrecy::Plain => Ok(Value::plain(shape, words)),
         Secrecy::Private(_) => {
             let operand = number_of(alloc, stage, element)?;
-            let number = gate(stage, Gate::Rep { operand, count })?;
+            let number = gate(stage, repeated_gate(shape.element, operand, count))?;
             Ok(Value::hidden(shape, number, words))
         }
     }

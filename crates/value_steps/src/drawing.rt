@@ -10,8 +10,9 @@ ghost use Rattle.value_steps.specs.Views.{stage_seen, world_seen, drawn_seen};
 use crate::halt::Halt;
 use crate::stage::{Drawn, Stage};
 use crate::world::World;
-use program_trees::{BinaryOperator, BoolOperator, Cast, OperatorSign};
+use program_trees::{BinaryOperator, BoolOperator, Cast, DataType, OperatorSign};
 use sc_text::{Ending, TapeOwner};
+use vector_ops::gate_size;
 
 /// How many words of a tape are drawn after `more`. A tape that has fewer ends the run.
 fn drawn_after(
@@ -154,7 +155,7 @@ fn words_of_bool_operator(op: BoolOperator, n: u64) -> Drawn
     ensures { drawn_seen result ≡ words_of_operator (OnBools op) n }
 {
     match op {
-        BoolOperator::And | BoolOperator::Or => words_each(3 * n),
+        BoolOperator::And | BoolOperator::Or => words_each(3 * gate_size(DataType::Bool, n)),
         BoolOperator::Equal | BoolOperator::NotEqual | BoolOperator::Xor => words_each(0),
     }
 }

@@ -5,7 +5,7 @@ ghost use Rattle.plans.specs.Equality.{eq_plan};
 ghost use Rattle.plans.specs.BitExtract.{bits_plan};
 ghost use Rattle.plans.specs.Compare.{less_plan};
 ghost use Rattle.language_model.specs.Effects.{gate, next_number, put_gates, planned};
-ghost use Rattle.language_model.specs.Operations.{number_of, less_gates};
+ghost use Rattle.language_model.specs.Operations.{number_of, zero_gates, less_gates};
 ghost use Rattle.language_model.specs.Values.{ring_for};
 ghost use Rattle.value_steps.specs.Steps.{Does, itself};
 ghost use Rattle.value_steps.specs.Views.{stage_seen, value_seen};
@@ -17,6 +17,7 @@ use gates::{Gate, RingKind, Words};
 use plans::{bit_extract, compare, equality};
 use program_trees::DataType;
 use std::alloc::Global;
+use vector_ops::gate_words;
 
 /// The most values that a plan makes.
 const LONGEST_PLAN: u64 = 130;
@@ -69,13 +70,8 @@ pub(crate) fn put_gates(stage: &mut Stage<'_>, gates: &mut Vec<Gate>) -> Result<
     Ok(next.saturating_sub(1))
 }
 
-/// The gates that test each of `n` words for zero.
-pub(crate) fn zero_test(
-    alloc: Global,
-    stage: &mut Stage<'_>,
-    n: u64,
-    operand: u64,
-) -> Result<u64, Halt>
+/// The gates that test each of `n` words for zero, before their results are packed.
+fn zero_test(alloc: Global, stage: &mut Stage<'_>, n: u64, operand: u64) -> Result<u64, Halt>
     requires { n ≤ 1048576 }
     ensures step { Does itself (planned (λ first. eq_plan first operand)) (stage_seen stage.old) result (stage_seen stage.new) }
     ensures spends { stage.new.left ≤ stage.old.left }
@@ -85,7 +81,22 @@ pub(crate) fn zero_test(
     put_gates(stage, &mut gates)
 }
 
-/// The gates that turn `n` numbers into their bits.
+/// The gates that tell whether each of `n` words is zero.
+pub(crate) fn zero_gates(
+    alloc: Global,
+    stage: &mut Stage<'_>,
+    n: u64,
+    operand: u64,
+) -> Result<u64, Halt>
+    requires { n ≤ 1048576 }
+    ensures step { Does itself (zero_gates operand) (stage_seen stage.old) result (stage_seen stage.new) }
+    ensures spends { stage.new.left ≤ stage.old.left }
+{
+    let zero = zero_test(alloc, stage, n, operand)?;
+    gate(stage, Gate::Pack { operand: zero })
+}
+
+/// The gates that turn `n` numbers into their bits, which are packed so.
 pub(crate) fn bits_gates(
     alloc: Global,
     stage: &mut Stage<'_>,
@@ -101,6 +112,23 @@ pub(crate) fn bits_gates(
     put_gates(stage, &mut gates)
 }
 
+/// The gates that compare each two of `n` numbers, before their results are packed.
+fn less_test(
+    alloc: Global,
+    stage: &mut Stage<'_>,
+    n: u64,
+    left: u64,
+    right: u64,
+) -> Result<u64, Halt>
+    requires { n ≤ 1048576 }
+    ensures step { Does itself (planned (λ first. less_plan first left right n)) (stage_seen stage.old) result (stage_seen stage.new) }
+    ensures spends { stage.new.left ≤ stage.old.left }
+{
+    let first = next_number(stage)?;
+    let mut gates = compare::plan(alloc, first, left, right, n)?;
+    put_gates(stage, &mut gates)
+}
+
 /// The gates that tell of each two of `n` numbers whether the first is less.
 pub(crate) fn less_gates(
     alloc: Global,
@@ -113,9 +141,8 @@ pub(crate) fn less_gates(
     ensures step { Does itself (less_gates n left right) (stage_seen stage.old) result (stage_seen stage.new) }
     ensures spends { stage.new.left ≤ stage.old.left }
 {
-    let first = next_number(stage)?;
-    let mut gates = compare::plan(alloc, first, left, right, n)?;
-    put_gates(stage, &mut gates)
+    let less = less_test(alloc, stage, n, left, right)?;
+    gate(stage, Gate::Pack { operand: less })
 }
 
 /// The number of a private value. One that was never stored, and a public one, is first made a constant.
@@ -126,7 +153,7 @@ pub(crate) fn number_of(alloc: Global, stage: &mut Stage<'_>, value: &Value) -> 
     match value.secrecy {
         Secrecy::Private(Some(number)) => Ok(number),
         Secrecy::Private(None) | Secrecy::Plain => {
-            let list = Words::new(Vec::from_slice(alloc, &value.words)?);
+            let list = Words::new(gate_words(alloc, value.shape.element, &value.words)?);
             gate(stage, Gate::Const { list })
         }
     }

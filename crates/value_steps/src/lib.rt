@@ -10,6 +10,7 @@ mod arrays;
 mod classification;
 mod conditions;
 mod drawing;
+mod element_gates;
 mod gating;
 mod halt;
 mod inputs;

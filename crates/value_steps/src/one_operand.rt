@@ -129,7 +129,7 @@ fn bits(alloc: Global, words: &[u64]) -> Result<Vec<u64>, AllocError>
 }
 
 /// The bits of a value that was charged and isn't too large.
-fn spread(
+fn bits_from(
     alloc: Global,
     world: &World<'_>,
     stage: &mut Stage<'_>,
@@ -150,8 +150,7 @@ fn spread(
             let n = value.size();
             draw(world, stage, words_for_bits(n))?;
             let operand = number_of(alloc, stage, value)?;
-            let together = bits_gates(alloc, stage, n, operand)?;
-            let number = gate(stage, Gate::Spread { operand: together })?;
+            let number = bits_gates(alloc, stage, n, operand)?;
             let words = bits(alloc, &value.words)?;
             Ok(Value::hidden(shape, number, words))
         }
@@ -170,5 +169,5 @@ pub fn bits_extracted(
     ensures spends { stage.new.left ≤ stage.old.left }
 {
     charged_array(stage, line, 64 * value.size())?;
-    spread(alloc, world, stage, value)
+    bits_from(alloc, world, stage, value)
 }

@@ -16,7 +16,7 @@ use gates::Gate;
 use program_trees::DataType;
 use sc_text::Event;
 use std::alloc::{AllocError, Global};
-use vector_ops::{elements, low_bits};
+use vector_ops::{elements, gate_size, low_bits};
 
 /// An answer as words of a data type: a truth value is read from bit 0.
 fn read_answer(alloc: Global, element: DataType, words: Vec<u64>) -> Result<Vec<u64>, AllocError>
@@ -62,9 +62,10 @@ fn opened(
     match value.secrecy {
         Secrecy::Plain => Ok(value),
         Secrecy::Private(_) => {
-            draw(world, stage, words_each(value.size()))?;
+            let element = value.shape.element;
+            draw(world, stage, words_each(gate_size(element, value.size())))?;
             let operand = number_of(alloc, stage, &value)?;
-            let ring = ring_for(value.shape.element);
+            let ring = ring_for(element);
             gate(stage, Gate::Open { ring, operand })?;
             revealed(alloc, world, stage, value)
         }

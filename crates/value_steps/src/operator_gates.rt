@@ -1,32 +1,44 @@
 // The gates of operators on private values.
-ghost use Rattle.std.specs.Prelude.{◌≤◌};
+ghost use Rattle.std.specs.Prelude.{◌≡◌, ◌≤◌, replicate, IfOk};
+ghost use Rattle.program_trees.specs.declared.expression.DataType.TheVariants as datatype;
 ghost use Rattle.program_trees.specs.declared.operators.BinaryOperator.TheVariants.{Bools as OnBools, Words as OnWords};
 ghost use Rattle.language_model.specs.Operations.{stretched, flip, equal_gates, or_gates, operator_gates, cast_gates};
+ghost use Rattle.language_model.specs.Values.{gate_words};
 ghost use Rattle.value_steps.specs.Steps.{Does, itself};
 ghost use Rattle.value_steps.specs.Views.{stage_seen};
 
-use crate::gating::{gate, less_gates, next_number, zero_test};
+use crate::element_gates::repeated_gate;
+use crate::gating::{gate, less_gates, next_number, zero_gates};
 use crate::halt::Halt;
 use crate::stage::Stage;
 use gates::{Gate, Words};
-use program_trees::{BinaryOperator, BoolOperator, Cast, OperatorSign};
-use std::alloc::Global;
+use program_trees::{BinaryOperator, BoolOperator, Cast, DataType, OperatorSign};
+use std::alloc::{AllocError, Global};
+use vector_ops::{into_gate_words, repeated};
 
 /// A private scalar beside an array of `n` elements as one of as many; any other operand stays as it is.
 pub(crate) fn stretched(
     stage: &mut Stage<'_>,
+    element: DataType,
     scalar: bool,
     n: u64,
     operand: u64,
 ) -> Result<u64, Halt>
-    ensures step { Does itself (stretched scalar n operand) (stage_seen stage.old) result (stage_seen stage.new) }
+    ensures step { Does itself (stretched element scalar n operand) (stage_seen stage.old) result (stage_seen stage.new) }
     ensures spends { stage.new.left ≤ stage.old.left }
 {
     if scalar {
-        gate(stage, Gate::Rep { operand, count: n })
+        gate(stage, repeated_gate(element, operand, n))
     } else {
         Ok(operand)
     }
+}
+
+/// The words of `n` true values.
+fn true_words(alloc: Global, n: u64) -> Result<Vec<u64>, AllocError>
+    ensures { IfOk result (λ words. words.items ≡ gate_words datatype.Bool (replicate n 1)) }
+{
+    into_gate_words(alloc, DataType::Bool, repeated(alloc, n as usize, 1)?)
 }
 
 /// True for false, and false for true, `n` times.
@@ -34,7 +46,7 @@ pub(crate) fn flip(alloc: Global, stage: &mut Stage<'_>, n: u64, operand: u64) -
     ensures step { Does itself (flip n operand) (stage_seen stage.old) result (stage_seen stage.new) }
     ensures spends { stage.new.left ≤ stage.old.left }
 {
-    let list = Words::new(vector_ops::repeated(alloc, n as usize, 1)?);
+    let list = Words::new(true_words(alloc, n)?);
     let ones = gate(stage, Gate::Const { list })?;
     gate(
         stage,
@@ -58,7 +70,7 @@ fn equal_gates(
     ensures spends { stage.new.left ≤ stage.old.left }
 {
     let difference = gate(stage, Gate::Sub { left, right })?;
-    zero_test(alloc, stage, n, difference)
+    zero_gates(alloc, stage, n, difference)
 }
 
 /// An operator on `n` numbers. The operators that are left out have no private operands.
@@ -173,10 +185,13 @@ pub(crate) fn cast_gates(
 {
     match cast {
         Cast::WordToBool => {
-            let zero = zero_test(alloc, stage, n, operand)?;
+            let zero = zero_gates(alloc, stage, n, operand)?;
             flip(alloc, stage, n, zero)
         }
-        Cast::BoolToWord => gate(stage, Gate::Conv { operand }),
+        Cast::BoolToWord => {
+            let single = gate(stage, Gate::Unpack { operand, count: n })?;
+            gate(stage, Gate::Conv { operand: single })
+        }
         Cast::WordToWord | Cast::BoolToBool => Ok(operand),
     }
 }

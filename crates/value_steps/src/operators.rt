@@ -20,6 +20,7 @@ use gates::{Gate, Words};
 use program_trees::{BinaryOperator, Operation};
 use sc_text::TrapKind;
 use std::alloc::Global;
+use vector_ops::into_gate_words;
 
 /// Charges an operator, and tests for its traps: arrays of two sizes, and a public divisor that is 0.
 fn charged(stage: &mut Stage<'_>, applied: &Applied<'_>) -> Result<(), Halt>
@@ -54,8 +55,10 @@ fn private_result(
     draw(world, stage, words_of_operator(operator, n))?;
     let first = number_of(alloc, stage, applied.left)?;
     let second = number_of(alloc, stage, applied.right)?;
-    let left = stretched(stage, applied.is_scalar_left(), n, first)?;
-    let right = stretched(stage, applied.is_scalar_right(), n, second)?;
+    let left_element = applied.left.shape.element;
+    let right_element = applied.right.shape.element;
+    let left = stretched(stage, left_element, applied.is_scalar_left(), n, first)?;
+    let right = stretched(stage, right_element, applied.is_scalar_right(), n, second)?;
     let number = operator_gates(alloc, stage, operator, n, left, right)?;
     let words = applied.result_words(alloc)?;
     Ok(Value::hidden(applied.result_shape(), number, words))
@@ -78,13 +81,15 @@ fn product_with(
     ensures spends { stage.new.left ≤ stage.old.left }
 {
     let operand = number_of(alloc, stage, private)?;
-    let operand = stretched(stage, scalar, known.len() as u64, operand)?;
+    let element = private.shape.element;
+    let operand = stretched(stage, element, scalar, known.len() as u64, operand)?;
+    let list = Words::new(into_gate_words(alloc, element, known)?);
     let number = gate(
         stage,
         Gate::MulPub {
-            ring: ring_for(private.shape.element),
+            ring: ring_for(element),
             operand,
-            list: Words::new(known),
+            list,
         },
     )?;
     let words = applied.result_words(alloc)?;

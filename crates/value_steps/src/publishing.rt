@@ -15,7 +15,7 @@ use crate::world::World;
 use gates::Gate;
 use sc_text::{Elements, Event, Name};
 use std::alloc::Global;
-use vector_ops::elements;
+use vector_ops::{elements, gate_size};
 
 /// Hands a private value over: each miner's share of it is made anew for the client.
 fn handed_over(
@@ -31,9 +31,10 @@ fn handed_over(
     match value.secrecy {
         Secrecy::Plain => Ok(()),
         Secrecy::Private(_) => {
-            draw(world, stage, words_each(value.size()))?;
+            let element = value.shape.element;
+            draw(world, stage, words_each(gate_size(element, value.size())))?;
             let operand = number_of(alloc, stage, value)?;
-            let ring = ring_for(value.shape.element);
+            let ring = ring_for(element);
             gate(stage, Gate::Result { ring, operand })?;
             Ok(())
         }

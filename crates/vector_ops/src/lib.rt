@@ -2,15 +2,17 @@
 //!
 //! What each operator means stands in `specs/` of `language_model`. A word is any `u64`; a truth value is the word 1 or 0. Every
 //! call has a result for all words; what makes a list answers `AllocError` where memory runs out. Each takes time linear in its
-//! lists and its result.
+//! lists and its result. In the gates of a run private truth values stand packed, 64 in a word.
 #![tactic(auto)]
 
 mod operators;
+mod packing;
 mod pairs;
 mod printing;
 mod words;
 
 pub use operators::{operation, truth_operation, word_operation};
+pub use packing::{gate_size, gate_words, into_gate_words};
 pub use pairs::{each, each_and_scalar, may_divide, scalar_and_each};
 pub use printing::elements;
 pub use words::{bits, cast_words, first_word, flipped, low_bits, repeated, wrapping_sum};

@@ -130,8 +130,8 @@ first_word (w ∷ ws) h = h.0
 value_words : (kind : DataType) (shape : Shape) (ws : List ℕ) → Words ws → Words (elements_of (found_value kind shape ws))
 value_words Uint64 Scalar ws h = (first_word ws h, tt)
 value_words Uint64 (Array n) ws h = h
-value_words Truths_ Scalar ws h = (bit_is_word (get_or ws 0 0 == 1), tt)
-value_words Truths_ (Array n) ws h = bits_words (map (λ w. w == 1) ws)
+value_words Truths_ Scalar ws h = (bit_is_word _, tt)
+value_words Truths_ (Array n) ws h = bits_words _
 
 value_then : (name : List ℕ) (v : PublicValue) (es : List PublicEntry) (one two three : List InputShare) → KnownWords v
     → All HasWords (found_entries es one two three) → All HasWords (found_entries es (rest_of one) (rest_of two) (rest_of three))

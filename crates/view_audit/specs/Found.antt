@@ -9,6 +9,7 @@ use Rattle.value_file.specs.declared.public.PublicValue.TheVariants.{Known, Hidd
 use Rattle.value_file.specs.declared.public.PublicEntry.{PublicEntry}
 use Rattle.value_file.specs.declared.inputs.Entry.{Entry}
 use Rattle.value_file.specs.Values.{size_of}
+use Rattle.input_share.specs.Values.{shared_size}
 use Rattle.tape_file.specs.Tapes.{FourTapes}
 use Rattle.program_trees.specs.TypedPrograms.{TypedProgramTree}
 use Rattle.language_model.specs.Reports.{Report}
@@ -25,7 +26,7 @@ zeros (suc n) = 0 ∷ zeros n
 -- a line for each hidden input, of zeros
 abbrev pub zeros_then : (name : List ℕ) → PublicValue → List InputShare → List InputShare
 zeros_then name (Known value) more = more
-zeros_then name (Hidden kind shape) more = record { name = name; words = zeros (size_of shape) } ∷ more
+zeros_then name (Hidden kind shape) more = record { name = name; words = zeros (shared_size kind (size_of shape)) } ∷ more
 
 abbrev pub zero_lines : List PublicEntry → List InputShare
 zero_lines [] = []

@@ -58,7 +58,7 @@ says names (Publish text r) h = refl
 says names (Assert line r) h = line_fits line h.1.1.0
 says names (Branch r b target) h = tt
 says names (Jump target) h = tt
-says names (Call line g d arguments) h = line_fits line (behind Fits (map short arguments) _ h.1.1.1).0
+says names (Call line g d arguments) h = line_fits line (behind Fits (map short arguments) _ h.1.1.1.1).0
 says names (Return r) h = tt
 says names ReturnNone h = tt
 

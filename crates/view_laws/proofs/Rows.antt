@@ -3,10 +3,12 @@ use Rattle.std.proofs.Common.{ℕ, ◌+◌, ◌*◌, ◌<◌, ◌≤◌, ◌^◌
 use Rattle.std.specs.List.{flat_map}
 use Rattle.sc_text.specs.declared.end.TrapKind.TheVariants as trap
 use Rattle.sc_text.specs.declared.event.Event.TheVariants as event
+use Rattle.program_trees.specs.declared.expression.DataType.{DataType}
+use Rattle.program_trees.specs.declared.expression.DataType.TheVariants.{Uint64}
 use Rattle.program_trees.specs.declared.expression.DataType.TheVariants as datatype
 use Rattle.gates.specs.Clear.{bits_of}
 use Rattle.gates.specs.declared.gate.Gate.{Gate}
-use Rattle.gates.specs.declared.gate.Gate.TheVariants.{Const, Sub, And, Xor, Spread}
+use Rattle.gates.specs.declared.gate.Gate.TheVariants.{Const, Sub, And, Xor, Pack, Unpack, Conv}
 use Rattle.plans.specs.Equality.{eq_plan}
 use Rattle.plans.specs.BitExtract.{bits_plan}
 use Rattle.plans.specs.Compare.{less_plan}
@@ -21,10 +23,11 @@ use Rattle.program_trees.specs.declared.operators.Operands.{Operands}
 use Rattle.program_trees.specs.declared.operators.Cast.{Cast}
 use Rattle.program_trees.specs.declared.operators.Cast.TheVariants.{WordToWord, WordToBool, BoolToWord, BoolToBool}
 use Rattle.language_model.specs.Effects.{World, GivenInput, Source, Clear, Answers, planned, answer, words_each}
-use Rattle.language_model.specs.Values.{Secrecy, Plain, Private, Value, plain, hidden, size, visible_words, elements_of}
+use Rattle.language_model.specs.Values.{Secrecy, Plain, Private, Value, plain, hidden, size, visible_words, gate_words, gate_size, elements_of}
 use Rattle.language_model.specs.Words.{flipped, result_size, are_alike, may_divide}
 use Rattle.language_model.specs.Operations.{no_traps, made_private, read_answer, words_of_operator, is_scalar_left, is_scalar_right, number_from, number_of}
-use Rattle.language_model.specs.Operations.{classified_from, classified, revealed, opened_from, declassified, stretched, flip, equal_gates}
+use Rattle.language_model.specs.Operations.{classified_from, classified, revealed, opened_from, declassified, stretched, flip}
+use Rattle.language_model.specs.Operations.{zero_gates, equal_gates, less_gates}
 use Rattle.language_model.specs.Operations.{operator_gates, private_result, product_with, combined_from, operator_traps, operated}
 use Rattle.language_model.specs.Operations.{words_of_cast, words_for_bits, not_too_large}
 use Rattle.language_model.specs.Operations.{negated_from, negated, cast_gates, changed, cast_from, cast_to, size_told, summed_from, summed, bits_from}
@@ -39,6 +42,14 @@ use Rattle.view_laws.proofs.Effects.{on_emit, on_show, on_answers}
 
 each_few : (n : ℕ) → n < 2 ^ 127 → AreFew (words_each n)
 each_few n h = record { first = h; second = h; third = h }
+
+-- a value has no more words in the gates than elements
+size_few : (e : DataType) (n : ℕ) → n ≤ 2 ^ 64 → gate_size e n ≤ 2 ^ 64
+size_few Uint64 n h = h
+size_few datatype.Bool n h = omega (arith, h)
+
+told_few : (e : DataType) (n : ℕ) → n ≤ 2 ^ 64 → AreFew (words_each (gate_size e n))
+told_few e n h = let s = size_few e n h in each_few (gate_size e n) (omega (arith, s))
 
 no_words : AreFew (words_each 0)
 no_words = each_few 0 (omega arith)
@@ -61,8 +72,8 @@ word_few word.Xor n h = no_words
 
 operator_few : (op : BinaryOperator) (n : ℕ) → n ≤ 2 ^ 64 → AreFew (words_of_operator op n)
 operator_few (binary.Words op) n h = word_few op n h
-operator_few (binary.Bools truth.And) n h = each_few (3 * n) (omega (arith, h))
-operator_few (binary.Bools truth.Or) n h = each_few (3 * n) (omega (arith, h))
+operator_few (binary.Bools truth.And) n h = let s = size_few datatype.Bool n h in each_few (3 * gate_size datatype.Bool n) (omega (arith, s))
+operator_few (binary.Bools truth.Or) n h = let s = size_few datatype.Bool n h in each_few (3 * gate_size datatype.Bool n) (omega (arith, s))
 operator_few (binary.Bools truth.Equal) n h = no_words
 operator_few (binary.Bools truth.NotEqual) n h = no_words
 operator_few (binary.Bools truth.Xor) n h = no_words
@@ -80,7 +91,7 @@ module _ (w : World) (budget : ℕ) (room : HasRoom w budget) where
   -- ---- PARTS
 
   number_ends : (v : Value) → Ends w budget room (number_of v)
-  number_ends v = go v.secrecy v.words
+  number_ends v = go v.secrecy (gate_words v.shape.element v.words)
     where
       go : (x : Secrecy) (words : List ℕ) → Ends w budget room (number_from x words)
       go (Private (Some k)) words = on_done w budget room k
@@ -97,7 +108,7 @@ module _ (w : World) (budget : ℕ) (room : HasRoom w budget) where
       go (Private k) = on_done w budget room v
       go Plain =
           charged_then w budget room no_traps (size v) _ (on_done w budget room tt)
-          (λ few. bind w budget room (on_gate w budget room (Const v.words)) (λ k. on_done w budget room _))
+          (λ few. bind w budget room (on_gate w budget room _) (λ k. on_done w budget room _))
 
   answer_ends : (o : Source) (words : List ℕ) → Ends w budget room (answer o words)
   answer_ends Clear words = on_done w budget room words
@@ -116,12 +127,12 @@ module _ (w : World) (budget : ℕ) (room : HasRoom w budget) where
       go : size v ≤ 2 ^ 64 → (x : Secrecy) → Ends w budget room (opened_from w x v)
       go few Plain = on_done w budget room v
       go few (Private k) =
-          bind w budget room (on_draw w budget room (words_each (size v)) (each_few (size v) (omega (arith, few))))
+          bind w budget room (on_draw w budget room (words_each (gate_size v.shape.element (size v))) (told_few v.shape.element (size v) few))
           (λ _. bind w budget room (number_ends v) (λ u. bind w budget room (on_gate w budget room _) (λ _. revealed_ends v)))
 
-  stretched_ends : (scalar : Bool) (n u : ℕ) → Ends w budget room (stretched scalar n u)
-  stretched_ends true n u = on_gate w budget room _
-  stretched_ends false n u = on_done w budget room u
+  stretched_ends : (e : DataType) (scalar : Bool) (n u : ℕ) → Ends w budget room (stretched e scalar n u)
+  stretched_ends e true n u = on_gate w budget room _
+  stretched_ends e false n u = on_done w budget room u
 
   flip_ends : (n u : ℕ) → Ends w budget room (flip n u)
   flip_ends n u = bind w budget room (on_gate w budget room _) (λ ones. on_gate w budget room _)
@@ -129,8 +140,14 @@ module _ (w : World) (budget : ℕ) (room : HasRoom w budget) where
   planned_ends : (plan : ℕ → List Gate) → Ends w budget room (planned plan)
   planned_ends plan = bind w budget room (on_number w budget room) (λ first. on_gates w budget room (plan first))
 
+  zero_ends : (d : ℕ) → Ends w budget room (zero_gates d)
+  zero_ends d = bind w budget room (planned_ends (λ first. eq_plan first d)) (λ z. on_gate w budget room (Pack z))
+
   equal_ends : (u v : ℕ) → Ends w budget room (equal_gates u v)
-  equal_ends u v = bind w budget room (on_gate w budget room (Sub u v)) (λ d. planned_ends (λ first. eq_plan first d))
+  equal_ends u v = bind w budget room (on_gate w budget room (Sub u v)) zero_ends
+
+  less_ends : (n u v : ℕ) → Ends w budget room (less_gates n u v)
+  less_ends n u v = bind w budget room (planned_ends (λ first. less_plan first u v n)) (λ z. on_gate w budget room (Pack z))
 
   -- ---- OPERATORS
 
@@ -140,10 +157,10 @@ module _ (w : World) (budget : ℕ) (room : HasRoom w budget) where
   word_ends word.Multiply n u v = on_gate w budget room _
   word_ends word.Equal n u v = equal_ends u v
   word_ends word.NotEqual n u v = bind w budget room (equal_ends u v) (flip_ends n)
-  word_ends word.Less n u v = planned_ends (λ first. less_plan first u v n)
-  word_ends word.Greater n u v = planned_ends (λ first. less_plan first v u n)
-  word_ends word.GreaterOrEqual n u v = bind w budget room (planned_ends (λ first. less_plan first u v n)) (flip_ends n)
-  word_ends word.LessOrEqual n u v = bind w budget room (planned_ends (λ first. less_plan first v u n)) (flip_ends n)
+  word_ends word.Less n u v = less_ends n u v
+  word_ends word.Greater n u v = less_ends n v u
+  word_ends word.GreaterOrEqual n u v = bind w budget room (less_ends n u v) (flip_ends n)
+  word_ends word.LessOrEqual n u v = bind w budget room (less_ends n v u) (flip_ends n)
   word_ends op n u v = on_number w budget room
 
   gates_end : (op : BinaryOperator) (n u v : ℕ) → Ends w budget room (operator_gates op n u v)
@@ -162,15 +179,15 @@ module _ (w : World) (budget : ℕ) (room : HasRoom w budget) where
       bind w budget room (on_draw w budget room (words_of_operator op n) (operator_few op n few))
       (λ _. bind w budget room (number_ends x)
       (λ j. bind w budget room (number_ends y)
-      (λ k. bind w budget room (stretched_ends (is_scalar_left ds) n j)
-      (λ u. bind w budget room (stretched_ends (is_scalar_right ds) n k)
+      (λ k. bind w budget room (stretched_ends x.shape.element (is_scalar_left ds) n j)
+      (λ u. bind w budget room (stretched_ends y.shape.element (is_scalar_right ds) n k)
       (λ v. bind w budget room (gates_end op n u v) (λ r. on_done w budget room _))))))
 
   product_ends : (op : BinaryOperator) (ds : Operands) (scalar : Bool) (x : Value) (known words : List ℕ)
       → Ends w budget room (product_with op ds scalar x known words)
   product_ends op ds scalar x known words =
       bind w budget room (number_ends x)
-      (λ j. bind w budget room (stretched_ends scalar _ j) (λ u. bind w budget room (on_gate w budget room _) (λ r. on_done w budget room _)))
+      (λ j. bind w budget room (stretched_ends x.shape.element scalar _ j) (λ u. bind w budget room (on_gate w budget room _) (λ r. on_done w budget room _)))
 
   pub operated_ends : (line : ℕ) (op : BinaryOperator) (ds : Operands) (x y : Value) → line < 2 ^ 32 → Ends w budget room (operated w line op ds x y)
   operated_ends line op ds x y h =
@@ -195,8 +212,8 @@ module _ (w : World) (budget : ℕ) (room : HasRoom w budget) where
       go (Private k) = bind w budget room (number_ends v) (λ u. bind w budget room (flip_ends (size v) u) (λ r. made_ends v.shape (map flipped v.words) r))
 
   cast_gates_end : (c : Cast) (n u : ℕ) → Ends w budget room (cast_gates c n u)
-  cast_gates_end WordToBool n u = bind w budget room (planned_ends (λ first. eq_plan first u)) (flip_ends n)
-  cast_gates_end BoolToWord n u = on_gate w budget room _
+  cast_gates_end WordToBool n u = bind w budget room (zero_ends u) (flip_ends n)
+  cast_gates_end BoolToWord n u = bind w budget room (on_gate w budget room (Unpack u n)) (λ z. on_gate w budget room (Conv z))
   cast_gates_end WordToWord n u = on_done w budget room u
   cast_gates_end BoolToBool n u = on_done w budget room u
 
@@ -236,7 +253,7 @@ module _ (w : World) (budget : ℕ) (room : HasRoom w budget) where
           bind w budget room (on_draw w budget room (words_for_bits (size v)) (bits_few (size v) few))
           (λ _. bind w budget room (number_ends v)
           (λ u. bind w budget room (planned_ends (λ first. bits_plan first u (size v)))
-          (λ b. bind w budget room (on_gate w budget room (Spread b)) (λ r. made_ends (shape_of datatype.Bool true) (flat_map bits_of v.words) r))))
+          (λ b. made_ends (shape_of datatype.Bool true) (flat_map bits_of v.words) b)))
 
   -- ---- ARRAYS
 
@@ -291,7 +308,7 @@ module _ (w : World) (budget : ℕ) (room : HasRoom w budget) where
       go : size v ≤ 2 ^ 64 → (x : Secrecy) → Ends w budget room (handed_over w x v)
       go few Plain = on_done w budget room tt
       go few (Private k) =
-          bind w budget room (on_draw w budget room (words_each (size v)) (each_few (size v) (omega (arith, few))))
+          bind w budget room (on_draw w budget room (words_each (gate_size v.shape.element (size v))) (told_few v.shape.element (size v) few))
           (λ _. bind w budget room (number_ends v) (λ u. bind w budget room (on_gate w budget room _) (λ _. on_done w budget room tt)))
 
   pub tested_ends : (v : Value) → Ends w budget room (tested v)

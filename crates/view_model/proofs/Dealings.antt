@@ -15,9 +15,9 @@ use Rattle.value_file.specs.Values.{type_of, count_of, shape_of, size_of}
 use Rattle.value_file.specs.Public.{shown}
 use Rattle.value_file.specs.Public as public
 use Rattle.input_share.specs.declared.entry.Part.TheVariants as part
-use Rattle.input_share.specs.Values.{elements_of, ring_of}
+use Rattle.input_share.specs.Values.{shared_words, shared_size, ring_of}
 use Rattle.input_share.specs.Dealing.{share_of, draws_for, draws_of, need_of, part_of, dealt_entries}
-use Rattle.input_share.proofs.Elements.{length-elements_of}
+use Rattle.input_share.proofs.Elements.{length-shared_words}
 use Rattle.input_share.proofs.AddUpLaws.{ring_laws}
 use Rattle.input_share.proofs.FormLaws.{size_of-shape_of}
 use Rattle.view_model.specs.Dealing.{seen_masks, seen_for, seen_dealer, made_share, made_part, made_entries, hidden_draws}
@@ -28,52 +28,53 @@ use Rattle.view_model.proofs.Masks.{share_front, made_front, masks_length, masks
 twice : (a b c : ℕ) → a ≡ 2 * b → c ≡ b → a ≡ 2 * c
 twice a b c h e = omega arith
 
-module _ (d : Domain) (v : Value) (words : List ℕ) (size : length words ≡ draws_for d (count_of v)) where
+module _ (d : Domain) (v : Value) (words : List ℕ) (size : length words ≡ draws_for d (shared_size (type_of v) (count_of v))) where
   seen_for_length : (i : Number) → length (seen_for i d v words) ≡ length words
   seen_for_length i = by_domain d size
     where
-      by_domain : (d : Domain) → length words ≡ draws_for d (count_of v) → length (seen_for i d v words) ≡ length words
+      by_domain : (d : Domain) → length words ≡ draws_for d (shared_size (type_of v) (count_of v)) → length (seen_for i d v words) ≡ length words
       by_domain domain.Public h = refl
-      by_domain domain.Private h = masks_length (ring_of (type_of v)) (ring_laws (type_of v)) (elements_of v) words (twice _ _ _ h (length-elements_of v)) i
+      by_domain domain.Private h = masks_length (ring_of (type_of v)) (ring_laws (type_of v)) (shared_words v) words (twice _ _ _ h (length-shared_words v)) i
 
   seen_for_words : (i : Number) → AreWords words → AreWords (seen_for i d v words)
   seen_for_words i are = by_domain d size
     where
-      by_domain : (d : Domain) → length words ≡ draws_for d (count_of v) → AreWords (seen_for i d v words)
+      by_domain : (d : Domain) → length words ≡ draws_for d (shared_size (type_of v) (count_of v)) → AreWords (seen_for i d v words)
       by_domain domain.Public h = are
-      by_domain domain.Private h = masks_words (ring_of (type_of v)) (ring_laws (type_of v)) (elements_of v) words (twice _ _ _ h (length-elements_of v)) i are
+      by_domain domain.Private h = masks_words (ring_of (type_of v)) (ring_laws (type_of v)) (shared_words v) words (twice _ _ _ h (length-shared_words v)) i are
 
   seen_for_twice : (i : Number) → AreWords words → seen_for i d v (seen_for i d v words) ≡ words
   seen_for_twice i are = by_domain d size
     where
-      by_domain : (d : Domain) → length words ≡ draws_for d (count_of v) → seen_for i d v (seen_for i d v words) ≡ words
+      by_domain : (d : Domain) → length words ≡ draws_for d (shared_size (type_of v) (count_of v)) → seen_for i d v (seen_for i d v words) ≡ words
       by_domain domain.Public h = refl
-      by_domain domain.Private h = masks_twice (ring_of (type_of v)) (ring_laws (type_of v)) (elements_of v) words (twice _ _ _ h (length-elements_of v)) i are
+      by_domain domain.Private h = masks_twice (ring_of (type_of v)) (ring_laws (type_of v)) (shared_words v) words (twice _ _ _ h (length-shared_words v)) i are
 
   -- with any words after them, and after what corresponds to them
   part_is_made : (i : Number) (later later2 : List ℕ) → part_of i d v (words ++ later) ≡ made_part i (shown d v) (seen_for i d v words ++ later2)
   part_is_made i later later2 = by_domain d size
     where
       by_domain :
-          (d : Domain) → length words ≡ draws_for d (count_of v) →
+          (d : Domain) → length words ≡ draws_for d (shared_size (type_of v) (count_of v)) →
           part_of i d v (words ++ later) ≡ made_part i (shown d v) (seen_for i d v words ++ later2)
       by_domain domain.Public h = refl
       by_domain domain.Private h =
           let r = ring_of (type_of v) in
-          let es = elements_of v in
-          let size : length words ≡ 2 * length es = twice _ _ _ h (length-elements_of v) in
-          let count : length es ≡ size_of (shape_of v) = length-elements_of v ∙ sym (size_of-shape_of v) in
+          let es = shared_words v in
+          let size : length words ≡ 2 * length es = twice _ _ _ h (length-shared_words v) in
+          let n : ℕ = shared_size (type_of v) (size_of (shape_of v)) in
+          let count : length es ≡ n = length-shared_words v ∙ sym (ap (λ k. shared_size (type_of v) k) (size_of-shape_of v)) in
           let len = masks_length r (ring_laws (type_of v)) es words size i in
-          let share : share_of i r es (words ++ later) ≡ made_share i (size_of (shape_of v)) (seen_masks i r es words ++ later2) =
+          let share : share_of i r es (words ++ later) ≡ made_share i n (seen_masks i r es words ++ later2) =
           share_front i r es words later (omega arith)
           ∙ masks_made r (ring_laws (type_of v)) es words size i
           ∙ sym (made_front i (length es) (seen_masks i r es words) later2 (omega arith))
-          ∙ ap (λ n. made_share i n (seen_masks i r es words ++ later2)) count in
+          ∙ ap (λ k. made_share i k (seen_masks i r es words ++ later2)) count in
           ap (λ ws. part.Private (record { data_type = type_of v; shape = shape_of v; words = ws })) share
 
-pub draws_are_known : (d : Domain) (v : Value) → hidden_draws (shown d v) ≡ draws_for d (count_of v)
+pub draws_are_known : (d : Domain) (v : Value) → hidden_draws (shown d v) ≡ draws_for d (shared_size (type_of v) (count_of v))
 draws_are_known domain.Public v = refl
-draws_are_known domain.Private v = ap (λ n. 2 * n) (size_of-shape_of v)
+draws_are_known domain.Private v = ap (λ n. 2 * shared_size (type_of v) n) (size_of-shape_of v)
 
 -- ---- all entries
 

@@ -23,11 +23,11 @@ use Rattle.value_file.specs.declared.value.Domain.{Domain}
 use Rattle.value_file.specs.declared.value.Domain.TheVariants as domain
 use Rattle.value_file.specs.declared.inputs.Entry.{Entry}
 use Rattle.value_file.specs.Values.{type_of, count_of}
-use Rattle.input_share.specs.Values.{elements_of, ring_of}
+use Rattle.input_share.specs.Values.{shared_words, shared_size, ring_of}
 use Rattle.input_share.specs.Dealing.{left_of, first_masks, second_masks, share_of, draws_for, draws_of, need_of, part_of}
 use Rattle.input_share.specs.AddUp.{sums_of, HasWords}
 use Rattle.input_share.proofs.AddUpLaws.{sums_of-left_of}
-use Rattle.input_share.proofs.Elements.{length-elements_of}
+use Rattle.input_share.proofs.Elements.{length-shared_words, shared_words-fit}
 use Rattle.tape_file.specs.Tapes.{FourTapes}
 use Rattle.view_model.specs.Dealing.{private_then, size_then, dealt_to, private_sizes}
 use Rattle.view_model.specs.Held.{ring_kind, kind_then, private_kinds, value_then, private_values}
@@ -96,12 +96,12 @@ shares_in data_type.Bool xs words enough are fit = are_shares (ring_of data_type
 module _ (words : List ℕ) (are : AreWords words) where
   held_then :
       (e : Entry) (d : Domain) (kinds : List Kind) (values : Values) (dealt : Number → Values) → AllHeld kinds values dealt →
-      HasWords e → draws_for d (count_of e.value) ≤ length words →
+      HasWords e → draws_for d (shared_size (type_of e.value) (count_of e.value)) ≤ length words →
       AllHeld (kind_then d e.value kinds) (value_then d e.value values) (λ i. private_then (part_of i d e.value words) (dealt i))
   held_then e domain.Public kinds values dealt rest fit enough k h = rest k h
   held_then e domain.Private kinds values dealt rest fit enough zero h =
-      let count = length-elements_of e.value in
-      shares_in (type_of e.value) (elements_of e.value) words (omega arith) are fit
+      let count = length-shared_words e.value in
+      shares_in (type_of e.value) (shared_words e.value) words (omega arith) are (shared_words-fit e.value fit)
   held_then e domain.Private kinds values dealt rest fit enough (suc k) h = rest k (omega arith)
 
 pub dealt_held :
@@ -121,11 +121,11 @@ sizes_values (e ∷ es) = by_domain e.domain (sizes_values es)
   where
     by_domain :
         (d : Domain) → sizes_of (private_values es) ≡ private_sizes es →
-        sizes_of (value_then d e.value (private_values es)) ≡ size_then d (count_of e.value) (private_sizes es)
+        sizes_of (value_then d e.value (private_values es)) ≡ size_then d (shared_size (type_of e.value) (count_of e.value)) (private_sizes es)
     by_domain domain.Public rest = rest
     by_domain domain.Private rest =
-        ap (λ n. n ∷ sizes_of (private_values es)) (length-elements_of e.value)
-        ∙ ap (λ ns. count_of e.value ∷ ns) rest
+        ap (λ n. n ∷ sizes_of (private_values es)) (length-shared_words e.value)
+        ∙ ap (λ ns. shared_size (type_of e.value) (count_of e.value) ∷ ns) rest
 
 below_none : (k : ℕ) → k < 0 → ⊥
 below_none k h = omega arith

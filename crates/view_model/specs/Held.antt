@@ -11,7 +11,7 @@ use Rattle.value_file.specs.declared.value.Domain.TheVariants as domain
 use Rattle.value_file.specs.declared.value.Value.{Value}
 use Rattle.value_file.specs.declared.inputs.Entry.{Entry}
 use Rattle.value_file.specs.Values.{type_of}
-use Rattle.input_share.specs.Values.{elements_of}
+use Rattle.input_share.specs.Values.{shared_words}
 
 abbrev pub ring_kind : DataType → RingKind
 ring_kind Uint64 = Arithmetic
@@ -28,9 +28,9 @@ private_kinds (entry ∷ entries) = kind_then entry.domain entry.value (private_
 
 abbrev pub value_then : Domain → Value → Values → Values
 value_then domain.Public value more = more
-value_then domain.Private value more = elements_of value ∷ more
+value_then domain.Private value more = shared_words value ∷ more
 
--- the elements of each private input
+-- the words in which each private input is shared
 abbrev pub private_values : List Entry → Values
 private_values [] = []
 private_values (entry ∷ entries) = value_then entry.domain entry.value (private_values entries)

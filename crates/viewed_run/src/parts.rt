@@ -65,6 +65,7 @@ fn push_opening(
         Notice::Handed {
             name: _,
             shape: _,
+            count: _,
             words: _,
         } => Ok(()),
     }

@@ -1,11 +1,12 @@
 -- Each number of raw code has room in its bytes, where the steps are right and few.
 use Rattle.std.proofs.Common.{◌≡◌, ℕ, zero, suc, ◌+◌, ◌<◌, ◌≤◌, ◌^◌, List, [], ◌∷◌, ◌++◌, length, map, take, Option, Some, None, Bool, true, false}
 use Rattle.std.proofs.Common.{refl, sym, ap, ◌∙◌, subst, arith, inl}
-use Rattle.std.specs.Prelude.{slice_get, unwrap_or, IsTrue, nat_le, ◌&&◌, if◌then◌else◌}
+use Rattle.std.specs.Prelude.{slice_get, IsTrue, nat_le, ◌&&◌, if◌then◌else◌}
 use Rattle.std.specs.List.{AllByRecursion as Each, flat_map, list_all}
 use Rattle.std.proofs.lemmas.Bool.{and_parts, ltb-true, leb-true}
 use Rattle.std.proofs.lemmas.Bool.Decides.{nat_tests}
-use Rattle.std.proofs.lemmas.List.{length-map, length-take-le}
+use Rattle.std.proofs.lemmas.List.{length-map, length-take}
+use Rattle.std.proofs.Math.Nat.{min-le_right}
 use Rattle.std.proofs.lemmas.Option.{slice_get_within}
 use Rattle.sc_text.specs.Lists.{Among}
 use Rattle.sc_text.specs.Name.{is_name, is_name_byte, IsName}
@@ -20,7 +21,7 @@ use Rattle.bytecode.specs.declared.kind.Kind.{Kind}
 use Rattle.bytecode.specs.Kinds.{element_bit, kind_byte, return_byte}
 use Rattle.bytecode.specs.Raw.{RawFunction}
 use Rattle.bytecode.specs.Written.{short, byte, source_line, instruction_numbers, head_numbers, body_numbers, name_numbers}
-use Rattle.bytecode.specs.Writable.{Fits, parameters_of, IsProper, IsWritable}
+use Rattle.bytecode.specs.Writable.{Fits, IsProper, IsWritable}
 use Rattle.verified_code.specs.Steps.{Step, Function, Literal, Move, Store, Binary, Not, Cast, Classify, Fill, At, Put, Size, Cat, Sum, Bits, Declassify}
 use Rattle.verified_code.specs.Steps.{Argument, Publish, Assert, Branch, Jump, Call, Return, ReturnNone}
 use Rattle.code_model.specs.Kinded.{HasKind, ResultFits, IsIn}
@@ -124,6 +125,20 @@ module _ (c : List Function) (names : List (List ℕ)) (ks : List Kind) (gives :
   result_fits None g h = omega arith
   result_fits (Some d) g h = register d h.0 h.2
 
+  as_many : (rs : List ℕ) (wanted : List Kind) → AreOf ks rs wanted → length rs ≡ length wanted
+  as_many [] [] h = refl
+  as_many [] (k ∷ wanted) h = absurd h
+  as_many (r ∷ rs) [] h = absurd h
+  as_many (r ∷ rs) (k ∷ wanted) h = ap suc (as_many rs wanted h.1)
+
+  -- there are no more of them than the called function has registers
+  number_fits : (rs : List ℕ) (f : Function) → AreOf ks rs (take f.parameters f.kinds) → length f.kinds ≤ nowhere → length rs < 256 ^ 2
+  number_fits rs f h few_there =
+      let same = as_many rs (take f.parameters f.kinds) h in
+      let taken = length-take f.parameters f.kinds in
+      let cut = min-le_right f.parameters (length f.kinds) in
+      omega (arith, same, taken, cut, few_there)
+
   arguments_fit : (rs : List ℕ) (wanted : List Kind) → AreOf ks rs wanted → Each Fits (map short rs)
   arguments_fit [] wanted h = tt
   arguments_fit (r ∷ rs) [] h = absurd h
@@ -135,80 +150,77 @@ module _ (c : List Function) (names : List (List ℕ)) (ks : List Kind) (gives :
   abbrev Placed : List (List ℕ) → Type 0
   Placed texts = (text : List ℕ) → Among text texts → place_among text names < 256 ^ 2
 
-  instruction_fits : (i : Step) → IsRight c ks gives count i → StepSays is_word is_line is_name i → Placed (step_names i)
+  abbrev FewRegisters : Type 0
+  FewRegisters = (f : Function) → IsIn c f → length f.kinds ≤ nowhere
+
+  instruction_fits : (i : Step) → IsRight c ks gives count i → FewRegisters → StepSays is_word is_line is_name i → Placed (step_names i)
       → Each Fits (instruction_numbers (instruction names i))
-  instruction_fits (Literal d e n) h s p = (omega arith, (register d _ h.0, (word_fits n s, tt)))
-  instruction_fits (Move d r) h s p = (omega arith, (register d _ h.2, (register r _ h.1, tt)))
-  instruction_fits (Store d r) h s p = (omega arith, (register d _ h.2, (register r _ h.1, tt)))
-  instruction_fits (Binary line op ds d a b) h s p =
+  instruction_fits (Literal d e n) h m s p = (omega arith, (register d _ h.0, (word_fits n s, tt)))
+  instruction_fits (Move d r) h m s p = (omega arith, (register d _ h.2, (register r _ h.1, tt)))
+  instruction_fits (Store d r) h m s p = (omega arith, (register d _ h.2, (register r _ h.1, tt)))
+  instruction_fits (Binary line op ds d a b) h m s p =
       let low = operator_low op in
       (omega arith, (omega (arith, low), (register d _ h.5, (register a _ h.2, (register b _ h.3, (line_fits line s, tt))))))
-  instruction_fits (Not d r) h s p = (omega arith, (register d _ h.3, (register r _ h.2, tt)))
-  instruction_fits (Cast x d r) h s p = (omega arith, (register d _ h.3, (register r _ h.2, tt)))
-  instruction_fits (Classify d r) h s p = (omega arith, (register d _ h.3, (register r _ h.2, tt)))
-  instruction_fits (Fill line d n x) h s p = (omega arith, (register d _ h.4, (register n _ h.2, (register x _ h.3, (line_fits line s, tt)))))
-  instruction_fits (At line d a i) h s p = (omega arith, (register d _ h.4, (register a _ h.2, (register i _ h.3, (line_fits line s, tt)))))
-  instruction_fits (Put line a i x) h s p = (omega arith, (register a _ h.2, (register i _ h.3, (register x _ h.4, (line_fits line s, tt)))))
-  instruction_fits (Size d r) h s p = (omega arith, (register d _ h.3, (register r _ h.2, tt)))
-  instruction_fits (Cat line d a b) h s p = (omega arith, (register d _ h.4, (register a _ h.2, (register b _ h.3, (line_fits line s, tt)))))
-  instruction_fits (Sum d r) h s p = (omega arith, (register d _ h.2, (register r _ h.1, tt)))
-  instruction_fits (Bits line d r) h s p = (omega arith, (register d _ h.3, (register r _ h.2, (line_fits line s, tt))))
-  instruction_fits (Declassify d r) h s p = (omega arith, (register d _ h.4, (register r _ h.3, tt)))
-  instruction_fits (Argument line k text d) h s p = (omega arith, (register d _ h, (p text (inl refl), (line_fits line s.0, tt))))
-  instruction_fits (Publish text r) h s p = (omega arith, (p text (inl refl), (register r _ h.1, tt)))
-  instruction_fits (Assert line r) h s p = (omega arith, (register r _ h, (line_fits line s, tt)))
-  instruction_fits (Branch r b target) h s p =
+  instruction_fits (Not d r) h m s p = (omega arith, (register d _ h.3, (register r _ h.2, tt)))
+  instruction_fits (Cast x d r) h m s p = (omega arith, (register d _ h.3, (register r _ h.2, tt)))
+  instruction_fits (Classify d r) h m s p = (omega arith, (register d _ h.3, (register r _ h.2, tt)))
+  instruction_fits (Fill line d n x) h m s p = (omega arith, (register d _ h.4, (register n _ h.2, (register x _ h.3, (line_fits line s, tt)))))
+  instruction_fits (At line d a i) h m s p = (omega arith, (register d _ h.4, (register a _ h.2, (register i _ h.3, (line_fits line s, tt)))))
+  instruction_fits (Put line a i x) h m s p = (omega arith, (register a _ h.2, (register i _ h.3, (register x _ h.4, (line_fits line s, tt)))))
+  instruction_fits (Size d r) h m s p = (omega arith, (register d _ h.3, (register r _ h.2, tt)))
+  instruction_fits (Cat line d a b) h m s p = (omega arith, (register d _ h.4, (register a _ h.2, (register b _ h.3, (line_fits line s, tt)))))
+  instruction_fits (Sum d r) h m s p = (omega arith, (register d _ h.2, (register r _ h.1, tt)))
+  instruction_fits (Bits line d r) h m s p = (omega arith, (register d _ h.3, (register r _ h.2, (line_fits line s, tt))))
+  instruction_fits (Declassify d r) h m s p = (omega arith, (register d _ h.4, (register r _ h.3, tt)))
+  instruction_fits (Argument line k text d) h m s p = (omega arith, (register d _ h, (p text (inl refl), (line_fits line s.0, tt))))
+  instruction_fits (Publish text r) h m s p = (omega arith, (p text (inl refl), (register r _ h.1, tt)))
+  instruction_fits (Assert line r) h m s p = (omega arith, (register r _ h, (line_fits line s, tt)))
+  instruction_fits (Branch r b target) h m s p =
       let low = bit_low b in
       (omega arith, (register r _ h.0, (omega (arith, low), (target_fits target h.1, tt))))
-  instruction_fits (Jump target) h s p = (omega arith, (target_fits target h, tt))
-  instruction_fits (Call line g d arguments) h s p = (
+  instruction_fits (Jump target) h m s p = (omega arith, (target_fits target h, tt))
+  instruction_fits (Call line g d arguments) h m s p = (
     omega arith,
     (
       function_fits g h.0 h.1,
       (
         result_fits d h.0.gives h.3,
-        each_joined Fits (map short arguments) (source_line line ∷ []) (arguments_fit arguments (take h.0.parameters h.0.kinds) h.2) (line_fits line s, tt),
+        (
+          number_fits arguments h.0 h.2 (m h.0 (g, h.1)),
+          each_joined Fits (map short arguments) (source_line line ∷ []) (arguments_fit arguments (take h.0.parameters h.0.kinds) h.2)
+              (line_fits line s, tt),
+        ),
       ),
     ),
   )
-  instruction_fits (Return r) h s p = (omega arith, (register r _ h.2, tt))
-  instruction_fits ReturnNone h s p = (omega arith, tt)
+  instruction_fits (Return r) h m s p = (omega arith, (register r _ h.2, tt))
+  instruction_fits ReturnNone h m s p = (omega arith, tt)
 
-  as_many : (rs : List ℕ) (wanted : List Kind) → AreOf ks rs wanted → length rs ≡ length wanted
-  as_many [] [] h = refl
-  as_many [] (k ∷ wanted) h = absurd h
-  as_many (r ∷ rs) [] h = absurd h
-  as_many (r ∷ rs) (k ∷ wanted) h = ap suc (as_many rs wanted h.1)
-
-  -- a call has as many arguments as its function has parameters
-  instruction_proper : (i : Step) → IsRight c ks gives count i → ((h : Function) → IsIn c h → h.parameters ≤ length h.kinds)
-      → IsProper (parameters_of (map (raw_function names) c)) (instruction names i)
-  instruction_proper (Literal d e n) h m = tt
-  instruction_proper (Move d r) h m = tt
-  instruction_proper (Store d r) h m = tt
-  instruction_proper (Binary line op ds d a b) h m = operator_low op
-  instruction_proper (Not d r) h m = tt
-  instruction_proper (Cast x d r) h m = tt
-  instruction_proper (Classify d r) h m = tt
-  instruction_proper (Fill line d n x) h m = tt
-  instruction_proper (At line d a i) h m = tt
-  instruction_proper (Put line a i x) h m = tt
-  instruction_proper (Size d r) h m = tt
-  instruction_proper (Cat line d a b) h m = tt
-  instruction_proper (Sum d r) h m = tt
-  instruction_proper (Bits line d r) h m = tt
-  instruction_proper (Declassify d r) h m = tt
-  instruction_proper (Argument line k text d) h m = tt
-  instruction_proper (Publish text r) h m = tt
-  instruction_proper (Assert line r) h m = tt
-  instruction_proper (Branch r b target) h m = bit_low b
-  instruction_proper (Jump target) h m = tt
-  instruction_proper (Call line g d arguments) h m =
-      let f = h.0 in
-      let there = mapped (λ (z : RawFunction). z.parameters) (map (raw_function names) c) g (raw_function names f) (mapped (raw_function names) c g f h.1) in
-      as_many arguments (take f.parameters f.kinds) h.2 ∙ length-take-le f.parameters f.kinds (m f (g, h.1)) ∙ sym (ap (λ n. unwrap_or n 0) there)
-  instruction_proper (Return r) h m = tt
-  instruction_proper ReturnNone h m = tt
+-- an operator and a branch's value are within their ranges
+instruction_proper : (names : List (List ℕ)) (i : Step) → IsProper (instruction names i)
+instruction_proper names (Literal d e n) = tt
+instruction_proper names (Move d r) = tt
+instruction_proper names (Store d r) = tt
+instruction_proper names (Binary line op ds d a b) = operator_low op
+instruction_proper names (Not d r) = tt
+instruction_proper names (Cast x d r) = tt
+instruction_proper names (Classify d r) = tt
+instruction_proper names (Fill line d n x) = tt
+instruction_proper names (At line d a i) = tt
+instruction_proper names (Put line a i x) = tt
+instruction_proper names (Size d r) = tt
+instruction_proper names (Cat line d a b) = tt
+instruction_proper names (Sum d r) = tt
+instruction_proper names (Bits line d r) = tt
+instruction_proper names (Declassify d r) = tt
+instruction_proper names (Argument line k text d) = tt
+instruction_proper names (Publish text r) = tt
+instruction_proper names (Assert line r) = tt
+instruction_proper names (Branch r b target) = bit_low b
+instruction_proper names (Jump target) = tt
+instruction_proper names (Call line g d arguments) = tt
+instruction_proper names (Return r) = tt
+instruction_proper names ReturnNone = tt
 
 -- ---- FUNCTIONS AND CODE
 
@@ -264,6 +276,7 @@ module _ (c : List Function) (right : AreRight c) (room : HasRoom c) where
       let y = unmapped (instruction names) f.steps k x e in
       subst (λ z. Each Fits (instruction_numbers z)) y.2
       (instruction_fits c names f.kinds f.gives (length f.steps) room.functions own.registers (room.steps f (g, there)) y.0 (own.steps k y.0 y.1)
+      (λ h at. (right.functions h at).registers)
       (room.says f (g, there) k y.0 y.1) (name_placed g f k y.0 there y.1)))
 
   of_functions : (P : RawFunction → Type 0) → ((g : ℕ) (f : Function) → slice_get c g ≡ Some f → P (raw_function names f)) → (g : ℕ) (x : RawFunction)
@@ -317,13 +330,10 @@ module _ (c : List Function) (right : AreRight c) (room : HasRoom c) where
         fits = (omega arith, (omega arith, (omega arith, (omega arith, (omega arith, (omega (arith, few), named))))));
         names = new;
         some_function = omega (arith, some, many);
-        instructions = each_at _ fs (of_functions (λ x. Each (IsProper (parameters_of fs)) x.body) (λ g f there.
-            let own = right.functions f (g, there) in
+        instructions = each_at _ fs (of_functions (λ x. Each IsProper x.body) (λ g f there.
             each_at _ (map (instruction names) f.steps) (λ k x e.
             let y = unmapped (instruction names) f.steps k x e in
-            subst (IsProper (parameters_of fs)) y.2
-            (instruction_proper c names f.kinds f.gives (length f.steps) few_functions own.registers (room.steps f (g, there)) y.0 (own.steps k y.0 y.1)
-            (λ h at. (right.functions h at).parameters)))));
+            subst IsProper y.2 (instruction_proper names y.0))));
       }
 
 pub writable_where_right : (c : List Function) → IsWritableWhereRight c

@@ -2,8 +2,8 @@
 -- The options of some commands, and the commands that are there when some more are added: all of them by `loading_app` but those of miners.
 use Rattle.std.specs.Prelude.{codes, List, [], ◌∷◌}
 use Rattle.clap.specs.Words.{App, Text}
-use Rattle.command_words.specs.Shapes.{bare_app, run_app, deal_app, evaluation_app, check_app, compile_app, map_app, simulate_app, twin_app, load_app}
-use Rattle.command_words.specs.Shapes.{gather_app, with_command}
+use Rattle.command_words.specs.Shapes.{bare_app, run_app, deal_app, evaluation_app, check_app, compile_app, upgrade_app, map_app, simulate_app, twin_app}
+use Rattle.command_words.specs.Shapes.{load_app, gather_app, with_command}
 
 unfoldable pub run_options : List Text
 run_options =
@@ -36,9 +36,9 @@ clear_app = with_command (with_command input_app (evaluation_app (codes "eval"))
 unfoldable pub checking_app : App
 checking_app = with_command clear_app check_app
 
--- and the one that compiles it
+-- and those that write code: of a program, and of code of the first version
 unfoldable pub program_app : App
-program_app = with_command checking_app compile_app
+program_app = with_command (with_command checking_app compile_app) upgrade_app
 
 -- and those about one miner's view
 unfoldable pub viewing_app : App

@@ -16,7 +16,7 @@ loop-place-preserved c =
           c.match-entry.taken w.taken-is
       | in-Hidden+else-not-is_share w ↦
           let so : is_first_share e.name w.in-Hidden.data_type w.in-Hidden.shape (drop p shares) ≡ true = search rules in
-          took_line part shares c.loop-place.place p c.loop-place.invariant e _ (search rules) c.index-part-place.is w.in-Hidden.data_type w.in-Hidden.shape w.in-Hidden.is so
+          took_line part shares c.loop-place.place p c.loop-place.invariant e _ (search rules) c.index-part-place.is _ w.in-Hidden.shape w.in-Hidden.is so
           c.match-entry.taken w.taken-is
     ]
 

@@ -1,7 +1,8 @@
 use Rattle.std.proofs.Common.{sym, ◌∙◌, ap, arith, ◌+◌, length}
 use Rattle.std.proofs.lemmas.Bool.Decides.{nat_tests}
 use Rattle.miner_text.specs.Reading.{lines_from}
-use Rattle.miner_text.proofs.Walk.{behind, begun, left_from, no_parts, line_more, line_wrong, lines_behind, rest_behind, all_read}
+use Rattle.view_reader.proofs.LinesRead.{left_from}
+use Rattle.miner_text.proofs.Walk.{behind, begun, no_parts, line_more, line_wrong, lines_behind, rest_behind, all_read}
 use Rattle.miner_text.proofs.reading.read.Goals.{then-index-lines-via-then-index-lines, then-index-lines-via-else-index-lines+then-not-is_empty}
 use Rattle.miner_text.proofs.reading.read.Goals as goal
 

@@ -1,6 +1,7 @@
 use Rattle.std.proofs.Common.{◌≡◌, ◌+◌}
 use Rattle.miner_text.specs.Reading.{lines_from, read_of}
-use Rattle.miner_text.proofs.Walk.{behind, left_from}
+use Rattle.view_reader.proofs.LinesRead.{left_from}
+use Rattle.miner_text.proofs.Walk.{behind}
 use Rattle.miner_text.proofs.reading.read.Given as goal
 
 abbrev pub invariant-loop-index : goal.invariant-loop-index

@@ -1,7 +1,7 @@
 use Rattle.plans.specs.Compare.{less_plan}
 use Rattle.value_steps.specs.Views.{stage_seen}
 use Rattle.value_steps.proofs.Plans.{puts_plan}
-use Rattle.value_steps.proofs.gating.less_gates.Goals as goal
+use Rattle.value_steps.proofs.gating.less_test.Goals as goal
 
 pub returns-clause-step : goal.returns-clause-step
 returns-clause-step c =
