@@ -36,24 +36,20 @@ share_a = record { name = codes "a"; words = 6 ∷ [] }
 abbrev share_b : List ℕ → InputShare
 share_b words = record { name = codes "b"; words = words }
 
--- two truth values share one word
-both_there : wrong_share_at part (share_a ∷ share_b (7 ∷ []) ∷ []) ≡ None
+both_there : wrong_share_at part (share_a ∷ share_b (7 ∷ 8 ∷ []) ∷ []) ≡ None
 both_there = refl
 
-exchanged : wrong_share_at part (share_b (7 ∷ []) ∷ share_a ∷ []) ≡ Some 0
+exchanged : wrong_share_at part (share_b (7 ∷ 8 ∷ []) ∷ share_a ∷ []) ≡ Some 0
 exchanged = refl
 
-a_word_too_many : wrong_share_at part (share_a ∷ share_b (7 ∷ 8 ∷ []) ∷ []) ≡ Some 1
-a_word_too_many = refl
-
-a_word_too_few : wrong_share_at part (share_a ∷ share_b [] ∷ []) ≡ Some 1
+a_word_too_few : wrong_share_at part (share_a ∷ share_b (7 ∷ []) ∷ []) ≡ Some 1
 a_word_too_few = refl
 
 -- the line after the last one
 one_missing : wrong_share_at part (share_a ∷ []) ≡ Some 1
 one_missing = refl
 
-one_surplus : wrong_share_at part (share_a ∷ share_b (7 ∷ []) ∷ share_a ∷ []) ≡ Some 2
+one_surplus : wrong_share_at part (share_a ∷ share_b (7 ∷ 8 ∷ []) ∷ share_a ∷ []) ≡ Some 2
 one_surplus = refl
 
 -- ---- `got` lines
