@@ -134,11 +134,21 @@ def file_faults(row: Row, answer: Answer) -> list[str]:
         if path in gone:
             faults += [f"file {path}: is there"] if path in made or path in held else []
         elif path in made and made[path] is None:
-            continue
+            faults += code_faults(path, left.get(path))
         else:
             want, have = left.get(path, held.get(path)), made.get(path, held.get(path))
             faults += [] if want == have else [f"file {path}: row {shown(want)}", f"    model {shown(have)}"]
     return faults
+
+
+def code_faults(path: str, data: bytes | None) -> list[str]:
+    """Of code that is compiled nothing is said but that it may run."""
+    try:
+        if data is not None:
+            read_code(data)
+    except CallRefused as refused:
+        return [f"file {path}: {refused.line}"]
+    return []
 
 
 def shown(data: bytes | None) -> str:

@@ -245,6 +245,10 @@ def run_rows(rows: MinerRows):
         for miner in (1, 2, 3):
             rows.setting(f"miner {miner} of {title}", setting, miner)
             rows.whole("it comes to its end", setting, miner)
+    filled = TRUTHS.setting([truths("a", 65), truths("b", 65, 2)], MASKS, filled=True)
+    for miner in (1, 2, 3):
+        rows.setting(f"miner {miner} of 65 truth values, whose shares have all bits set after the last one", filled, miner)
+        rows.whole("the same is opened", filled, miner)
     ended_rows(rows)
 
 
@@ -537,8 +541,10 @@ def join_rows() -> Rows:
         ("a run that ends by a tape", PRODUCT, SIX_SEVEN, [*ZEROS[:3], [0, 0]], 1000000),
         ("a run that ends by a trap", PRODUCT, SIX_SEVEN[:1], ZEROS, 1000000),
         ("a run that does nothing", NOTHING_DONE, [], [[], [], [], []], 1000000),
+        ("65 truth values", TRUTHS, [truths("a", 65), truths("b", 65, 2)], MASKS, 1000000),
+        ("65 truth values, whose shares have all bits set after the last one", TRUTHS, [truths("a", 65), truths("b", 65, 2)], MASKS, 1000000),
     ):
-        one = served.setting(inputs, tapes, budget)
+        one = served.setting(inputs, tapes, budget, filled="all bits" in title)
         status = one.report.end.status
         rows.group(title, "call join p.o1 p.o2 p.o3", *texts(*[one.text(miner) for miner in (1, 2, 3)]))
         rows.row("it is told", *([f"status {status}"] if status else []), *common_text(one))

@@ -7,6 +7,7 @@ from dataclasses import dataclass
 
 from clear import Event, Input, Report, dealer_need
 from files import compact, public_entry, write_own_tape, write_share
+from gates import MASK, WORD_BITS
 from joint import JointRun
 from network import script_of
 from tree import Data
@@ -38,9 +39,23 @@ def frame(words: list[int]) -> bytes:
     return b"\x01" + struct.pack("<I", len(words)) + struct.pack(f"<{len(words)}Q", *words)
 
 
+class FilledRun(JointRun):
+    """A joint run on shares of which each word has all bits set that hold no truth value."""
+
+    def deal(self, private: list[Input], before_dealing) -> list[list[list[int]]]:
+        dealt = super().deal(private, before_dealing)
+        for entry, shares in zip(private, dealt):
+            after = len(entry.words) % WORD_BITS
+            if entry.type.data is Data.TRUTH and after:
+                for words in shares[1:]:
+                    words[-1] |= MASK >> after << after
+        return dealt
+
+
 @dataclass
 class Setting:
-    """A run of three served miners: code, report, inputs, tapes and budget; `told` names what is published without being opened."""
+    """A run of three served miners: code, report, inputs, tapes and budget; `told` names what is published without being opened. Where it is filled, the
+    share files have all bits set that stand after the last truth value."""
 
     code: bytes
     report: Report
@@ -48,12 +63,14 @@ class Setting:
     tapes: list[list[int]]
     budget: int
     told: tuple[str, ...] = ()
+    filled: bool = False
 
     def __post_init__(self):
         self.lengths = [len(tape) for tape in self.tapes]
         self.dealt = self.lengths[0] >= dealer_need(self.inputs)
         padded = [list(tape) + [0] * dealer_need(self.inputs) for tape in self.tapes]
-        self.joint = JointRun(self.report.gates if self.dealt else [], self.inputs, padded)
+        run = FilledRun if self.filled else JointRun
+        self.joint = run(self.report.gates if self.dealt else [], self.inputs, padded)
 
     def share_file(self, miner: int) -> bytes:
         return write_share(self.inputs, self.joint.dealt, self.lengths, miner)

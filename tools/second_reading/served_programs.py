@@ -24,11 +24,11 @@ class Served:
     code: bytes
     told: tuple[str, ...] = ()
 
-    def setting(self, inputs: list[Input], tapes: list[list[int]], budget: int = DEFAULT_BUDGET) -> Setting:
+    def setting(self, inputs: list[Input], tapes: list[list[int]], budget: int = DEFAULT_BUDGET, filled: bool = False) -> Setting:
         lengths = [len(tape) for tape in tapes]
         report = evaluate(runnable(self.text.encode()), inputs, budget, lengths)
         assert code_report(decode(self.code), inputs, budget, lengths) == report
-        return Setting(self.code, report, inputs, tapes, budget, self.told)
+        return Setting(self.code, report, inputs, tapes, budget, self.told, filled)
 
 
 def of_main(body: str) -> str:

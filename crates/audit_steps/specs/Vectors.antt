@@ -1,4 +1,4 @@
--- Worked lines. Miner 2 takes two messages of miner 1 and one of miner 3; two inputs are hidden; two values are opened.
+-- Worked lines. Miner 2 takes two messages of miner 1 and one of miner 3; two inputs are hidden, of a word and of 70 truth values; two values are opened.
 use Rattle.std.specs.Prelude.{◌≡◌, ℕ, List, [], ◌∷◌, true, false, Some, None, codes, refl}
 use Rattle.proto_core.specs.declared.link.Link.{Link}
 use Rattle.proto_core.specs.declared.link.Link.TheVariants.{Link12, Link32, Link31}
@@ -28,7 +28,7 @@ abbrev part : List PublicEntry
 part =
     record { name = codes "a"; value = Hidden Uint64 Scalar }
     ∷ record { name = codes "n"; value = Known (value.Number 3) }
-    ∷ record { name = codes "b"; value = Hidden Bool (Array 2) } ∷ []
+    ∷ record { name = codes "b"; value = Hidden Bool (Array 70) } ∷ []
 
 abbrev share_a : InputShare
 share_a = record { name = codes "a"; words = 6 ∷ [] }

@@ -12,7 +12,6 @@ use Rattle.program_trees.specs.declared.operators.Operands.{Operands}
 use Rattle.program_trees.specs.declared.operators.Cast.{Cast}
 use Rattle.program_trees.specs.declared.operators.Cast.TheVariants.{WordToWord, WordToBool, BoolToWord, BoolToBool}
 use Rattle.blind_evaluation.specs.BitExtract.{bits_plan}
-use Rattle.gates.specs.declared.gate.Gate.TheVariants.{Spread}
 use Rattle.gates.specs.Clear.{bits_of}
 use Rattle.std.specs.List.{flat_map}
 use Rattle.program_trees.specs.Shapes.{shape_of}

@@ -25,7 +25,8 @@ use Rattle.program_trees.specs.declared.operators.Cast.{Cast}
 use Rattle.program_trees.specs.declared.operators.Cast.TheVariants.{WordToWord, WordToBool, BoolToWord, BoolToBool}
 use Rattle.program_trees.specs.Shapes.{shape_of}
 use Rattle.language_model.specs.Effects.{World, GivenInput, Effect, ◌>>=◌, words_each}
-use Rattle.language_model.specs.Values.{Secrecy, Plain, Private, Value, plain, hidden, size, visible_words, is_true, ring_for, gate_words, gate_size, elements_of}
+use Rattle.language_model.specs.Values.{Secrecy, Plain, Private, Value, plain, hidden, size, visible_words, is_true, ring_for, gate_words, gate_size}
+use Rattle.language_model.specs.Values.{elements_of}
 use Rattle.language_model.specs.Words as W
 use Rattle.language_model.specs.Operations.{charged, no_traps, not_too_large, number_from, number_of, made_private, classified_from}
 use Rattle.language_model.specs.Operations.{classified, repeated_gate, element_gate, stored_gate, joined_gate, stretched, is_scalar_left}
@@ -205,7 +206,8 @@ module _ (told : Bool) where
 
   cat_quiet : (x y : Value) → Quiet told (concatenated_from (Private None) Plain x y)
   cat_quiet x y =
-      bind (number_quiet x) (λ u. bind (number_quiet y) (λ v. bind (quiet_gate told (joined_gate x.shape.element u (size x) v (size y))) (λ r. made_quiet x.shape (x.words ++ y.words) r)))
+      bind (number_quiet x) (λ u. bind (number_quiet y) (λ v.
+      bind (quiet_gate told (joined_gate x.shape.element u (size x) v (size y))) (λ r. made_quiet x.shape (x.words ++ y.words) r)))
 
   concatenated_from_quiet : (a b : Secrecy) (x y : Value) → Quiet told (concatenated_from a b x y)
   concatenated_from_quiet Plain Plain x y = quiet_done told (plain x.shape (x.words ++ y.words))
@@ -219,7 +221,8 @@ module _ (told : Bool) where
   element_from_quiet : (x : Secrecy) (v : Value) (i : ℕ) → Quiet told (element_from x v i)
   element_from_quiet Plain v i = quiet_done told (plain (shape_of v.shape.element false) (get_or v.words i 0 ∷ []))
   element_from_quiet (Private k) v i =
-      bind (number_quiet v) (λ u. bind (quiet_gate told (element_gate v.shape.element u i)) (λ r. made_quiet (shape_of v.shape.element false) (get_or v.words i 0 ∷ []) r))
+      bind (number_quiet v) (λ u.
+      bind (quiet_gate told (element_gate v.shape.element u i)) (λ r. made_quiet (shape_of v.shape.element false) (get_or v.words i 0 ∷ []) r))
 
   pub element_quiet : (line : ℕ) (v i : Value) → Quiet told (element_of_array line v i)
   element_quiet line v i =

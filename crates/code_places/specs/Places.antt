@@ -60,7 +60,8 @@ answers_told (x ∷ xs) step m = x ∷ xs
 
 -- the next step, told these words
 abbrev pub step_told : World → List Function → Place → (told : List ℕ) → Went Place
-step_told w c p told = went p.machine (step w c (next_step p.machine) p.machine (record p.stage { answers = answers_told told (next_step p.machine) p.machine }))
+step_told w c p told =
+    went p.machine (step w c (next_step p.machine) p.machine (telling_stage (answers_told told (next_step p.machine) p.machine) p.stage))
 
 abbrev pub first_place : List Function → (budget : ℕ) → Place
 first_place c budget = place None (start c) (beginning budget [])

@@ -182,7 +182,8 @@ module _ (o : Offered) (v : Value) (s : Stage) where
     handed_tells :
         (text : List ℕ) (a : Secrecy) → v.secrecy ≡ a
         → EndsWith (Publishing text v s) s
-        (((number_from a own_words >>= λ u. gate (Result ring u) >>= λ _. done (tt {0})) >>= λ _. emit (publication v.secrecy text (elements_of v))) (paid l n s))
+        (((number_from a own_words >>= λ u. gate (Result ring u) >>= λ _. done (tt {0})) >>= λ _.
+        emit (publication v.secrecy text (elements_of v))) (paid l n s))
     handed_tells text (Private (Some k)) e =
         record {
           opened = refl;

@@ -14,9 +14,9 @@ use Rattle.value_file.specs.Values.{type_of, count_of, shape_of}
 use Rattle.input_share.specs.declared.entry.Part.{Part}
 use Rattle.input_share.specs.declared.entry.Part.TheVariants as part
 use Rattle.input_share.specs.declared.entry.ShareEntry.{ShareEntry}
-use Rattle.input_share.specs.Values.{elements_of, ring_of}
+use Rattle.input_share.specs.Values.{shared_words, shared_size, ring_of}
 use Rattle.input_share.specs.Dealing.{dealt_entries, dealt_entry, draws_for, draws_of, first_masks, left_of, need_of, part_of, second_masks, share_of}
-use Rattle.input_share.proofs.Elements.{length-elements_of}
+use Rattle.input_share.proofs.Elements.{length-shared_words}
 
 first_masks-front : (n : ℕ) (ws more : List ℕ) → 2 * n ≤ length ws → first_masks n (ws ++ more) ≡ first_masks n ws
 first_masks-front n ws more enough = take-append-le n ws more (omega arith)
@@ -32,12 +32,12 @@ share_of-front Two r xs ws more enough = second_masks-front (length xs) ws more 
 share_of-front Three r xs ws more enough =
     ap₂ (left_of r xs) (first_masks-front (length xs) ws more enough) (second_masks-front (length xs) ws more enough)
 
-part_of-front : (miner : Number) (d : Domain) (v : Value) (ws more : List ℕ) → draws_for d (count_of v) ≤ length ws
+part_of-front : (miner : Number) (d : Domain) (v : Value) (ws more : List ℕ) → draws_for d (shared_size (type_of v) (count_of v)) ≤ length ws
     → part_of miner d v (ws ++ more) ≡ part_of miner d v ws
 part_of-front miner domain.Public v ws more enough = refl
 part_of-front miner domain.Private v ws more enough =
     let of_words : List ℕ → Part = λ w. part.Private (record { data_type = type_of v; shape = shape_of v; words = w }) in
-    ap of_words (share_of-front miner (ring_of (type_of v)) (elements_of v) ws more (rw (length-elements_of v) enough))
+    ap of_words (share_of-front miner (ring_of (type_of v)) (shared_words v) ws more (rw (length-shared_words v) enough))
 
 pub dealt-front : (miner : Number) (xs : List Entry) (ws more : List ℕ) → need_of xs ≤ length ws
     → dealt_entries miner xs (ws ++ more) ≡ dealt_entries miner xs ws

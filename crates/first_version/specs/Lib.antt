@@ -1,3 +1,4 @@
 pub mod Rows
 pub mod Meaning
 pub mod Laws
+pub mod Vectors

@@ -89,8 +89,8 @@ module _ (w : World) (d : Dealt) where
   run_at kinds s = record { inputs = d.inputs; dealt_kinds = d.kinds; dealt = d.shares; gates = s.gates; kinds = kinds }
 
   -- each gate suits the values before it, in sizes and kinds; the words that the gates draw have been drawn, and so many more for
-  -- gates to come. Where values fit the gates, exactly those that are handed over are told as such, and the words that were opened in the clear
-  -- are those of the values that are opened
+  -- gates to come. Where values fit the gates, exactly those that are handed over are told as such, and the words that were opened in the clear,
+  -- as the events tell them, are those of the values that are opened
   pub record IsAt (kinds : List Kind) (owed : Miner → ℕ) (s : Stage) : Type 0 where
     pub formed : IsWellFormed (run_at kinds s)
     pub made : s.made ≡ value_count (run_at kinds s)

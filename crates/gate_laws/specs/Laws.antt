@@ -47,8 +47,8 @@ abbrev pub run_of : Dealt → Report → List Kind → GateRun
 run_of d r kinds = record { inputs = d.inputs; dealt_kinds = d.kinds; dealt = d.shares; gates = r.gates; kinds = kinds }
 
 -- the gates of a report are a run on shares that is well formed: each gate suits the values before it in kinds and sizes. It draws the
--- words that the report counts. Whatever values fit the gates, those that are handed over are published, and in the clear the opened
--- words are those of the values that are opened
+-- words that the report counts. Whatever values fit the gates, those that are handed over are told as such, and in the clear the words
+-- that the events open are those of the values that are opened
 pub record GatesSuit (w : World) (d : Dealt) (r : Report) : Type 0 where
   pub kinds : List Kind
   pub formed : IsWellFormed (run_of d r kinds)

@@ -8,14 +8,14 @@ ghost use Rattle.gate_laws.specs.Laws.{StepsKeepStanding, RunsMakeSuitedGates, V
 
 /// Law: a step of code from a stage whose gates suit leads to one, in the clear and blind, also where the run ends. The gates that it
 /// adds suit the values before them, in sizes and in how they are shared; the random words that it draws are those that its gates take;
-/// whatever values fit the gates, each private value of a register has the words of the value at its number, the values that are handed
-/// over to the client are published, and in the clear the words that were opened are those of the values that the gates open.
+/// whatever values fit the gates, the value at the number of a register's private value has the words of its elements, truth values packed,
+/// the values that are handed over to the client are told as such, and in the clear those that the gates open are the words of what is told.
 pub fn steps_make_suited_gates()
     ensures { (w : World) (d : Dealt) (c : List Function) → StepsKeepStanding w d c }
 {}
 
-/// Law: so the gates of each whole run of code suit, are counted by the report's random words, hand over what the report publishes, and in
-/// the clear open the report's words.
+/// Law: so the gates of each whole run of code suit, are counted by the report's random words, hand over what the report's events hand over,
+/// and in the clear open the words of what its events open.
 pub fn runs_make_suited_gates()
     ensures { (w : World) (d : Dealt) (c : List Function) (budget : ℕ) (answers : List ℕ) → RunsMakeSuitedGates w d c budget answers }
 {}

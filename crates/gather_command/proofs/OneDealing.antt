@@ -21,11 +21,11 @@ use Rattle.input_share.specs.declared.entry.Part.{Part}
 use Rattle.input_share.specs.declared.entry.Part.TheVariants as part
 use Rattle.input_share.specs.declared.entry.ShareEntry.{ShareEntry}
 use Rattle.gather_command.specs.declared.gathering.GatherErr.{GatherErr}
-use Rattle.input_share.specs.Values.{elements_of, ring_of}
+use Rattle.input_share.specs.Values.{shared_words, shared_size, ring_of}
 use Rattle.input_share.specs.Dealing.{dealt, dealt_entries, dealt_entry, draws_for, draws_of, first_masks, left_of, need_of, part_of, second_masks, share_of}
 use Rattle.input_share.specs.Reading.{share_name_of}
 use Rattle.input_share.specs.ShareFile.{MinerFile}
-use Rattle.input_share.proofs.Elements.{length-elements_of}
+use Rattle.input_share.proofs.Elements.{length-shared_words}
 use Rattle.gather_command.specs.Gathering.{entries_in, gathered, joined_lens, lens_from, name_again}
 use Rattle.gather_command.specs.Owners.{all_inputs, dealt_by, dealt_by_all, dealt_by_one, lens_of, one_tape, words_left, words_used, CanDeal, Lengths, Owner}
 
@@ -45,12 +45,12 @@ share_of-front Two r xs ws more enough = second_masks-front (length xs) ws more 
 share_of-front Three r xs ws more enough =
     ap₂ (left_of r xs) (first_masks-front (length xs) ws more enough) (second_masks-front (length xs) ws more enough)
 
-part_of-front : (miner : Number) (d : Domain) (v : Value) (ws more : List ℕ) → draws_for d (count_of v) ≤ length ws
+part_of-front : (miner : Number) (d : Domain) (v : Value) (ws more : List ℕ) → draws_for d (shared_size (type_of v) (count_of v)) ≤ length ws
     → part_of miner d v (ws ++ more) ≡ part_of miner d v ws
 part_of-front miner domain.Public v ws more enough = refl
 part_of-front miner domain.Private v ws more enough =
     let of_words : List ℕ → Part = λ w. part.Private (record { data_type = type_of v; shape = shape_of v; words = w }) in
-    ap of_words (share_of-front miner (ring_of (type_of v)) (elements_of v) ws more (rw (length-elements_of v) enough))
+    ap of_words (share_of-front miner (ring_of (type_of v)) (shared_words v) ws more (rw (length-shared_words v) enough))
 
 -- words that aren't needed change nothing
 pub dealt-front : (miner : Number) (xs : List Entry) (ws more : List ℕ) → need_of xs ≤ length ws

@@ -54,7 +54,7 @@ record Costs {A : Type 0} (n : ℕ) (m : Effect A) : Type 0 where
   from : (s : Stage) → CostsAt n s (m s)
 
 costs_both : {A B : Type 0} (a b : ℕ) {m : Effect A} {f : A → Effect B} → Costs a m → ((x : A) → Costs b (f x)) → Costs (a + b) (m >>= f)
-costs_both {A} {B} a b {m} {f} h k = record { from = λ s. go s (m s) (h.from s) }
+costs_both {A = A} {B = B} a b {m = m} {f = f} h k = record { from = λ s. go s (m s) (h.from s) }
   where
     more : (s u : Stage) (r : Run B) → a + u.left ≤ s.left → CostsAt b u r → CostsAt (a + b) s r
     more s u (Ok y) c d = omega (arith, c, d)
@@ -65,7 +65,7 @@ costs_both {A} {B} a b {m} {f} h k = record { from = λ s. go s (m s) (h.from s)
     go s (Err e) c = tt
 
 costs_less : {A : Type 0} (n k : ℕ) {m : Effect A} → n ≤ k → Costs k m → Costs n m
-costs_less {A} n k {m} le h = record { from = λ s. go s (m s) (h.from s) }
+costs_less {A = A} n k {m = m} le h = record { from = λ s. go s (m s) (h.from s) }
   where
     go : (s : Stage) (r : Run A) → CostsAt k s r → CostsAt n s r
     go s (Ok x) c = omega (arith, le, c)
@@ -80,7 +80,7 @@ costs_charge n = record { from = λ s. go s (nat_le n s.left) refl }
     go s false e = tt
 
 costs_onward : {w : World} {A : Type 0} {m : Effect A} → Onward w m → Costs 0 m
-costs_onward {w} {A} {m} h = record { from = λ s. go s (m s) (h.from s).left }
+costs_onward {A = A} {m = m} h = record { from = λ s. go s (m s) (h.from s).left }
   where
     go : (s : Stage) (r : Run A) → (stage_of r).left ≤ s.left → CostsAt 0 s r
     go s (Ok x) c = c
@@ -114,7 +114,7 @@ module _ (o : Offered) where
 
   -- ---- STEPS
 
-  cost_of : Option Step → Machine → ℕ
+  abbrev cost_of : Option Step → Machine → ℕ
   cost_of (Some (Publish text r)) m = size (m.registers r)
   cost_of i m = 0
 

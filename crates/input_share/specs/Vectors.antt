@@ -1,8 +1,14 @@
 -- Worked shares.
-use Rattle.std.specs.Prelude.{◌≡◌, ◌-◌, ◌^◌, [], ◌∷◌, refl}
+use Rattle.std.specs.Prelude.{◌≡◌, ◌-◌, ◌^◌, [], ◌∷◌, true, false, refl}
 use Rattle.proto_core.specs.Rings.{add_ring, xor_ring}
 use Rattle.proto_core.specs.declared.party.Number.TheVariants.{One, Two, Three}
-use Rattle.input_share.specs.Dealing.{share_of}
+use Rattle.bit_words.specs.Bits.{number_with, words_with}
+use Rattle.bit_words.specs.Gathered.{packed}
+use Rattle.value_file.specs.declared.value.DataType.TheVariants.{Bool}
+use Rattle.value_file.specs.declared.value.Domain.TheVariants.{Private}
+use Rattle.value_file.specs.declared.value.Value.TheVariants.{Truths}
+use Rattle.input_share.specs.Values.{shared_size, shared_words}
+use Rattle.input_share.specs.Dealing.{draws_for, share_of}
 use Rattle.input_share.specs.AddUp.{sums_of}
 
 -- the number 5 under the masks 2^64 - 1 and 0
@@ -12,6 +18,14 @@ number_left = refl
 -- true under the masks 6 and 3
 truth_left : share_of Three xor_ring (1 ∷ []) (6 ∷ 3 ∷ []) ≡ 4 ∷ []
 truth_left = refl
+
+-- three truth values are shared in one word, 65 in two
+three_packed : shared_words (Truths (true ∷ false ∷ true ∷ [])) ≡ 5 ∷ []
+unfolding packed words_with number_with
+three_packed = refl
+
+draws_of_65 : draws_for Private (shared_size Bool 65) ≡ 4
+draws_of_65 = refl
 
 -- two numbers take two words for the first miner and then two for the second
 first_of_two : share_of One add_ring (1 ∷ 2 ∷ []) (10 ∷ 20 ∷ 30 ∷ 40 ∷ []) ≡ 10 ∷ 20 ∷ []

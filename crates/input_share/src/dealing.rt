@@ -10,8 +10,7 @@ ghost use Rattle.input_share.specs.declared.dealing.DealErr.TheVariants.{Memory}
 use crate::entry::{Part, ShareEntry, Shared};
 use crate::share_file::ShareFile;
 use crate::values::{count, shared_size, shared_words};
-use proto_core::Number;
-use proto_core::{AddRing, ShareRing, XorRing};
+use proto_core::{AddRing, Number, ShareRing, XorRing};
 use std::alloc::{AllocError, Global};
 use value_file::{DataType, Domain, Entry, Inputs, Value, Words};
 

@@ -2,4 +2,3 @@ pub mod Drawn
 pub mod Opened
 pub mod Played
 pub mod Planned
-pub mod Said

@@ -1,17 +1,16 @@
 // The code that a miner runs.
-ghost use Rattle.std.specs.Prelude.{◌≡◌, ◌∷◌, [], IfOk, IfErr, string_bytes};
+ghost use Rattle.std.specs.Prelude.{◌∷◌, [], IfErr};
 ghost use Rattle.command_frame.specs.Reads.{OnlyRead, Gives, StopNames};
-ghost use Rattle.command_frame.specs.Stops.{IsRefusalFor};
-ghost use Rattle.command_frame.specs.Faults.{node_fault_line};
-ghost use Rattle.command_frame.specs.declared.fault.NodeFault.TheVariants.{Bytes, Step};
-ghost use Rattle.miner_command.specs.Files.{bad_bytes, bad_step, byte_fault, code_at, code_of, step_fault};
-ghost use Rattle.miner_command.specs.Views.{code_seen, Judges};
+ghost use Rattle.program_commands.specs.Codes.{Judges};
+ghost use Rattle.miner_command.specs.Files.{code_at, code_of};
+ghost use Rattle.miner_command.specs.Views.{code_seen};
 
-use bytecode::{DecodeErr, DecodeFault, FaultKind, decode};
-use command_frame::{ByteFault, Status, StepFault, Stop, read_file, refused};
+use bytecode::{DecodeErr, decode};
+use command_frame::{Stop, read_file};
 use outside::Files;
-use std::alloc::{AllocError, Global};
-use verified_code::{CodeProblem, Verified, VerifyErr, verify};
+use program_commands::{byte_stop, step_stop};
+use std::alloc::Global;
+use verified_code::{Verified, verify};
 use wire::code_digest;
 
 /// Verified code, and the SHA-256 digest of the file in which it stands.
@@ -19,73 +18,6 @@ use wire::code_digest;
 pub struct CodeFile {
     pub digest: [u8; 32],
     pub code: Verified,
-}
-
-fn byte_fault(kind: FaultKind) -> ByteFault
-    ensures { result ≡ byte_fault kind }
-{
-    match kind {
-        FaultKind::Truncated => ByteFault::Truncated,
-        FaultKind::BadTag => ByteFault::BadTag,
-        FaultKind::BadVersion => ByteFault::BadVersion,
-        FaultKind::Trailing => ByteFault::Trailing,
-    }
-}
-
-fn step_fault(problem: CodeProblem) -> StepFault
-    ensures { result ≡ step_fault problem }
-{
-    match problem {
-        CodeProblem::BadRegister => StepFault::BadRegister,
-        CodeProblem::BadKind => StepFault::BadKind,
-        CodeProblem::BadJump => StepFault::BadJump,
-    }
-}
-
-// The line for bytes that are no code.
-fn byte_line(alloc: Global, fault: ByteFault, place: usize) -> Result<String, AllocError>
-    ensures { IfOk result (λ text. string_bytes text ≡ node_fault_line (Bytes fault place)) }
-{
-    format!(in alloc; "error: {fault} place {place}\n")
-}
-
-// The line for code that must not run.
-fn step_line(
-    alloc: Global,
-    fault: StepFault,
-    function: usize,
-    instruction: usize,
-) -> Result<String, AllocError>
-    ensures { IfOk result (λ text. string_bytes text ≡ node_fault_line (Step fault function instruction)) }
-{
-    format!(in alloc; "error: {fault} function {function} instruction {instruction}\n")
-}
-
-// Why bytes are refused.
-#[tactic(auto, unfolding(crate::specs::Files::bad_bytes))]
-fn byte_stop(alloc: Global, fault: DecodeFault) -> Stop
-    ensures { IsRefusalFor (bad_bytes fault) result }
-{
-    refused(
-        Status::Program,
-        byte_line(alloc, byte_fault(fault.kind), fault.place),
-    )
-}
-
-// Why code is refused.
-#[tactic(auto, unfolding(crate::specs::Files::bad_step))]
-fn step_stop(alloc: Global, fault: VerifyErr) -> Stop
-    ensures { IsRefusalFor (bad_step fault) result }
-{
-    refused(
-        Status::Program,
-        step_line(
-            alloc,
-            step_fault(fault.problem),
-            fault.function,
-            fault.instruction,
-        ),
-    )
 }
 
 // The code that bytes are, if it may run.

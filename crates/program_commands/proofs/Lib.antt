@@ -2,6 +2,7 @@ pub mod Lexed
 pub mod Spelled
 pub mod Accepted
 pub mod Accepting
+pub mod CodeFaults
 pub mod Codes
 pub mod Deals
 pub mod EvalRefusals
@@ -16,3 +17,4 @@ pub mod Refusals
 pub mod Sizes
 pub mod Still
 pub mod Texts
+pub mod Upgrades

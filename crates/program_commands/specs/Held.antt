@@ -1,4 +1,4 @@
--- Files that can be checked, compiled, evaluated and dealt, and files that are refused.
+-- Files that can be checked, compiled, upgraded, evaluated and dealt, and files that are refused.
 use Rattle.std.specs.Prelude.{◌≡◌, ◌⊎◌, ◌<◌, ℕ, List, length, Option, Some, Ok, Err}
 use Rattle.outside.specs.Files.{Contents, file_at}
 use Rattle.program_trees.specs.Programs.{ProgramTree}
@@ -6,7 +6,9 @@ use Rattle.front_end.specs.declared.program_fault.ProgramFault.{ProgramFault}
 use Rattle.front_end.specs.Judgement.{IsProgramText, IsRefusedText}
 use Rattle.command_frame.specs.declared.status.Status.{Status}
 use Rattle.command_frame.specs.declared.status.Status.TheVariants.{Input, Program, Tape, TapeFile}
-use Rattle.command_words.specs.Ask.{Ask, EvalAsk, DealAsk, eval, need}
+use Rattle.command_frame.specs.Answer.{Cause}
+use Rattle.command_words.specs.Ask.{Ask, EvalAsk, DealAsk, UpgradeAsk, eval, need}
+use Rattle.bytecode.specs.Decoded.{decoded_v1}
 use Rattle.program_trees.specs.TypedPrograms.{TypedProgramTree}
 use Rattle.input_share.specs.Dealing.{need_of}
 use Rattle.name_resolution.specs.Functions.{typed_of}
@@ -17,6 +19,7 @@ use Rattle.tape_file.specs.Tapes.{FourTapes}
 use Rattle.value_file.specs.declared.inputs.Entry.{Entry}
 use Rattle.value_file.specs.declared.read_err.ReadErr.{ReadErr}
 use Rattle.value_file.specs.Input.{read_of as inputs_read_of}
+use Rattle.program_commands.specs.Codes.{judged}
 use Rattle.program_commands.specs.Reading.{inputs_at, tape_file_at}
 
 -- an accepted program of this tree is there
@@ -65,6 +68,11 @@ Evaluates asked ask = (asked ≡ Some (eval ask)) ⊎ (asked ≡ Some (need ask)
 pub data ProgramRefused (path : List ℕ) (files : Contents) (status : Status) : Type 0 where
   bad_text : status ≡ Program → HoldsBadProgram path files → ProgramRefused path files status
   too_large : status ≡ Program → (error : LimitErr) → HoldsLarge path files error → ProgramRefused path files status
+
+-- why `upgrade` is refused with this status: the file is there, and is no code by the rules of the first version, or code that must not run
+pub data UpgradeRefused (ask : UpgradeAsk) (files : Contents) (status : Status) : Type 0 where
+  unreadable_old_code : status ≡ Program → (bytes : List ℕ) (cause : Cause) → file_at files ask.old ≡ Some bytes
+      → judged (decoded_v1 bytes) ≡ Err cause → UpgradeRefused ask files status
 
 -- why `eval` or `need` is refused with this status: the first file that is there and not as it must be
 pub data EvalRefused (ask : EvalAsk) (files : Contents) (status : Status) : Type 0 where

@@ -1,5 +1,6 @@
 pub mod PlacedText
 pub mod Check
+pub mod Codes
 pub mod Compile
 pub mod Deal
 pub mod Ends
@@ -11,6 +12,7 @@ pub mod Paths
 pub mod Programs
 pub mod Reading
 pub mod Schedules
+pub mod Upgrade
 pub mod Vectors
 pub use Rattle.program_run.specs.Dealt
 pub use Rattle.program_run.specs.Reports

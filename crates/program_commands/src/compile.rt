@@ -30,8 +30,8 @@ fn functions_line(alloc: Global, count: u64) -> Result<String, AllocError>
     format!(in alloc; "functions {count}\n")
 }
 
-// What is to be written and printed of code: itself, at this path, and how many functions it has.
-fn code_plan(alloc: Global, code: &Code, path: &str) -> Result<Plan, AllocError>
+/// What is to be written and printed of code: itself, at this path, and how many functions it has.
+pub(crate) fn code_plan(alloc: Global, code: &Code, path: &str) -> Result<Plan, AllocError>
     ensures effect { IfOk result (λ plan. effect_of plan ≡ written_effect path.now (raw_code code.now)) }
     ensures names { IfOk result (PlanNames (path.now ∷ [])) }
     ensures ends { EndsDone result }

@@ -1,8 +1,9 @@
-//! The commands `check`, `compile`, `eval`, `need` and `deal`, and what the others share with them: programs and files that are read, orders of delivery,
+//! The commands `check`, `compile`, `upgrade`, `eval`, `need` and `deal`, and what the others share with them: programs and files that are read, orders of delivery,
 //! files that are written.
 #![tactic(auto)]
 
 mod check;
+mod codes;
 mod compile;
 mod deal;
 mod deliveries;
@@ -13,9 +14,11 @@ mod paths;
 mod programs;
 mod readers;
 mod text_laws;
+mod upgrade;
 mod writes;
 
 pub use check::plan_check;
+pub use codes::{byte_stop, step_stop};
 pub use compile::plan_compile;
 pub use deal::{deal_writes, plan_deal};
 pub use deliveries::delivery_stop;
@@ -27,4 +30,5 @@ pub use readers::{
     read_inputs, read_opened_file, read_public_file, read_share_file, read_tape_file, tape_stop,
 };
 pub use text_laws::texts_have_lines_and_names;
+pub use upgrade::plan_upgrade;
 pub use writes::add_write;

@@ -5,6 +5,7 @@ use Rattle.command_frame.specs.declared.status.Status.{Status}
 use Rattle.command_frame.specs.Moments.{Moment}
 use Rattle.gather_command.proofs.Refusals.{writes_one_dealing}
 use Rattle.program_commands.proofs.Accepted.{code_means}
+use Rattle.program_commands.proofs.Upgrades.{is_upgrade}
 use Rattle.run_engine.specs.Call.{Call}
 use Rattle.run_engine.specs.Commands.{Commands}
 use Rattle.run_engine.specs.Deeds.{Deeds}
@@ -29,6 +30,7 @@ use Rattle.language_model.specs.Effects.{Clear}
 use Rattle.language_model.specs.Reports.{world_of}
 use Rattle.run_engine.proofs.ViewLaws.{maps_correspond, simulated_so, twins_see_it}
 use Rattle.workload.proofs.Runnable.{load_is_runnable}
+use Rattle.run_engine.proofs.Upgrades.{upgrade_keeps}
 use Rattle.run_engine.proofs.ViewPromises.{map_keeps, simulate_keeps, twin_keeps}
 
 module _ (words : List (List ℕ)) (m m' : Moment) (s : Status) (call : Call words m m' s) (deeds : Deeds words m m' s) where
@@ -36,6 +38,7 @@ module _ (words : List (List ℕ)) (m m' : Moment) (s : Status) (call : Call wor
   commands_kept = record {
     checks = check_keeps words m m' s call;
     compiles = compile_keeps words m m' s call;
+    upgrades = upgrade_keeps words m m' s call;
     evaluates = eval_keeps words m m' s call;
     tells_needs = need_keeps words m m' s call;
     runs = run_keeps words m m' s call;
@@ -77,6 +80,7 @@ laws_kept words files = record {
   three_served_miners = three_served_miners;
   miner_writes_with_honest_peers = λ ask program entries tapes given coming. writes_with_honest_peers program entries tapes ask files given coming;
   compiled_code_means_program = λ ask program reached asks holds are. code_means ask.program files program holds reached are;
+  upgraded_code_keeps_its_meaning = λ ask old asks there. is_upgrade files ask.old old there;
   gathered_is_one_dealing = λ ask miners owner owners asks holds. writes_one_dealing ask files miners owner owners holds;
   mapped_tapes_correspond = λ ask program entries tapes asks held. maps_correspond ask files program entries tapes held;
   simulated_views_are_views = λ ask program entries tapes more delivery asks held have.

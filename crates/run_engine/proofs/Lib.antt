@@ -24,5 +24,6 @@ pub mod Tops
 pub mod TrioKept
 pub mod Trios
 pub mod TwinRefusals
+pub mod Upgrades
 pub mod ViewLaws
 pub mod ViewPromises

@@ -14,6 +14,7 @@ use Rattle.command_frame.specs.Stops.{status_of}
 use Rattle.command_frame.specs.Whole.{status_in}
 use Rattle.command_frame.proofs.Deciding.{same_sink}
 use Rattle.command_words.specs.Ask.{Ask, check, compile, deal, eval, gather, join, load, map_tape, miner, need, run, simulate, trio, twin}
+use Rattle.command_words.specs.Ask.{upgrade}
 use Rattle.miner_commands.specs.Load.{load_effect}
 use Rattle.run_engine.specs.Loading.{Printed}
 use Rattle.run_engine.specs.Obeying.{DecidesLoad, DoesLoad}
@@ -47,6 +48,7 @@ load_stop (run ask) stop o is = tt
 load_stop (deal ask) stop o is = tt
 load_stop (check ask) stop o is = tt
 load_stop (compile ask) stop o is = tt
+load_stop (upgrade ask) stop o is = tt
 load_stop (eval ask) stop o is = tt
 load_stop (need ask) stop o is = tt
 load_stop (map_tape ask) stop o is = tt
@@ -64,6 +66,7 @@ load_end (run ask) plan f f' o o' r is part = tt
 load_end (deal ask) plan f f' o o' r is part = tt
 load_end (check ask) plan f f' o o' r is part = tt
 load_end (compile ask) plan f f' o o' r is part = tt
+load_end (upgrade ask) plan f f' o o' r is part = tt
 load_end (eval ask) plan f f' o o' r is part = tt
 load_end (need ask) plan f f' o o' r is part = tt
 load_end (map_tape ask) plan f f' o o' r is part = tt

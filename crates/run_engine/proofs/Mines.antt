@@ -12,9 +12,6 @@ use Rattle.input_share.specs.ShareFile.{MinerFile}
 use Rattle.tape_file.specs.Format.{read_own_of}
 use Rattle.bytecode.specs.Raw.{RawCode}
 use Rattle.bytecode.specs.Decoded.{decoded}
-use Rattle.bytecode.specs.declared.fault.DecodeFault.{DecodeFault}
-use Rattle.verified_code.specs.Verified.{first_fault}
-use Rattle.verified_code.specs.declared.fault.VerifyErr.{VerifyErr}
 use Rattle.value_file.specs.declared.read_err.ReadErr.{ReadErr}
 use Rattle.command_frame.specs.declared.status.Status.{Status}
 use Rattle.command_frame.specs.declared.status.Status.TheVariants as statuses
@@ -28,7 +25,8 @@ use Rattle.program_commands.proofs.Held.{read_there}
 use Rattle.program_commands.proofs.Refusals.{ReadRefused, end_is, input_status, refusing, share_refused, status_in_answer, status_of_cause, steps}
 use Rattle.program_commands.proofs.Refusals.{tape_status}
 use Rattle.program_commands.proofs.Refusals.{there_or_missing, Steps}
-use Rattle.miner_command.specs.Files.{Given, GivenCode, bad_bytes, bad_step, code_at, code_of, given_at, own_length, own_tape_at, unless_faulty}
+use Rattle.program_commands.proofs.Upgrades.{judged_status}
+use Rattle.miner_command.specs.Files.{Given, GivenCode, code_at, code_of, given_at, own_length, own_tape_at}
 use Rattle.miner_command.specs.Miner.{answer_at, bad_peer, ended_answer, miner_of, node_answer, sent_of, sent_with, nothing_sent, text_effect}
 use Rattle.miner_command.specs.Held.{ComesTo, HoldsMiner, MinerEffect, MinerRefused, bad_message, no_frame, node_of, other_hello, unreadable_code}
 use Rattle.miner_command.specs.Held.{unreadable_share, unreadable_tape}
@@ -178,28 +176,8 @@ module _ (ask : MinerAsk) (files : Contents) (coming : ℕ → List ℕ) where
   bad_own code held share shared bytes place there bad = rw (held, shared, read_there files ask.tape bytes there, bad) refl
 
   -- bytes that are refused as code have one status
-  unless_status : (fault : Option VerifyErr) (code : RawCode) (cause : Cause) → unless_faulty fault code ≡ Err cause
-      → status_of_cause cause ≡ statuses.Program
-  unfolding bad_step
-  unless_status None code cause is = absurd cc
-  unless_status (Some e) code cause is = sym (ap status_in_result is)
-    where
-      status_in_result : Result RawCode Cause → Status
-      status_in_result (Ok code) = statuses.Program
-      status_in_result (Err c) = c.status
-
   code_status : (bytes : List ℕ) (cause : Cause) → code_of bytes ≡ Err cause → status_of_cause cause ≡ statuses.Program
-  unfolding bad_bytes
-  code_status bytes cause is = at (decoded bytes) is
-    where
-      status_in_result : Result RawCode Cause → Status
-      status_in_result (Ok code) = statuses.Program
-      status_in_result (Err c) = c.status
-
-      at : (d : Result RawCode DecodeFault) → (read_or bad_bytes d >>= λ code. unless_faulty (first_fault code) code) ≡ Err cause
-          → status_of_cause cause ≡ statuses.Program
-      at (Ok code) is = unless_status (first_fault code) code cause is
-      at (Err e) is = sym (ap status_in_result is)
+  code_status bytes cause is = judged_status (decoded bytes) cause is
 
   comes_status : (o : Outcome) (s : Status) → ((acts : List Act) → status_in_answer (answer_at ask acts o) ≡ s) → ComesTo ask files coming o
       → status_of_miner ≡ s

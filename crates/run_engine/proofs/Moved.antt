@@ -23,6 +23,7 @@ use Rattle.command_frame.specs.Whole.{status_in}
 use Rattle.command_frame.proofs.Finishing.{at_last}
 use Rattle.command_frame.proofs.Statuses.{never}
 use Rattle.command_words.specs.Ask.{Ask, MinerAsk, check, compile, deal, eval, gather, join, load, map_tape, miner, need, run, simulate, trio, twin}
+use Rattle.command_words.specs.Ask.{upgrade}
 use Rattle.miner_command.specs.Miner.{miner_of, nothing_sent, sent_of}
 use Rattle.miner_command.specs.Playing.{MovesSo, SendsSo, SentAll, SentBefore, SentFronts}
 use Rattle.miner_command.specs.Files.{given_at}
@@ -156,6 +157,7 @@ moves_stop (run ask) s s' stop moves = tt
 moves_stop (deal ask) s s' stop moves = tt
 moves_stop (check ask) s s' stop moves = tt
 moves_stop (compile ask) s s' stop moves = tt
+moves_stop (upgrade ask) s s' stop moves = tt
 moves_stop (eval ask) s s' stop moves = tt
 moves_stop (need ask) s s' stop moves = tt
 moves_stop (map_tape ask) s s' stop moves = tt
@@ -175,6 +177,7 @@ moves_end (run ask) a b f o o' plan r moves part = tt
 moves_end (deal ask) a b f o o' plan r moves part = tt
 moves_end (check ask) a b f o o' plan r moves part = tt
 moves_end (compile ask) a b f o o' plan r moves part = tt
+moves_end (upgrade ask) a b f o o' plan r moves part = tt
 moves_end (eval ask) a b f o o' plan r moves part = tt
 moves_end (need ask) a b f o o' plan r moves part = tt
 moves_end (map_tape ask) a b f o o' plan r moves part = tt
@@ -201,6 +204,7 @@ moves_none (run ask) s = tt
 moves_none (deal ask) s = tt
 moves_none (check ask) s = tt
 moves_none (compile ask) s = tt
+moves_none (upgrade ask) s = tt
 moves_none (eval ask) s = tt
 moves_none (need ask) s = tt
 moves_none (map_tape ask) s = tt

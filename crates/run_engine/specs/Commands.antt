@@ -11,9 +11,9 @@ use Rattle.command_frame.specs.Moments.{AreTold, Moment}
 use Rattle.command_frame.specs.Status.{is_done, is_end}
 use Rattle.command_words.specs.Ask.{CompileAsk, EvalAsk, RunAsk, DealAsk, MapAsk, SimulateAsk, TwinAsk, check, compile, eval, need}
 use Rattle.command_words.specs.Ask.{run, deal, map_tape, simulate, twin, words_of, Ask, GatherAsk, gather}
-use Rattle.command_words.specs.Ask.{JoinAsk, MinerAsk, TrioAsk, join, miner, trio}
+use Rattle.command_words.specs.Ask.{JoinAsk, MinerAsk, TrioAsk, UpgradeAsk, join, miner, trio, upgrade}
 use Rattle.program_commands.specs.Eval.{eval_text, need_text}
-use Rattle.program_commands.specs.Held.{DealRefused, EvalRefused, ProgramRefused}
+use Rattle.program_commands.specs.Held.{DealRefused, EvalRefused, ProgramRefused, UpgradeRefused}
 use Rattle.gather_command.specs.Held.{GatherEffect, GatherRefused}
 use Rattle.trio_command.specs.Held.{JoinEffect, JoinRefused}
 use Rattle.miner_command.specs.Held.{MinerEffect, MinerRefused}
@@ -21,7 +21,7 @@ use Rattle.proto_core.specs.declared.party.Number.{Number}
 use Rattle.trio_command.specs.Deciding.{trio_reach}
 use Rattle.run_engine.specs.Headline.{ScheduleRefused}
 use Rattle.run_engine.specs.MapPromises.{MapEffect, MapRefused}
-use Rattle.run_engine.specs.Promises.{CheckEffect, CompileEffect, DealEffect, EvalEffect, RunEffect, Keeps, KeepsOf, is_refusal}
+use Rattle.run_engine.specs.Promises.{CheckEffect, CompileEffect, DealEffect, EvalEffect, RunEffect, UpgradeEffect, Keeps, KeepsOf, is_refusal}
 use Rattle.run_engine.specs.Runs.{RunRefused}
 use Rattle.run_engine.specs.SimulatePromises.{SimulateEffect, SimulateRefused}
 use Rattle.run_engine.specs.Told.{contents_in, outside_of, place_of}
@@ -48,6 +48,9 @@ pub record Commands (words : List (List ℕ)) (before after : Moment) (given : S
   -- that it used.
   pub checks : (program : List ℕ) → Kept words before after given (check program) (CheckEffect program) (ProgramRefused program) is_done
   pub compiles : (ask : CompileAsk) → Kept words before after given (compile ask) (CompileEffect ask) (ProgramRefused ask.program) is_done
+  -- `upgrade` writes the code of the first version that its file holds as code is written today, and prints how many functions it has. Bytes that
+  -- are no code of that version, and code that must not run, are a refusal of it.
+  pub upgrades : (ask : UpgradeAsk) → Kept words before after given (upgrade ask) (UpgradeEffect ask) (UpgradeRefused ask) is_done
   pub evaluates : (ask : EvalAsk) → Kept words before after given (eval ask) (EvalEffect eval_text ask) (EvalRefused ask) is_end
   pub tells_needs : (ask : EvalAsk) → Kept words before after given (need ask) (EvalEffect need_text ask) (EvalRefused ask) is_end
   -- `run` prints the text of the evaluation with tapes of these lengths, and writes the miners' views and the links on which messages were

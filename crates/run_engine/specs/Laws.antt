@@ -1,11 +1,12 @@
 -- What is true of the files that a call is handed, whatever it does: laws of the definitions that the other clauses speak of.
-use Rattle.std.specs.Prelude.{◌≡◌, ℕ, List, Some}
+use Rattle.std.specs.Prelude.{◌≡◌, ℕ, List, Ok, Some}
 use Rattle.outside.specs.Files.{Contents}
 use Rattle.reached_instances.specs.Instances.{Instance}
 use Rattle.reached_instances.specs.Reached.{IsReachedList}
 use Rattle.bytecode.specs.Raw.{RawCode}
 use Rattle.proto_core.specs.declared.party.Number.{Number}
-use Rattle.command_words.specs.Ask.{CompileAsk, GatherAsk, MapAsk, MinerAsk, SimulateAsk, TwinAsk, compile, gather, map_tape, simulate, twin, words_of}
+use Rattle.command_words.specs.Ask.{CompileAsk, GatherAsk, MapAsk, MinerAsk, SimulateAsk, TwinAsk, UpgradeAsk, compile, gather, map_tape, simulate}
+use Rattle.command_words.specs.Ask.{twin, upgrade, words_of}
 use Rattle.protocol_model.specs.Network.{Delivery}
 use Rattle.tape_file.specs.Tapes.{FourTapes}
 use Rattle.program_trees.specs.TypedPrograms.{TypedProgramTree}
@@ -21,6 +22,7 @@ use Rattle.miner_commands.specs.Premises.{HaveWords}
 use Rattle.net_laws.specs.OneNet.{HaveOneNet}
 use Rattle.program_commands.specs.Compile.{CodeMeansProgram}
 use Rattle.program_commands.specs.Held.{HoldsTyped}
+use Rattle.program_commands.specs.Upgrade.{IsUpgradeOf, old_code_at}
 use Rattle.program_views.specs.TapeMaps.{IsTwin, MapsCorrespond, twinned}
 use Rattle.workload.specs.Load.{load_program}
 use Rattle.workload.specs.LoadTree.{load_typed}
@@ -59,6 +61,10 @@ pub record Laws (words : List (List ℕ)) (files : Contents) : Type 0 where
   pub compiled_code_means_program :
       (ask : CompileAsk) (program : TypedProgramTree) (reached : List Instance) → words_of words ≡ Some (compile ask)
       → HoldsTyped ask.program files program → IsReachedList program reached → CodeMeansProgram program reached
+  -- What `upgrade` writes is verified code that does today what the code in its file did by the first version: with any inputs, budget and lengths of
+  -- tapes, in the clear or blind, it ends alike, tells and opens the same and costs the same, wherever neither ends for want of random words.
+  pub upgraded_code_keeps_its_meaning :
+      (ask : UpgradeAsk) (old : RawCode) → words_of words ≡ Some (upgrade ask) → old_code_at files ask.old ≡ Ok old → IsUpgradeOf old old
   -- Where the files hold what owners dealt the miner, each its own inputs from a dealer's tape of its own, what `gather` writes is what one dealer
   -- deals it of all their inputs, from one tape: the words that the owners use, in order, and then those that they leave.
   pub gathered_is_one_dealing :

@@ -1,5 +1,5 @@
 -- What each command promises: its effect over files that are as they must be, and for which files it is refused.
-use Rattle.std.specs.Prelude.{◌≡◌, ◌⊎◌, ◌≤◌, ◌||◌, ℕ, List, length, Bool, true, false}
+use Rattle.std.specs.Prelude.{◌≡◌, ◌⊎◌, ◌≤◌, ◌||◌, ℕ, List, length, Bool, true, false, Ok}
 use Rattle.outside.specs.Files.{Contents}
 use Rattle.reached_instances.specs.Instances.{Instance}
 use Rattle.reached_instances.specs.Reached.{IsReachedList}
@@ -9,7 +9,8 @@ use Rattle.command_frame.specs.Answer.{Effect}
 use Rattle.command_frame.specs.Moments.{AreSteady, Moment, Reach, files_alone}
 use Rattle.command_frame.specs.Status.{can_breach, can_refuse}
 use Rattle.command_frame.specs.Whole.{HasFailed, IsDone}
-use Rattle.command_words.specs.Ask.{CompileAsk, DealAsk, EvalAsk, RunAsk}
+use Rattle.command_words.specs.Ask.{CompileAsk, DealAsk, EvalAsk, RunAsk, UpgradeAsk}
+use Rattle.bytecode.specs.Raw.{RawCode}
 use Rattle.protocol_model.specs.Network.{Accepted, Delivery}
 use Rattle.input_share.specs.Dealing.{need_of}
 use Rattle.language_model.specs.Reports.{Report}
@@ -17,7 +18,8 @@ use Rattle.tape_file.specs.Tapes.{FourTapes}
 use Rattle.program_trees.specs.TypedPrograms.{TypedProgramTree}
 use Rattle.value_file.specs.declared.inputs.Entry.{Entry}
 use Rattle.program_commands.specs.Check.{check_effect}
-use Rattle.program_commands.specs.Compile.{compile_effect}
+use Rattle.program_commands.specs.Compile.{compile_effect, written_effect}
+use Rattle.program_commands.specs.Upgrade.{old_code_at}
 use Rattle.program_commands.specs.Deal.{deal_effect}
 use Rattle.program_commands.specs.Eval.{report_effect, report_for}
 use Rattle.miner_commands.specs.Run.{run_told}
@@ -55,6 +57,10 @@ CheckEffect path files effect = (program : TypedProgramTree) × HoldsTyped path 
 abbrev pub CompileEffect : CompileAsk → Contents → Effect → Type 0
 CompileEffect ask files effect = (program : TypedProgramTree) × (reached : List Instance) × HoldsTyped ask.program files program
     × IsReachedList program reached × (effect ≡ compile_effect ask.code program reached)
+
+-- of `upgrade`, over code of the first version that may run: the same code as it is written today, and how many functions it has
+abbrev pub UpgradeEffect : UpgradeAsk → Contents → Effect → Type 0
+UpgradeEffect ask files effect = (old : RawCode) × (old_code_at files ask.old ≡ Ok old) × (effect ≡ written_effect ask.code old)
 
 -- of `eval` and `need`, over an accepted program within the limits and a good input: a text of the evaluation in the clear, and its end
 abbrev pub EvalEffect : (Report → List ℕ) → EvalAsk → Contents → Effect → Type 0

@@ -7,10 +7,12 @@ use Rattle.command_frame.specs.declared.status.Status.{Status}
 use Rattle.command_frame.specs.Status.{is_done, is_end, of_peers, of_texts}
 use Rattle.command_frame.specs.Whole.{Paths}
 use Rattle.command_words.specs.Ask.{Ask, run, deal, check, compile, eval, need, map_tape, simulate, twin, words_of, load, gather, join, miner, trio}
+use Rattle.command_words.specs.Ask.{upgrade}
 use Rattle.program_commands.specs.Check.{check_of, check_paths}
 use Rattle.program_commands.specs.Compile.{compile_of, compile_paths, compiled_paths}
 use Rattle.program_commands.specs.Deal.{deal_of, deal_paths, written_paths}
 use Rattle.program_commands.specs.Eval.{evaluation_of, eval_paths, eval_text, need_text}
+use Rattle.program_commands.specs.Upgrade.{upgrade_of, upgrade_paths, upgraded_paths}
 use Rattle.program_commands.specs.Judging.{Finding, FoundAt, Question, nothing, its_program}
 use Rattle.gather_command.specs.Gather.{gather_of, gather_paths, gathered_paths}
 use Rattle.trio_command.specs.Join.{join_of, join_paths}
@@ -66,6 +68,7 @@ conduct_of (deal ask) = deciding nothing (deal_paths ask) (written_paths ask.to)
 conduct_of (check path) = deciding (its_program path) (check_paths path) [] is_done (λ told. check_of told.found path told.outside.files)
 conduct_of (compile ask) =
     deciding (its_program ask.program) (compile_paths ask) (compiled_paths ask) is_done (λ told. compile_of told.found ask told.outside.files)
+conduct_of (upgrade ask) = deciding nothing (upgrade_paths ask) (upgraded_paths ask) is_done (λ told. upgrade_of ask told.outside.files)
 conduct_of (eval ask) = deciding (its_program ask.program) (eval_paths ask) [] is_end (λ told. evaluation_of eval_text told.found ask told.outside.files)
 conduct_of (need ask) = deciding (its_program ask.program) (eval_paths ask) [] is_end (λ told. evaluation_of need_text told.found ask told.outside.files)
 conduct_of (map_tape ask) =

@@ -15,7 +15,9 @@ use gather_command::plan_gather;
 use miner_command::plan_miner;
 use miner_commands::{plan_load, plan_run};
 use outside::{Files, Links, Sink, Spawner};
-use program_commands::{plan_check, plan_compile, plan_deal, plan_eval, plan_need};
+use program_commands::{
+    plan_check, plan_compile, plan_deal, plan_eval, plan_need, plan_upgrade,
+};
 use std::alloc::Global;
 use tape_commands::{plan_map, plan_simulate, plan_twin};
 use trio_command::{plan_join, plan_trio};
@@ -39,6 +41,7 @@ fn plan<F: Files, L: Links, C: Spawner>(
         Command::Deal(words) => plan_deal(alloc, files, words),
         Command::Check(words) => plan_check(alloc, files, words),
         Command::Compile(words) => plan_compile(alloc, files, words),
+        Command::Upgrade(words) => plan_upgrade(alloc, files, words),
         Command::Eval(words) => plan_eval(alloc, files, words),
         Command::Need(words) => plan_need(alloc, files, words),
         Command::Map(words) => plan_map(alloc, files, words),

@@ -18,7 +18,7 @@ use Rattle.value_file.specs.declared.inputs.Entry.{Entry}
 use Rattle.value_file.specs.Values.{type_of, count_of}
 use Rattle.value_file.specs.Input.{new_name, AreEntries, name_of}
 use Rattle.value_file.specs.Input as input
-use Rattle.input_share.specs.Values.{elements_of, ring_of}
+use Rattle.input_share.specs.Values.{shared_words, shared_size, ring_of}
 use Rattle.input_share.specs.Dealing.{first_masks, second_masks, share_of, draws_for, draws_of, need_of, part_of, dealt_entries}
 use Rattle.view_text.specs.View.{Words, InputShare, AreInputs}
 use Rattle.view_model.proofs.Masks.{left_of_words}
@@ -56,7 +56,7 @@ share_is : (i : Number) (e : Entry) (d : Domain) (words : List ℕ) (more : List
     → AreInputs (share_then e.name (part_of i d e.value words) more)
 share_is i e domain.Public words more named are h = h
 share_is i e domain.Private words more named are h =
-    ((named, are_words _ (share_words i (type_of e.value) (elements_of e.value) words are)), h)
+    ((named, are_words _ (share_words i (type_of e.value) (shared_words e.value) words are)), h)
 
 pub shares_are : (i : Number) (before entries : List Entry) (words : List ℕ) → AreGood before entries → AreWords words
     → AreInputs (input_shares (dealt_entries i entries words))
@@ -68,14 +68,18 @@ shares_are i before (e ∷ es) words good are =
 
 -- ---- how many words the dealer needs
 
-draws_most : (d : Domain) (n : ℕ) → n ≤ 65536 → draws_for d n ≤ 131072
-draws_most domain.Public n h = omega arith
-draws_most domain.Private n h = omega (arith, h)
+size_most : (t : DataType) (n : ℕ) → shared_size t n ≤ n
+size_most data_type.Uint64 n = omega arith
+size_most data_type.Bool n = omega arith
+
+draws_most : (d : Domain) (t : DataType) (n : ℕ) → n ≤ 65536 → draws_for d (shared_size t n) ≤ 131072
+draws_most domain.Public t n h = omega arith
+draws_most domain.Private t n h = let s = size_most t n in omega (arith, h, s)
 
 pub need_most : (before entries : List Entry) → AreGood before entries → need_of entries ≤ 131072 * length entries
 need_most before [] good = omega arith
 need_most before (e ∷ es) good =
-    let first = draws_most e.domain (count_of e.value) good.0.short in
+    let first = draws_most e.domain (type_of e.value) (count_of e.value) good.0.short in
     let rest = need_most (before ++ e ∷ []) es good.1 in
     let both : need_of (e ∷ es) ≡ draws_of e + need_of es = sum_by-cons draws_of e es in
     omega (arith, first, rest, both)

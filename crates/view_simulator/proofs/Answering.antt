@@ -8,6 +8,7 @@ use Rattle.gates.specs.declared.gate.Gate.{Gate}
 use Rattle.value_file.specs.declared.public.PublicEntry.{PublicEntry}
 use Rattle.tape_file.specs.Tapes.{FourTapes}
 use Rattle.program_trees.specs.TypedPrograms.{TypedProgramTree}
+use Rattle.language_model.specs.Learned.{learned_of}
 use Rattle.language_model.specs.Reports.{Report}
 use Rattle.blind_evaluation.specs.Courses.{IsEnded}
 use Rattle.clear_eval.specs.declared.report.Report as reported
@@ -60,14 +61,14 @@ module _ (i : Number) (p : TypedProgramTree) (part : List PublicEntry) (opened :
 
     pub view_made :
         (order : List Link) (seen : Seen) (view : View) → net (scripts_made i part s.dealer gates) delivery ≡ Accepted →
-        order ≡ order_of (scripts_made i part s.dealer gates) delivery → seen ≡ seen_in_order i part gates report.opened.items s order →
+        order ≡ order_of (scripts_made i part s.dealer gates) delivery → seen ≡ seen_in_order i part gates (learned_of report.events.items) s order →
         view_with i seen (report_seen report) ≡ Some view → IsSimulation i p part opened s budget delivery (Ok view)
     view_made order seen view accepted ordered made shown =
         record {
           accepted = same_net ∙ accepted;
           made =
               sym
-              (ap (λ x. view_with i x (report_seen report)) (made ∙ ap (λ ls. seen_in_order i part gates report.opened.items s ls) ordered)
+              (ap (λ x. view_with i x (report_seen report)) (made ∙ ap (λ ls. seen_in_order i part gates (learned_of report.events.items) s ls) ordered)
               ∙ ap (λ (r : Report). view_with i (made_of i part s delivery r) r) is)
               ∙ shown;
         }

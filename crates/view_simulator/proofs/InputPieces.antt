@@ -10,6 +10,7 @@ use Rattle.value_file.specs.declared.public.PublicValue.{PublicValue}
 use Rattle.value_file.specs.declared.public.PublicValue.TheVariants.{Known, Hidden}
 use Rattle.value_file.specs.declared.public.PublicEntry.{PublicEntry}
 use Rattle.input_share.specs.declared.entry.ShareEntry.{ShareEntry}
+use Rattle.input_share.specs.Values.{shared_size}
 use Rattle.input_share.proofs.Steps.{drop-item}
 use Rattle.view_model.specs.Dealing.{private_shares, hidden_sizes, made_share, made_part, made_entries, hidden_draws}
 use Rattle.view_simulator.specs.Need.{hidden_need}
@@ -58,5 +59,5 @@ sizes-made i (entry ∷ part) words h =
         ≡ hidden_sizes (record { name = entry.name; value = value } ∷ part)
     by_value (Known value) h more = more
     by_value (Hidden kind shape) h more =
-        ap (λ n. n ∷ sizes_of (private_shares (made_entries i part (drop (2 * size_of shape) words)))) (share-size i (size_of shape) words h)
-        ∙ ap (λ ns. size_of shape ∷ ns) more
+        let m : ℕ = shared_size kind (size_of shape) in
+        ap (λ n. n ∷ sizes_of (private_shares (made_entries i part (drop (2 * m) words)))) (share-size i m words h) ∙ ap (λ ns. m ∷ ns) more

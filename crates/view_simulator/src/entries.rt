@@ -1,7 +1,7 @@
 ghost use Rattle.std.specs.Prelude.{◌≡◌, take, drop, IfOk};
 ghost use Rattle.view_model.specs.Dealing.{hidden_draws, made_share, made_part, made_entries};
 
-use input_share::{Part, ShareEntry, Shared};
+use input_share::{Part, ShareEntry, Shared, shared_size};
 use proto_core::Number;
 use std::alloc::{AllocError, Global};
 use value_file::{PublicEntry, PublicPart, PublicValue, Words};
@@ -19,20 +19,20 @@ fn cut(words: &[u64], count: u64) -> (&[u64], &[u64])
     }
 }
 
-/// The words after those of an input, of which a hidden one takes two for each element.
+/// The words after those of an input, of which a hidden one takes two for each word in which it is shared.
 fn behind<'a>(value: &PublicValue, words: &'a [u64]) -> &'a [u64]
     ensures { result.now ≡ drop (hidden_draws value.now) words.now }
 {
     match value {
         PublicValue::Known(_) => words,
-        PublicValue::Hidden { shape, .. } => {
-            let count = shape.count();
+        PublicValue::Hidden { data_type, shape } => {
+            let count = shared_size(*data_type, shape.count());
             cut(cut(words, count).1, count).1
         }
     }
 }
 
-/// A miner's share of so many elements.
+/// A miner's share of so many words.
 fn share(alloc: Global, miner: Number, count: u64, words: &[u64]) -> Result<Vec<u64>, AllocError>
     ensures { IfOk result (λ share. share.items ≡ made_share miner count words.now) }
 {
@@ -55,7 +55,8 @@ fn part(
     match value {
         PublicValue::Known(value) => Ok(Part::Public(value.copy(alloc)?)),
         PublicValue::Hidden { data_type, shape } => {
-            let words = share(alloc, miner, shape.count(), words)?;
+            let count = shared_size(*data_type, shape.count());
+            let words = share(alloc, miner, count, words)?;
             Ok(Part::Private(Shared {
                 data_type: *data_type,
                 shape: *shape,
@@ -81,8 +82,8 @@ fn made_entry(
 }
 
 /// The input shares that the simulator makes for a miner, of the dealer's words that a view is made of. A public input stands there
-/// as it is; of a hidden one of n elements miners 1 and 3 have the next n words, and miner 2 the n words after these. Where words are
-/// wanting a share has those that there are.
+/// as it is; of a hidden one that is shared in m words miners 1 and 3 have the next m words, and miner 2 the m words after these. Where
+/// words are wanting a share has those that there are.
 pub fn made_entries(
     alloc: Global,
     miner: Number,

@@ -13,6 +13,7 @@ mod entries;
 mod errors;
 mod gate_by_gate;
 mod laws;
+mod learned;
 mod made;
 mod made_gates;
 mod mails;
@@ -29,6 +30,7 @@ mod telling;
 mod view;
 mod words;
 
+pub use dealing::suffices;
 pub use errors::SimulateErr;
 pub use gate_by_gate::scripts;
 pub use laws::{runs_are_simulated, told_runs_can_be_made};

@@ -35,13 +35,6 @@ fn size_of_both(sizes: &[Option<u64>], left: u64, right: u64) -> Option<u64>
     size_at(sizes, left)?.checked_add(size_at(sizes, right)?)
 }
 
-/// How many bits a value has.
-fn bits_of(sizes: &[Option<u64>], number: u64) -> Option<u64>
-    ensures { (all : List ℕ) → AreKept all sizes.now → IsKept (size_of all number * 64) result }
-{
-    size_at(sizes, number)?.checked_mul(64)
-}
-
 /// How many elements a value has, `count` times.
 fn times(sizes: &[Option<u64>], number: u64, count: u64) -> Option<u64>
     ensures { (all : List ℕ) → AreKept all sizes.now → IsKept (size_of all number * count) result }
@@ -85,7 +78,6 @@ fn size_made(dealt: &[u64], sizes: &[Option<u64>], gate: &Gate) -> Result<Option
         Gate::Stretch { operand, count } | Gate::Tile { operand, count } => {
             Ok(times(sizes, *operand, *count))
         }
-        Gate::Spread { operand } => Ok(bits_of(sizes, *operand)),
         Gate::Sum { .. } | Gate::PartBit { .. } => Ok(Some(1)),
         Gate::Pack { operand } => packed_size(sizes, *operand),
         Gate::RepBit { count, .. } => Ok(Some(words_for_both(*count, 0))),

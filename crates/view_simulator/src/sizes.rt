@@ -2,23 +2,24 @@
 ghost use Rattle.std.specs.Prelude.{◌≡◌, [], ◌++◌, IfOk, OnOk};
 ghost use Rattle.view_model.specs.Dealing.{hidden_then, hidden_sizes};
 
+use input_share::shared_size;
 use std::alloc::{AllocError, Global};
 use value_file::{PublicEntry, PublicValue};
 
-// The count of the elements, if the input is hidden, as one size more.
+// The count of the words in which it is shared, if the input is hidden, as one size more.
 fn push_size(sizes: &mut Vec<u64>, value: &PublicValue) -> Result<(), AllocError>
     ensures { OnOk result (sizes.new.items ≡ sizes.old.items ++ hidden_then value.now []) }
 {
     match value {
         PublicValue::Known(_) => Ok(()),
-        PublicValue::Hidden { shape, .. } => {
-            sizes.push(shape.count())?;
+        PublicValue::Hidden { data_type, shape } => {
+            sizes.push(shared_size(*data_type, shape.count()))?;
             Ok(())
         }
     }
 }
 
-/// How many elements each hidden input has.
+/// In how many words each hidden input is shared.
 pub fn hidden_sizes(alloc: Global, part: &[PublicEntry]) -> Result<Vec<u64>, AllocError>
     ensures { IfOk result (λ sizes. sizes.items ≡ hidden_sizes part.now) }
 {

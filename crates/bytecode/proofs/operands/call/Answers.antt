@@ -1,4 +1,4 @@
-use Rattle.std.proofs.Common.{◌≡◌, ◌∙◌, Ok, map, ap, sym}
+use Rattle.std.proofs.Common.{◌∙◌, Ok, map, ap, sym}
 use Rattle.std.proofs.lemmas.Result.{err_from_is_err_and}
 use Rattle.bytecode.specs.declared.instruction.Register.{Register}
 use Rattle.bytecode.specs.InMemory.{raw_instruction}

@@ -1,6 +1,6 @@
 use Rattle.std.proofs.Common.{◌≡◌, length, ap, ◌∙◌, arith}
 use Rattle.value_file.specs.Values.{type_of, count_of}
-use Rattle.input_share.specs.Values.{shared_size, shared_words}
+use Rattle.input_share.specs.Values.{shared_size}
 use Rattle.input_share.proofs.Elements.{length-shared_words}
 use Rattle.input_share.proofs.dealing.shared.Goals as goal
 

@@ -28,6 +28,13 @@ returns-in-Compile-clause-planned g c =
     (planned _ _ _ _ (λ told. refl) c.plan_compile.ensures.files c.plan_compile.ensures.anyhow
     c.plan_compile.ensures.answer c.plan_compile.ensures.found c.plan_compile.ensures.names tt c.plan_compile.ensures.ends tt)
 
+pub returns-in-Upgrade-clause-planned : goal.returns-in-Upgrade-clause-planned
+unfolding answer_to question_of reads_of writes_of
+returns-in-Upgrade-clause-planned g c =
+    rw c.in-Upgrade.is
+    (planned _ _ _ _ (λ told. refl) c.plan_upgrade.ensures.files c.plan_upgrade.ensures.anyhow (λ found at. c.plan_upgrade.ensures.answer)
+    (λ t tells. found_nothing (g.F.Files.state c.args.files.now).contents) c.plan_upgrade.ensures.names tt c.plan_upgrade.ensures.ends tt)
+
 pub returns-in-Eval-clause-planned : goal.returns-in-Eval-clause-planned
 unfolding answer_to question_of reads_of writes_of
 returns-in-Eval-clause-planned g c =

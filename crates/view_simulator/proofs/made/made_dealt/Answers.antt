@@ -1,7 +1,4 @@
-use Rattle.std.proofs.Common.{◌≡◌, ◌≤◌, List, [], length, sym, ap, ◌∙◌, subst}
-use Rattle.protocol_model.specs.Gates.{sizes_of, needed}
-use Rattle.gates.specs.declared.gate.Gate.{Gate}
-use Rattle.shared_gates.specs.Model.{AllSizesSuit}
+use Rattle.std.proofs.Common.{◌≡◌, ap, ◌∙◌}
 use Rattle.joint_run.specs.Three.{each_of}
 use Rattle.view_simulator.specs.Made.{own_run, IsMade}
 use Rattle.view_simulator.specs.Need.{made_shares}
@@ -16,9 +13,8 @@ made_run-requires-clause-suit c =
     let s = c.args.tapes.now in
     let own : c.in_ok-own.own ≡ made_shares i part s.dealer =
     c.in_ok-own.ensures ∙ ap private_shares (c.deref.ensures.value ∙ c.in_ok-inputs.ensures ∙ ap (made_entries i part) c.dealer.ensures) in
-    subst (λ (gates : List Gate). AllSizesSuit (sizes_of c.in_ok-own.own) [] gates) (sym c.deref-2.ensures.value)
-    (suits_own i part c.args.report.now.gates.items s c.requires.dealt c.in_ok-own.own own c.requires.runs (each_of c.whole_tapes-whole.result)
-    c.whole_tapes-whole.ensures)
+    suits_own i part c.args.gates.now s c.requires.dealt c.in_ok-own.own own c.requires.runs (each_of c.whole_tapes-whole.result)
+    c.whole_tapes-whole.ensures
 
 pub made_run-requires-clause-reach : goal.made_run-requires-clause-reach
 made_run-requires-clause-reach c =
@@ -28,23 +24,20 @@ made_run-requires-clause-reach c =
     let own : c.in_ok-own.own ≡ made_shares i part s.dealer =
     c.in_ok-own.ensures ∙ ap private_shares (c.deref.ensures.value ∙ c.in_ok-inputs.ensures ∙ ap (made_entries i part) c.dealer.ensures) in
     λ k.
-    subst (λ (gates : List Gate). needed (own_run c.in_ok-own.own gates) k ≤ length (each_of c.whole_tapes-whole.result k)) (sym c.deref-2.ensures.value)
-    (reaches_own i part c.args.report.now.gates.items s c.requires.dealt c.in_ok-own.own own c.requires.runs (each_of c.whole_tapes-whole.result)
-    c.whole_tapes-whole.ensures k)
+    reaches_own i part c.args.gates.now s c.requires.dealt c.in_ok-own.own own c.requires.runs (each_of c.whole_tapes-whole.result)
+    c.whole_tapes-whole.ensures k
 
 pub returns : goal.returns
 returns c =
     let i = c.args.miner in
     let part = c.args.part.now in
     let s = c.args.tapes.now in
-    let gates = c.args.report.now.gates.items in
-    let opened = c.args.report.now.opened.items in
+    let gates = c.args.gates.now in
+    let opened = c.args.opened.now in
     let inputs : c.in_ok-inputs.inputs.items ≡ made_entries i part s.dealer = c.in_ok-inputs.ensures ∙ ap (made_entries i part) c.dealer.ensures in
     let own : c.in_ok-own.own ≡ made_shares i part s.dealer = c.in_ok-own.ensures ∙ ap private_shares (c.deref.ensures.value ∙ inputs) in
     let tapes = each_of c.whole_tapes-whole.result in
-    let made : IsMade i (own_run c.in_ok-own.own gates) opened tapes c.in_ok-made.made =
-    subst (λ (gs : List Gate). IsMade i (own_run c.in_ok-own.own gs) opened tapes c.in_ok-made.made) c.deref-2.ensures.value
-    (subst (λ ws. IsMade i (own_run c.in_ok-own.own c.deref-2.result.now) ws tapes c.in_ok-made.made) c.deref-3.ensures.value c.in_ok-made.ensures) in
+    let made : IsMade i (own_run c.in_ok-own.own gates) opened tapes c.in_ok-made.made = c.in_ok-made.ensures in
     all_seen i part gates s c.requires.dealt c.in_ok-own.own own c.requires.runs tapes c.whole_tapes-whole.ensures opened c.args.order.now c.in_ok-made.made
     made c.in_ok-inputs.inputs.items c.in_ok-drew.drew.items c.of-tape.result.now c.of.result.now c.in_ok-got.got.items inputs c.of-tape.ensures c.of.ensures
     c.in_ok-drew.ensures c.in_ok-got.ensures

@@ -1,7 +1,8 @@
-use Rattle.std.proofs.Common.{◌≡◌, List, [], Ok, Err, ap, ◌∙◌, sym, subst}
+use Rattle.std.proofs.Common.{◌≡◌, ℕ, List, [], Ok, Err, ap, ◌∙◌, sym, subst}
 use Rattle.program_trees.specs.TypedPrograms.{typed_program_tree}
 use Rattle.gates.specs.declared.gate.Gate.{Gate}
 use Rattle.proto_core.specs.declared.link.Link.{Link}
+use Rattle.language_model.specs.Learned.{learned_of}
 use Rattle.view_simulator.specs.Sizes.{SizesFit}
 use Rattle.view_model.specs.Dealing.{hidden_sizes}
 use Rattle.counted_net.specs.Answers.{delivery_seen, IsNetAnswer}
@@ -48,9 +49,10 @@ returns c =
     let given = delivery_seen c.args.run.now.delivery.now in
     let report = c.in_ok-report.report in
     let gates : c.deref.result.now ≡ report.gates.items = c.deref.ensures.value in
+    let opened : List ℕ = learned_of report.events.items in
     let net =
     subst (λ (gs : List Gate). IsNetAnswer (scripts_made i part s.dealer gs) given (Ok c.in_ok-order.order)) gates (c.in_ok-order.ensures i s.dealer) in
-    let seen : seen_of c.in_ok-made.made ≡ seen_in_order i part report.gates.items report.opened.items s c.in_ok-order.order.items =
-    c.in_ok-made.ensures ∙ ap (λ (links : List Link). seen_in_order i part report.gates.items report.opened.items s links) c.deref-2.ensures.value in
+    let seen : seen_of c.in_ok-made.made ≡ seen_in_order i part report.gates.items opened s c.in_ok-order.order.items =
+    c.in_ok-made.ensures ∙ ap (λ (links : List Link). seen_in_order i part report.gates.items opened s links) c.deref-2.ensures.value in
     view_made i p part c.args.run.now.opened.now s c.args.run.now.budget given report c.in_ok-report.ensures.report
     c.in_ok-order.order.items (seen_of c.in_ok-made.made) c.in_ok-view_of.field-0 net.0 net.1 seen c.in_ok-view_of.ensures

@@ -1,6 +1,6 @@
 use Rattle.std.proofs.lemmas.List.{append_assoc}
 use Rattle.command_frame.specs.Faults.{node_fault_line, node_fault_text}
-use Rattle.miner_command.proofs.code_file.step_line.Goals as goal
+use Rattle.program_commands.proofs.codes.byte_line.Goals as goal
 
 pub returns : goal.returns
 unfolding node_fault_line node_fault_text

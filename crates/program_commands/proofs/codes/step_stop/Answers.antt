@@ -1,6 +1,6 @@
 use Rattle.command_frame.proofs.Said.{says_error}
-use Rattle.miner_command.proofs.Said.{node_fault_is_error}
-use Rattle.miner_command.proofs.code_file.step_stop.Goals as goal
+use Rattle.program_commands.proofs.CodeFaults.{node_fault_is_error}
+use Rattle.program_commands.proofs.codes.step_stop.Goals as goal
 
 pub refused-requires-clause-says : goal.refused-requires-clause-says
 refused-requires-clause-says c = says_error c.step_line.result _ (node_fault_is_error _) c.step_line.ensures
