@@ -46,14 +46,13 @@ use Rattle.view_audit.proofs.Nothing.{draws_at, inputs_at, sums_at}
 use Rattle.view_audit.proofs.Passed.{is_given}
 use Rattle.view_audit.proofs.Undealt.{found_report, no_lines}
 use Rattle.view_audit.proofs.Whole.{are_of, fit}
-use Rattle.view_auditor.specs.inner.Passes.{words_drawn, words_shown}
+use Rattle.view_auditor.specs.inner.Passes.{gates_shown, mail_shown, shares_shown, words_drawn}
 
 -- gates of a run that can be run on the shares and words that views show, and send the messages that are found; their sizes are public
 pub record Shows (part : List PublicEntry) (views : Number → View) (es : List Entry) (t : FourTapes) (gates : List Gate) : Type 0 where
-  pub can : CanRun (words_shown views) gates (words_drawn views)
+  pub can : CanRun (shares_shown views) gates (words_drawn views)
   pub mail :
-      (l : Link)
-      → run_messages (run_gates (words_shown views) (sizes_of (words_shown views One)) [] gates) (λ i. []) (words_drawn views) l ≡ mail_dealt es gates t l
+      (l : Link) → mail_shown views gates l ≡ mail_dealt es gates t l
   pub sized : run_gates (dealt_to es t.dealer) (hidden_sizes part) [] gates ≡ gates_dealt es t.dealer gates
   pub few : needed (run_gates (dealt_to es t.dealer) (hidden_sizes part) [] gates) One ≤ length (views One).drew
 
@@ -87,7 +86,7 @@ module _
       given = is_given source p is part lengths budget views fits dealt
 
       -- the shares that are dealt of what is found are those that the views show
-      dealt_shown : (i : Number) → dealt_to es t.dealer i ≡ words_shown views i
+      dealt_shown : (i : Number) → dealt_to es t.dealer i ≡ shares_shown views i
       dealt_shown i =
           private_are (dealt_entries i es t.dealer)
           ∙ ap (map (λ (s : InputShare). s.words))
@@ -97,16 +96,16 @@ module _
           ∙ three_are (lines part lengths views) i
           ∙ line_is source p is part lengths views may dealt i)
 
-      all_shown : dealt_to es t.dealer ≡ words_shown views
+      all_shown : dealt_to es t.dealer ≡ shares_shown views
       all_shown = λ j. λ i. dealt_shown i j
 
-      size_shown : (i : Number) → sizes_of (words_shown views i) ≡ private_sizes es
+      size_shown : (i : Number) → sizes_of (shares_shown views i) ≡ private_sizes es
       size_shown i = ap sizes_of (sym (dealt_shown i)) ∙ sizes_dealt i es t.dealer given.enough
 
-      same_gates : gates_dealt es t.dealer gates ≡ run_gates (words_shown views) (sizes_of (words_shown views One)) [] gates
+      same_gates : gates_dealt es t.dealer gates ≡ gates_shown views gates
       same_gates =
           ap (λ d. run_gates d (private_sizes es) [] gates) all_shown
-          ∙ ap (λ ns. run_gates (words_shown views) ns [] gates) (sym (size_shown One))
+          ∙ ap (λ ns. run_gates (shares_shown views) ns [] gates) (sym (size_shown One))
 
       draws_so : (i : Number) → length (views i).drew ≡ needed (gates_dealt es t.dealer gates) i
       draws_so i = drew_them i ∙ sym (fits.drawn budget i)
@@ -134,7 +133,7 @@ module _
                   reach = λ i. (let n = ap (λ (gs : List model.Gate). needed gs i) (sym same_gates) in let m = draws_so i in omega (arith, n, m));
                 };
             mail = λ l.
-                ap (λ gs. run_messages gs (λ i. []) (words_drawn views) l) (sym same_gates)
+                ap (λ gs. run_messages gs no_values (words_drawn views) l) (sym same_gates)
                 ∙ same_messages (gates_dealt es t.dealer gates) no_values (words_drawn views) (miners_of t) l draw_words;
             sized = sized_so;
             few = (let n = ap (λ (gs : List model.Gate). needed gs One) sized_so in let m = draws_so One in omega (arith, n, m));

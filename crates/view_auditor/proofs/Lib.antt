@@ -1,6 +1,8 @@
 mod Dealt
+mod Delivered
 mod Judging
-mod Merging
 mod Named
+mod Right
 mod Runs
+mod ShownRuns
 mod Undealt

@@ -1,11 +1,12 @@
 // The audit.
 ghost use Rattle.std.specs.Prelude.{◌≡◌, None, IfOk};
 ghost use Rattle.clear_eval.specs.Reports.{report_seen};
+ghost use Rattle.program_trees.specs.Sound.{IsSound};
 ghost use Rattle.view_audit.specs.Audit.{IsAudit};
 ghost use Rattle.view_audit.specs.declared.answer.Audit.TheVariants.{No};
-ghost use Rattle.view_auditor.specs.Answers.{audited, verdict_of};
+ghost use Rattle.view_auditor.specs.Answers.{IsFoundAnswer};
 ghost use Rattle.view_auditor.specs.Runs.{MayBeAudited, lengths_of, program_of, views_of};
-ghost use Rattle.view_auditor.specs.inner.Passes.{IsAnswer, IsGiven, first_two, last_three, report_of};
+ghost use Rattle.view_auditor.specs.inner.Passes.{IsFoundIn, IsGiven, first_two, is_dealt, last_three, report_of};
 
 use crate::merging::merge;
 use crate::places::Failure;
@@ -35,7 +36,7 @@ fn merged(alloc: Global, run: &AuditedRun<'_>, report: &Report) -> Result<Audit,
     requires two { first_two run.now ≡ None }
     requires three { last_three run.now ≡ None }
     requires is { report_seen report.now ≡ report_of run.now }
-    ensures { IfOk result (IsAnswer run.now) }
+    ensures { IfOk result (IsFoundIn run.now) }
 {
     few_words_fit();
     see_words(run.one.drew());
@@ -45,15 +46,17 @@ fn merged(alloc: Global, run: &AuditedRun<'_>, report: &Report) -> Result<Audit,
 }
 
 /// The steps from the third on, where the first two found nothing wrong.
-fn audit_run(alloc: Global, run: &AuditedRun<'_>, report: &Report) -> Result<Audit, AllocError>
+fn audit_run(alloc: Global, run: &AuditedRun<'_>, dealt: bool) -> Result<Audit, AllocError>
+    requires sound { IsSound (program_of run.now) }
     requires given { IsGiven run.now }
+    requires dealt { dealt ≡ is_dealt run.now }
     requires two { first_two run.now ≡ None }
-    requires is { report_seen report.now ≡ report_of run.now }
-    ensures { IfOk result (IsAnswer run.now) }
+    ensures { IfOk result (IsFoundIn run.now) }
 {
-    match wrong_in_run(alloc, run, report)? {
+    let report = shown_report(alloc, run, dealt)?;
+    match wrong_in_run(alloc, run, &report)? {
         Some(failure) => Ok(no(failure)),
-        None => merged(alloc, run, report),
+        None => merged(alloc, run, &report),
     }
 }
 
@@ -63,17 +66,13 @@ fn audit_run(alloc: Global, run: &AuditedRun<'_>, report: &Report) -> Result<Aud
 /// An error comes where memory runs short.
 pub fn audit(alloc: Global, run: &AuditedRun<'_>) -> Result<Audit, AllocError>
     requires { MayBeAudited run.now }
-    ensures verdict { IfOk result (λ answer. verdict_of answer
-        ≡ audited (program_of run.now) run.now.part.now (lengths_of run.now.lengths) run.now.budget (views_of run.now)) }
+    ensures found { IfOk result (IsFoundAnswer (program_of run.now) run.now.part.now (lengths_of run.now.lengths) run.now.budget (views_of run.now)) }
     ensures right { IfOk result (IsAudit (program_of run.now) run.now.part.now (lengths_of run.now.lengths) run.now.budget (views_of run.now)) }
 {
     see_part(run.part.entries());
     let dealt = suffices(run.part.entries(), run.lengths.dealer as usize);
     match wrong_shares(alloc, run, dealt)? {
         Some(failure) => Ok(no(failure)),
-        None => {
-            let report = shown_report(alloc, run, dealt)?;
-            audit_run(alloc, run, &report)
-        }
+        None => audit_run(alloc, run, dealt),
     }
 }

@@ -7,6 +7,7 @@
 mod audit;
 mod draws;
 mod ends;
+mod laws;
 mod merging;
 mod messages;
 mod places;
@@ -16,4 +17,5 @@ mod shares;
 mod steps;
 
 pub use audit::audit;
+pub use laws::found_answers_are_right;
 pub use run::{AuditedRun, TapeLengths};

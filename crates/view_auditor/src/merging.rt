@@ -1,14 +1,15 @@
 // The sixth step: an order of deliveries that brings each miner its messages in the order of its view.
-ghost use Rattle.std.specs.Prelude.{◌≡◌, IfOk};
+ghost use Rattle.std.specs.Prelude.{◌≡◌, List, IfOk};
 ghost use Rattle.proto_core.specs.declared.party.Number.{Number as NumberValue};
-ghost use Rattle.proto_core.specs.declared.party.Number.TheVariants.{One, Two, Three};
 ghost use Rattle.proto_core.specs.Script.{Move};
 ghost use Rattle.counted_net.specs.Scripts.{AreScripts};
-ghost use Rattle.furthest_order.specs.Orders.{AllTo};
+ghost use Rattle.furthest_order.specs.Merged.{merged};
+ghost use Rattle.furthest_order.specs.Orders.{AreOwn};
 ghost use Rattle.merged_views.specs.Brought.{links_of};
+ghost use Rattle.view_audit.specs.Places.{lowest};
+ghost use Rattle.view_auditor.specs.Answers.{IsAnswerOf, left_at};
 ghost use Rattle.view_auditor.specs.Runs.{views_of};
-ghost use Rattle.view_auditor.specs.inner.Merges.{IsMerged, answers_for};
-ghost use Rattle.view_auditor.specs.inner.Passes.{line_left};
+ghost use Rattle.view_auditor.specs.inner.Passes.{line_left, orders_in, taken_of};
 
 use crate::places::lowest;
 use crate::run::AuditedRun;
@@ -43,7 +44,7 @@ fn line_left(taken: usize, view: &View) -> Option<u128>
 
 /// What is answered where just these were delivered.
 fn answer(far: Deliveries, run: &AuditedRun<'_>) -> Audit
-    ensures { answers_for (views_of run.now) far result }
+    ensures { IsAnswerOf (lowest (λ i. line_left (taken_of far.entry i) (views_of run.now i))) far.entry.delivered.items result }
 {
     let one = line_left(far.one, run.one);
     let two = line_left(far.two, run.two);
@@ -63,8 +64,10 @@ pub(crate) fn merge(
     run: &AuditedRun<'_>,
     scripts: &Scripts,
 ) -> Result<Audit, AllocError>
-    requires { (i : NumberValue) → AllTo i (links_of (views_of run.now i).got) }
-    ensures { IfOk result (λ answer. (moves : NumberValue → List Move) → AreScripts moves scripts.now → IsMerged moves (views_of run.now) answer) }
+    requires { AreOwn (orders_in (views_of run.now)) }
+    ensures { IfOk result (λ answer. (moves : NumberValue → List Move) → AreScripts moves scripts.now →
+        IsAnswerOf (lowest (λ i. left_at (merged moves (orders_in (views_of run.now))) i (views_of run.now i)))
+        (merged moves (orders_in (views_of run.now))) answer) }
 {
     let one = links(alloc, run.one.got())?;
     let two = links(alloc, run.two.got())?;

@@ -1,17 +1,12 @@
 // The fourth step: the messages that came.
-ghost use Rattle.std.specs.Prelude.{◌≡◌, ◌++◌, ◌∷◌, [], map, IfOk, OnOk};
+ghost use Rattle.std.specs.Prelude.{◌≡◌, map, IfOk};
 ghost use Rattle.proto_core.specs.declared.party.Number.{Number as NumberValue};
-ghost use Rattle.proto_core.specs.declared.link.Link.{Link as LinkValue};
-ghost use Rattle.protocol_model.specs.Gates.{sizes_of};
-ghost use Rattle.protocol_model.specs.Runs.{run_messages};
-ghost use Rattle.proto_core.specs.declared.party.Number.TheVariants.{One};
-ghost use Rattle.shared_gates.specs.Model.{run_gates};
 ghost use Rattle.joint_run.specs.JointRuns.{CanRun};
-ghost use Rattle.joint_run.specs.Three.{carried, values_of};
+ghost use Rattle.joint_run.specs.Three.{carried, each_of, values_of};
 ghost use Rattle.view_text.specs.View.{InputShare as AnInputShare};
 ghost use Rattle.view_audit.specs.Steps.{messages_line};
 ghost use Rattle.view_auditor.specs.Runs.{views_of};
-ghost use Rattle.view_auditor.specs.inner.Passes.{messages_pass, place_seen, words_drawn, words_shown};
+ghost use Rattle.view_auditor.specs.inner.Passes.{mail_shown, messages_pass, place_seen, shares_shown, words_drawn};
 
 use crate::places::{Failure, lowest};
 use crate::run::AuditedRun;
@@ -36,13 +31,27 @@ fn words_in(alloc: Global, inputs: &[InputShare]) -> Result<Values, AllocError>
 
 /// The words of the shares in the `in` lines of three views.
 fn shown_shares(alloc: Global, run: &AuditedRun<'_>) -> Result<SharedValues, AllocError>
-    ensures { IfOk result (λ shares. (i : NumberValue) → values_of shares i ≡ words_shown (views_of run.now) i) }
+    ensures { IfOk result (λ shares. (i : NumberValue) → values_of shares i ≡ shares_shown (views_of run.now) i) }
 {
+    let first = words_in(alloc, run.one.inputs())?;
+    let second = words_in(alloc, run.two.inputs())?;
+    let third = words_in(alloc, run.three.inputs())?;
     Ok(SharedValues {
-        first: words_in(alloc, run.one.inputs())?,
-        second: words_in(alloc, run.two.inputs())?,
-        third: words_in(alloc, run.three.inputs())?,
+        first,
+        second,
+        third,
     })
+}
+
+/// The words that three miners drew.
+fn shown_words<'r>(run: &AuditedRun<'r>) -> Tapes<'r>
+    ensures { (i : NumberValue) → each_of result i ≡ words_drawn (views_of run.now) i }
+{
+    Tapes {
+        first: run.one.drew(),
+        second: run.two.drew(),
+        third: run.three.drew(),
+    }
 }
 
 /// The line of the first message that isn't the next of its link, of those that a run sends.
@@ -70,18 +79,11 @@ pub(crate) fn wrong_messages(
     run: &AuditedRun<'_>,
     gates: &[Gate],
 ) -> Result<Option<Failure>, AllocError>
-    requires { CanRun (words_shown (views_of run.now)) gates.now (words_drawn (views_of run.now)) }
-    ensures { IfOk result (λ found. place_seen found ≡ messages_pass
-        (run_messages (run_gates (words_shown (views_of run.now)) (sizes_of (words_shown (views_of run.now) One)) [] gates.now)
-        (λ i. []) (words_drawn (views_of run.now))) (views_of run.now)) }
+    requires { CanRun (shares_shown (views_of run.now)) gates.now (words_drawn (views_of run.now)) }
+    ensures { IfOk result (λ found. place_seen found ≡ messages_pass (mail_shown (views_of run.now) gates.now) (views_of run.now)) }
 {
     let dealt = shown_shares(alloc, run)?;
-    let tapes = Tapes {
-        first: run.one.drew(),
-        second: run.two.drew(),
-        third: run.three.drew(),
-    };
-    match joint_run(alloc, gates, &dealt, tapes) {
+    match joint_run(alloc, gates, &dealt, shown_words(run)) {
         Ok(joint) => Ok(wrong_among(&joint.transcript.traffic, run)),
         Err(refused) => Err(memory_wanting(refused)),
     }
