@@ -2,7 +2,7 @@ mod Dealt
 mod Delivered
 mod Judging
 mod Named
-mod Right
+pub mod Right
 mod Runs
 mod ShownRuns
 mod Undealt

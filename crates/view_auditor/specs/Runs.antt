@@ -3,10 +3,7 @@ use Rattle.std.specs.Prelude.{ℕ, List, [], ◌∷◌}
 use Rattle.proto_core.specs.declared.party.Number.{Number}
 use Rattle.proto_core.specs.Parties.{of_three}
 use Rattle.program_trees.specs.TypedPrograms.{TypedProgramTree, typed_program_tree}
-use Rattle.program_trees.specs.Sound.{IsSound}
-use Rattle.value_file.specs.PublicFile.{IsWritable}
-use Rattle.code_inputs.specs.Accepted.{IsAcceptedProgram}
-use Rattle.view_text.specs.View.{IsView, View}
+use Rattle.view_text.specs.View.{View}
 use Rattle.view_auditor.specs.declared.run.AuditedRun.{AuditedRun}
 use Rattle.view_auditor.specs.declared.run.TapeLengths.{TapeLengths}
 
@@ -18,10 +15,3 @@ views_of r = of_three r.one.now r.two.now r.three.now
 
 abbrev pub program_of : AuditedRun → TypedProgramTree
 program_of r = typed_program_tree r.program.now
-
--- the program was accepted, the public part may stand in a file, and so may the views
-pub record MayBeAudited (r : AuditedRun) : Type 0 where
-  pub sound : IsSound (program_of r)
-  pub accepted : IsAcceptedProgram (program_of r)
-  pub part : IsWritable r.part.now
-  pub views : (i : Number) → IsView (views_of r i)

@@ -1,11 +1,15 @@
 // The audit.
 ghost use Rattle.std.specs.Prelude.{◌≡◌, None, IfOk};
 ghost use Rattle.clear_eval.specs.Reports.{report_seen};
+ghost use Rattle.proto_core.specs.declared.party.Number.{Number as NumberValue};
 ghost use Rattle.program_trees.specs.Sound.{IsSound};
+ghost use Rattle.value_file.specs.PublicFile.{IsWritable};
+ghost use Rattle.code_inputs.specs.Accepted.{IsAcceptedProgram};
+ghost use Rattle.view_text.specs.View.{IsView};
 ghost use Rattle.view_audit.specs.Audit.{IsAudit};
 ghost use Rattle.view_audit.specs.declared.answer.Audit.TheVariants.{No};
 ghost use Rattle.view_auditor.specs.Answers.{IsFoundAnswer};
-ghost use Rattle.view_auditor.specs.Runs.{MayBeAudited, lengths_of, program_of, views_of};
+ghost use Rattle.view_auditor.specs.Runs.{lengths_of, program_of, views_of};
 ghost use Rattle.view_auditor.specs.inner.Passes.{IsFoundIn, IsGiven, first_two, is_dealt, last_three, report_of};
 
 use crate::merging::merge;
@@ -65,7 +69,10 @@ fn audit_run(alloc: Global, run: &AuditedRun<'_>, dealt: bool) -> Result<Audit, 
 ///
 /// An error comes where memory runs short.
 pub fn audit(alloc: Global, run: &AuditedRun<'_>) -> Result<Audit, AllocError>
-    requires { MayBeAudited run.now }
+    requires sound { IsSound (program_of run.now) }
+    requires accepted { IsAcceptedProgram (program_of run.now) }
+    requires part { IsWritable run.now.part.now }
+    requires views { (i : NumberValue) → IsView (views_of run.now i) }
     ensures found { IfOk result (IsFoundAnswer (program_of run.now) run.now.part.now (lengths_of run.now.lengths) run.now.budget (views_of run.now)) }
     ensures right { IfOk result (IsAudit (program_of run.now) run.now.part.now (lengths_of run.now.lengths) run.now.budget (views_of run.now)) }
 {
