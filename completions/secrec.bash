@@ -20,7 +20,7 @@ _secrec() {
   local current=${COMP_WORDS[COMP_CWORD]} before=$((COMP_CWORD - 1)) options used=' ' left='' option program='' miner=none list='' code='' k
   COMPREPLY=()
   if [ "$COMP_CWORD" -eq 1 ]; then
-    _secrec_words 'check compile eval need run deal map simulate twin load gather join miner trio audit help'
+    _secrec_words 'check compile eval need run deal map simulate twin load gather join miner trio upgrade audit help'
     return
   fi
   case ${COMP_WORDS[1]} in
@@ -37,8 +37,9 @@ _secrec() {
     join) options='' list=yes ;;
     miner) options='--me --share --tape --port --out --budget --wait --log' code=yes ;;
     trio) options='--input --tape --to --port --budget' ;;
+    upgrade) options='--code' code=yes ;;
     audit) options='--public --len0 --len1 --len2 --len3 --budget --record' list=views ;;
-    help) [ "$COMP_CWORD" -ne 2 ] || _secrec_words 'check compile eval need run deal map simulate twin load gather join miner trio audit'; return ;;
+    help) [ "$COMP_CWORD" -ne 2 ] || _secrec_words 'check compile eval need run deal map simulate twin load gather join miner trio upgrade audit'; return ;;
     *) return ;;
   esac
   # (`--name=value` comes in three words)

@@ -14,6 +14,7 @@ complete -c secrec -n __fish_use_subcommand -a gather -d 'Put the share files of
 complete -c secrec -n __fish_use_subcommand -a join -d 'Put the texts of three miners together'
 complete -c secrec -n __fish_use_subcommand -a miner -d 'Run the part of one miner, with two peers'
 complete -c secrec -n __fish_use_subcommand -a trio -d 'Run a program by three miners that are programs of their own'
+complete -c secrec -n __fish_use_subcommand -a upgrade -d 'Write code of the first version by the rules of the second'
 complete -c secrec -n __fish_use_subcommand -a audit -d 'Say whether three views are of one run'
 complete -c secrec -n __fish_use_subcommand -a help -d 'Show the words of a command'
 complete -c secrec -n '__fish_seen_subcommand_from map simulate twin' -a '1 2 3' -d 'Miner'
@@ -34,7 +35,7 @@ complete -c secrec -n '__fish_seen_subcommand_from map simulate' -l opened -r -F
 complete -c secrec -n '__fish_seen_subcommand_from simulate' -l view -r -F -d 'Where the view goes'
 complete -c secrec -n '__fish_seen_subcommand_from twin' -l second -r -k -a '(__fish_complete_suffix .json)' -d 'The other input file'
 complete -c secrec -n '__fish_seen_subcommand_from load' -l number -x -d 'What the load is made of'
-complete -c secrec -n '__fish_seen_subcommand_from compile' -l code -r -F -d 'Where the code goes'
+complete -c secrec -n '__fish_seen_subcommand_from compile upgrade' -l code -r -F -d 'Where the code goes'
 complete -c secrec -n '__fish_seen_subcommand_from gather miner' -l me -x -a '1 2 3' -d 'The miner'
 complete -c secrec -n '__fish_seen_subcommand_from miner' -l share -r -F -d 'The share file of the miner'
 complete -c secrec -n '__fish_seen_subcommand_from miner' -l wait -x -d 'For how many seconds it waits for peers'
@@ -45,4 +46,4 @@ complete -c secrec -n '__fish_seen_subcommand_from audit' -l len0 -x -d 'The wor
 complete -c secrec -n '__fish_seen_subcommand_from audit' -l len1 -x -d 'The words of the tape of miner 1'
 complete -c secrec -n '__fish_seen_subcommand_from audit' -l len2 -x -d 'The words of the tape of miner 2'
 complete -c secrec -n '__fish_seen_subcommand_from audit' -l len3 -x -d 'The words of the tape of miner 3'
-complete -c secrec -n '__fish_seen_subcommand_from gather join miner audit' -F
+complete -c secrec -n '__fish_seen_subcommand_from gather join miner upgrade audit' -F

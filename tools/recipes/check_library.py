@@ -100,7 +100,7 @@ class Counter:
 
 
 def value(formula: str, n: int) -> int:
-    return eval(formula.strip().strip("`"), {"__builtins__": {}}, {"n": n, "k": n.bit_length() - 1})
+    return eval(formula.strip().strip("`"), {"__builtins__": {}}, {"n": n, "k": n.bit_length() - 1, "w": -(-n // 64)})
 
 
 def cost_rows(text: str) -> list[list[str]]:

@@ -51,17 +51,17 @@ def settings_of(words) -> tuple[tuple[float, float], ...]:
 
 @dataclass
 class Share:
-    """What a part of the gates takes: how many they are, their elements, messages, words of miner 1, and delays."""
+    """What a part of the gates takes: how many they are, the words of their values, messages, words that miner 1 draws, and delays."""
 
     gates: int = 0
-    elements: int = 0
+    size: int = 0
     messages: int = 0
     words: int = 0
     delays: int = 0
 
     def add(self, gate, messages: int, delays: int):
         self.gates += 1
-        self.elements += gate.size
+        self.size += gate.size
         self.messages += messages
         self.words += gate.drawn()[0]
         self.delays += delays
@@ -129,7 +129,7 @@ def cost_of(text: bytes, inputs, budget: int) -> Cost:
     for gate, maker in zip(report.gates, evaluation.makers):
         if gate.kind not in gates.INTERACTIVE:
             local.gates += 1
-            local.elements += gate.size
+            local.size += gate.size
             continue
         before = play.end()
         play.gate(gate)
@@ -147,8 +147,8 @@ def columns(rows: list[list[str]]) -> list[str]:
 
 def kind_rows(cost: Cost) -> list[list[str]]:
     names = [*KINDS.values(), LOCAL]
-    rows = [[name, *map(str, (one.gates, one.elements, one.messages))] for name in names if (one := cost.kinds.get(name))]
-    return [["gates", "number", "elements", "messages"], *rows]
+    rows = [[name, *map(str, (one.gates, one.size, one.messages))] for name in names if (one := cost.kinds.get(name))]
+    return [["gates", "number", "words", "messages"], *rows]
 
 
 def link_rows(cost: Cost) -> list[list[str]]:

@@ -8,12 +8,11 @@ import tempfile
 from collections import Counter
 
 from .program import TOP, call
-from .reading import entries
+from .reading import clear, entries
 from .tapes import open_private
 
 # Made-up numbers are below this, so that sums and products of many don't wrap.
 NUMBER_END = 100
-WORDS_OF_AN_ELEMENT = 2
 # Ends before the end of the program, to which made-up values may lead.
 EARLY = (1, 7, 8)
 
@@ -55,8 +54,8 @@ def made_up(inputs: list) -> str:
 
 
 def dealer_words(inputs: list) -> int:
-    """How many words dealing takes: two for each element of a private input."""
-    return WORDS_OF_AN_ELEMENT * sum(len(one.words) for one in inputs if one.type.private)
+    """How many words dealing takes: two for each number of a private input, and two for 64 truth values."""
+    return clear.dealer_need(inputs)
 
 
 def job_words(words, given: str) -> list[str]:

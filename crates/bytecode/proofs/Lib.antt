@@ -1,6 +1,6 @@
 pub mod Layouts
 pub mod Instructions
-pub mod Codes
+pub mod CodeLaws
 pub mod Little
 pub mod Encoded
 pub mod Reading

@@ -124,6 +124,9 @@ module _ (o : Offered) (d : Dealt) (c : List Function) (tapes : Tapes) (words : 
     abbrev v : Value
     v = p.machine.registers r
 
+    abbrev own_words : List ℕ
+    own_words = gate_words v.shape.element v.words
+
     module _ (before : List Gate) (number : ℕ) (gates : q.stage.gates ≡ p.stage.gates ++ (before ++ Result (ring_for v.shape.element) number ∷ [])) where
       abbrev new : List Gate
       new = before ++ Result (ring_for v.shape.element) number ∷ []
@@ -132,9 +135,6 @@ module _ (o : Offered) (d : Dealt) (c : List Function) (tapes : Tapes) (words : 
       whole_fit =
           FitFrom-append d.inputs values 0 p.stage.gates new
           (subst (FitFrom d.inputs values 0) gates (computed o d tapes words long along.stays.kinds q.stage along.stays.stage along.stays.tapes).fit)
-
-      abbrev own_words : List ℕ
-      own_words = gate_words v.shape.element v.words
 
       named_words : (k : ℕ) → v.secrecy ≡ Private (Some k) → value values k ≡ own_words
       named_words k e =

@@ -8,6 +8,7 @@ ghost use Rattle.code_runs.specs.ClientTold as C;
 
 use bit_words::unpacked;
 use program_trees::DataType;
+use proto_core::{AddRing, ShareRing, XorRing};
 use std::alloc::{AllocError, Global};
 
 /// Three shares of a word added up: as numbers, or bit by bit for words of truth values.
@@ -15,8 +16,8 @@ fn word_added_up(element: DataType, x: u64, y: u64, z: u64) -> u64
     ensures { result ≡ sum_of (ring_of (ring_for element)) x y z }
 {
     match element {
-        DataType::Uint64 => x.wrapping_add(y).wrapping_add(z),
-        DataType::Bool => x ^ y ^ z,
+        DataType::Uint64 => AddRing::add(AddRing::add(x, y), z),
+        DataType::Bool => XorRing::add(XorRing::add(x, y), z),
     }
 }
 

@@ -1,6 +1,6 @@
 -- Whole runs of code, by the first version and by today's.
 use Rattle.std.proofs.Common.{◌≡◌, ◌⊎◌, inl, inr, ℕ, zero, suc, ◌-◌, List, Option, Some, None, Ok, Err, Bool, true, false, cond, refl, sym, ap, ◌∙◌, subst}
-use Rattle.std.specs.Prelude.{slice_get, nat_le}
+use Rattle.std.specs.Prelude.{slice_get, nat_le, IfOk, Result}
 use Rattle.language_model.specs.Effects.{Words, World, Stage, RunStop, Run}
 use Rattle.language_model.specs.Reports.{Report, beginning, dealing, not_dealt}
 use Rattle.language_model.specs.Tapes.{lacks_words}
@@ -103,8 +103,13 @@ module _ (w : World) (c : List Function) where
         → MeanAlike (mean_v1_in w c budget answers) (mean_in w c budget answers)
     same_code = either (nat_le (dealing_v1 w) w.dealer) (nat_le (dealing w) w.dealer)
 
-pub keeps_meaning : (old new : RawCode) → new ≡ old → KeepsMeaning (settled old) (settled new)
-keeps_meaning old new e = subst (λ c. KeepsMeaning (settled old) (settled c)) (sym e) (same_code_of (settled old))
+pub keeps_meaning : (old today : RawCode) → today ≡ old → KeepsMeaning (settled old) (settled today)
+keeps_meaning old today e = subst (λ c. KeepsMeaning (settled old) (settled c)) (sym e) (same_code_of (settled old))
   where
     same_code_of : (c : List Function) → KeepsMeaning c c
     same_code_of c w budget answers = same_code w c budget answers
+
+pub copies_keep_meaning : {E : Type 0} (own seen : RawCode) → own ≡ seen → (copied : Result RawCode E) → IfOk copied (λ copy. copy ≡ own)
+    → IfOk copied (λ copy. KeepsMeaning (settled seen) (settled copy))
+copies_keep_meaning own seen same (Ok copy) e = keeps_meaning seen copy (e ∙ same)
+copies_keep_meaning own seen same (Err e) h = tt

@@ -14,11 +14,11 @@ use Rattle.code_model.specs.Machine.{exec}
 use Rattle.code_model.specs.Meaning.{mean}
 use Rattle.first_version.specs.Meaning.{exec_v1, mean_v1}
 
-abbrev truths : Bool → Kind
+abbrev pub truths : Bool → Kind
 truths secret = record { secret = secret; element = types.Bool; array = true }
 
 -- `p bool[[1]] a = argument("a"); bool[[1]] c = declassify(a & a); publish("c", c);`
-abbrev both_opened : List Function
+abbrev pub both_opened : List Function
 both_opened = record {
   parameters = 0;
   gives = None;
@@ -28,18 +28,18 @@ both_opened = record {
 } ∷ []
 
 -- 65 times true, with tapes of so many words
-abbrev all_true : (dealer miners : ℕ) → Offered
+abbrev pub all_true : (dealer miners : ℕ) → Offered
 all_true dealer miners = record {
   dealer = dealer;
   lengths = words_each miners;
   inputs = record { text = codes "a"; secret = true; shape = kind_shape (truths true); words = replicate 65 1 } ∷ [];
 }
 
-record Needs (r : Report) (stop : RunStop) (dealt : ℕ) (drawn : Words) (cost : ℕ) : Type 0 where
-  stops : r.stop ≡ stop
-  deals : r.dealt ≡ dealt
-  draws : r.drawn ≡ drawn
-  costs : r.cost ≡ cost
+pub record Needs (r : Report) (stop : RunStop) (dealt : ℕ) (drawn : Words) (cost : ℕ) : Type 0 where
+  pub stops : r.stop ≡ stop
+  pub deals : r.dealt ≡ dealt
+  pub draws : r.drawn ≡ drawn
+  pub costs : r.cost ≡ cost
 
 -- a word for each truth value then, and one for 64 of them now; the cost is that of all elements
 pub needed_then : Needs (mean_v1 both_opened (all_true 130 260) 1000) (Ended Done) 130 (words_each 260) 390

@@ -173,7 +173,7 @@ are_texts i end (published text form words range more) named paid fits =
     ((named.0, elements_are (type_of form.element) words range), are_texts i end more named.1 paid fits)
 are_texts i end (handed text form words shares range are more) named paid fits =
     let held = held_so form.element words (shares i) (are.sizes i) (paid_number form words end paid.0 fits) in
-    ((named.0, (are_words (shares i) (are.words i), held)), are_texts i end more named.1 paid.1 fits)
+    ((named.0, are_words (shares i) (are.words i), held), are_texts i end more named.1 paid.1 fits)
 
 pub texts_of_a_run_are_its_text : TextsOfARunAreItsText
 texts_of_a_run_are_its_text events notices end tells named paid fits =

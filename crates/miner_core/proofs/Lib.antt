@@ -6,7 +6,7 @@ pub mod Forgetting
 pub mod Begins
 pub mod Gates
 pub mod Notices
-pub mod Opened
+pub mod OpenedElements
 pub mod Further
 pub mod Stories
 pub mod Stops

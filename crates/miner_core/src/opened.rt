@@ -12,7 +12,7 @@ use verified_code::Step;
 
 /// The elements of a value of `n` of which the gates have opened these words: of truth values a word for each bit. Where nothing was opened there
 /// are none.
-#[tactic(auto, using(crate::proofs::Opened::none_opened, crate::proofs::Opened::some_opened))]
+#[tactic(auto, using(crate::proofs::OpenedElements::none_opened, crate::proofs::OpenedElements::some_opened))]
 fn elements_if_opened(
     alloc: Global,
     element: DataType,

@@ -1,5 +1,5 @@
 -- Told the words of a value that was opened, a step has as many elements as the value.
-use Rattle.std.proofs.Common.{◌≡◌, ℕ, suc, ◌+◌, ◌/◌, List, [], ◌∷◌, Option, Some, None, refl, sym, ◌∙◌, ap, subst, arith}
+use Rattle.std.proofs.Common.{◌≡◌, ℕ, List, [], ◌∷◌, Option, Some, sym, subst, arith}
 use Rattle.std.specs.Prelude.{length}
 use Rattle.proto_core.specs.Lists.{AreWords}
 use Rattle.protocol_model.proofs.Sizes.{past_end}

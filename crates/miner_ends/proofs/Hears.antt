@@ -9,7 +9,6 @@ use Rattle.sc_text.specs.declared.end.TrapKind.{TrapKind}
 use Rattle.sc_text.specs.declared.end.TapeOwner.{TapeOwner}
 use Rattle.sc_text.specs.declared.end.TapeOwner.TheVariants.{Miner1, Miner2, Miner3}
 use Rattle.sc_text.specs.declared.event.Event.{Event}
-use Rattle.sc_text.specs.declared.event.Event.TheVariants as event
 use Rattle.gates.specs.declared.gate.Gate.{Gate}
 use Rattle.program_trees.specs.declared.kinds.Shape.{Shape}
 use Rattle.language_model.specs.Effects.{Words, World, Stage, RunStop, Ended, Short, Run, Effect, ◌>>=◌, carry, done, end, charge, test, fits, draw}

@@ -405,8 +405,8 @@ module _
               (Wants (place None p.machine h)) refl (λ x gone. by x gone.0 gone.1)
             where
               by : (x : GatesEnd) → IsGone i dealt opening_gates values tape x → LastWords x → EndsWell (behind (Wants (place None p.machine h)) x)
-              by Stuck gone words = absurd gone
-              by (Whole all rest) gone words = told_ends all rest gone words (one p (answers_told (last_of all) (next_step p.machine) p.machine)) refl
+              by Stuck gone whole = absurd gone
+              by (Whole all rest) gone whole = told_ends all rest gone whole (one p (answers_told (last_of all) (next_step p.machine) p.machine)) refl
 
         step_ends : (r : Run Machine) → one p [] ≡ r
             → EndsWell (then_do (own_gates i dealt (gates_between p (place_of (went p.machine r))) values tape) (behind (went p.machine r)))

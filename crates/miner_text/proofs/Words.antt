@@ -104,7 +104,7 @@ numbers_fit Uint64 count ns held h = h
 numbers_fit datatype.Bool count ns held h = (held.0, h)
 
 numbers_are_words : (s : ResultShare) → IsShare s → Words (numbers_told s)
-numbers_are_words s h = numbers_fit s.element s.count s.words h.1.1 h.1.0
+numbers_are_words s h = numbers_fit s.element s.count s.words h.2 h.1
 
 pub line_plain : (l : MinerLine) → IsLine l → NoGaps (line_words l)
 line_plain (lines.Told (Open es)) h = view_line_plain (Opened es) h
@@ -166,7 +166,7 @@ share_back s h =
     ap (option_and_then (λ t. option_and_then (λ n. option_and_then (share_of n t) numbers) (name_in s.name))) (type_back s.element)
     ∙ ap (option_and_then (λ n. option_and_then (share_of n s.element) numbers)) (name_back s.name h.0)
     ∙ ap (option_and_then (share_of s.name s.element)) (words_back (numbers_told s) (numbers_are_words s h))
-    ∙ numbers_back s.name s.element s.count s.words h.1.1
+    ∙ numbers_back s.name s.element s.count s.words h.2
 
 pub line_back : (l : MinerLine) → IsLine l → line_in (line_words l) ≡ Some l
 line_back (lines.Told (Open es)) h = ap (option_map (λ xs. lines.Told (Open xs))) (elements_back es h)
@@ -265,9 +265,9 @@ share_read (w ∷ v ∷ vs) s h =
         ShareRead (w ∷ v ∷ vs) s
     together t name ns is a b made = (
       ap (λ x. codes "share" ∷ x ∷ v ∷ vs) (a.0 ∙ sym made.names)
-      ∙ ap (λ x. codes "share" ∷ s.name ∷ x ∷ vs) (is ∙ ap type_word (sym made.types))
-      ∙ ap (λ xs. codes "share" ∷ s.name ∷ type_word s.element ∷ xs) (b ∙ ap (map decimal) (sym made.numbers)),
-      (subst (λ n. is_name n ≡ true) (sym made.names) a.1, (made.words, made.held)),
+          ∙ ap (λ x. codes "share" ∷ s.name ∷ x ∷ vs) (is ∙ ap type_word (sym made.types))
+          ∙ ap (λ xs. codes "share" ∷ s.name ∷ type_word s.element ∷ xs) (b ∙ ap (map decimal) (sym made.numbers)),
+      (subst (λ n. is_name n ≡ true) (sym made.names) a.1, made.words, made.held),
     )
 
 end_read : (ws : List (List ℕ)) (end : End) → end_in ws ≡ Some end → LineRead (codes "end" ∷ ws) (lines.Ended end)

@@ -3,7 +3,7 @@ pub mod Spelled
 pub mod Accepted
 pub mod Accepting
 pub mod CodeFaults
-pub mod Codes
+pub mod CodeLaws
 pub mod Deals
 pub mod EvalRefusals
 pub mod Evals

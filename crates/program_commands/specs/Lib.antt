@@ -1,6 +1,6 @@
 pub mod PlacedText
 pub mod Check
-pub mod Codes
+pub mod CodeLaws
 pub mod Compile
 pub mod Deal
 pub mod Ends

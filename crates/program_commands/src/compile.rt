@@ -15,7 +15,7 @@ use outside::Files;
 use program_run::compile_program;
 use std::alloc::{AllocError, Global};
 
-#[tactic(auto, using(crate::proofs::Codes::functions_counted))]
+#[tactic(auto, using(crate::proofs::CodeLaws::functions_counted))]
 fn functions(code: &Code) -> u64
     ensures { result ≡ length (raw_code code.now).functions }
 {

@@ -1,5 +1,5 @@
 pub mod Accepted
-pub mod Codes
+pub mod CodeLaws
 pub mod Dealt
 pub mod Miners
 pub mod Reports

@@ -1,4 +1,4 @@
-use Rattle.bytecode.proofs.Codes.{are_bytes, read_is_written}
+use Rattle.bytecode.proofs.CodeLaws.{are_bytes, read_is_written}
 use Rattle.bytecode.proofs.laws.read_code_is_written.Goals as goal
 
 pub returns : goal.returns

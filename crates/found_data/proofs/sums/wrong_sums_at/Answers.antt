@@ -1,4 +1,4 @@
-use Rattle.std.proofs.Common.{true, List, ℕ, sym, ◌∙◌, ap, drop, arith}
+use Rattle.std.proofs.Common.{List, ℕ, sym, ◌∙◌, ap, drop, arith}
 use Rattle.found_inputs.specs.Found.{words_first}
 use Rattle.found_inputs.specs.Sums.{are_right}
 use Rattle.found_data.proofs.Walks.{right-end, sums_more}

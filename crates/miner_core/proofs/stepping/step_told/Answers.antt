@@ -3,7 +3,7 @@ use Rattle.code_machine.specs.Views.{machine_seen}
 use Rattle.miner_core.specs.TurnViews.{answers_of, place_in}
 use Rattle.miner_core.specs.Views.{task_world, task_code}
 use Rattle.miner_core.proofs.Begins.{comes_next}
-use Rattle.miner_core.proofs.Opened.{told_if_ok}
+use Rattle.miner_core.proofs.OpenedElements.{told_if_ok}
 use Rattle.miner_core.proofs.stepping.step_told.Goals as goal
 
 pub returns-clause-step : goal.returns-clause-step
