@@ -1,0 +1,3 @@
+pub mod Sightings
+pub mod Given
+pub mod Alike
