@@ -1,8 +1,9 @@
 -- What two runs hand over, and that inputs which are alike to the client have twins.
 use Rattle.std.proofs.Common.{◌≡◌, ℕ, ◌+◌, ◌<◌, ◌≤◌, List, [], ◌∷◌, ◌++◌, length, map, take, get_or, refl, sym, ◌∙◌, ap, subst, inl, inr, arith, ◌⊎◌, All}
 use Rattle.std.proofs.Common.{append_assoc, length-append}
-use Rattle.std.proofs.lemmas.List.{length-map, take_more}
+use Rattle.std.proofs.lemmas.List.{length-map, map-append, take_more}
 use Rattle.proto_core.proofs.Beginnings.{append-none}
+use Rattle.sc_text.specs.declared.elements.Element.{Element}
 use Rattle.sc_text.specs.declared.event.Event.{Event}
 use Rattle.sc_text.specs.declared.event.Event.TheVariants.{Open, Publish, Hand}
 use Rattle.program_trees.specs.TypedPrograms.{TypedProgramTree}
@@ -25,9 +26,9 @@ use Rattle.clear_eval.specs.Reports.{report_seen}
 use Rattle.tape_twin.specs.Alike.{BeginsWith, OneBegins, WordsDiffer}
 use Rattle.tape_twin.proofs.Runs.{alike-so}
 use Rattle.view_reader.specs.Opened.{element_word}
-use Rattle.client_view.specs.Views.{all_words, words_of, published_of}
+use Rattle.client_view.specs.Views.{all_words, handed_elements, words_of, published_of}
 use Rattle.client_view.specs.TapeMaps.{to_seen, from_seen, client_mapped_back, client_twinned, AreAlikeToClient}
-use Rattle.client_view.proofs.Lists.{as_long, words_append}
+use Rattle.client_view.proofs.Lists.{as_long, handed_append}
 use Rattle.client_view.proofs.Maps.{as_gates}
 use Rattle.client_runs.specs.Alike.{RefusesClientTwin}
 use Rattle.client_runs.specs.declared.twin_err.TwinErr.{TwinErr}
@@ -41,7 +42,10 @@ all_append [] ys = refl
 all_append (x ∷ xs) ys = ap (λ (ws : List ℕ). x ++ ws) (all_append xs ys) ∙ sym (append_assoc x (all_words xs) (all_words ys))
 
 pub published-append : (es fs : List Event) → published_of (es ++ fs) ≡ published_of es ++ published_of fs
-published-append es fs = ap all_words (words_append es fs) ∙ all_append (words_of es) (words_of fs)
+published-append es fs =
+    ap (λ (xs : List (List Element)). all_words (map (map element_word) xs)) (handed_append es fs)
+    ∙ ap all_words (map-append (map element_word) (handed_elements es) (handed_elements fs))
+    ∙ all_append (words_of es) (words_of fs)
 
 pub published-more :
     (events : List Event) (published more : List ℕ) (k : ℕ) (d e : Event) → k < length events → e ≡ get_or events k d →

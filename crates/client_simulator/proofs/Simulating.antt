@@ -20,7 +20,7 @@ use Rattle.view_model.specs.TapeMaps.{miners_of}
 use Rattle.view_simulator.specs.Making.{CanBeMade}
 use Rattle.handed_shares.specs.Handed.{all_of}
 use Rattle.client_model.specs.Given.{Given, made_from}
-use Rattle.client_view.specs.Views.{ClientView, sightings, told_events, words_of, made_with, made_view}
+use Rattle.client_view.specs.Views.{ClientView, sightings, told_events, gate_words_of, made_with, made_view}
 use Rattle.client_simulator.specs.declared.simulate_err.SimulateErr.{SimulateErr}
 use Rattle.client_simulator.specs.declared.simulate_err.SimulateErr.TheVariants.{Memory}
 use Rattle.client_simulator.specs.declared.simulate_err.SimulateErr.TheVariants as error
@@ -52,7 +52,7 @@ module _ (part : List PublicEntry) (gates : List Gate) (s : FourTapes) (can : Ca
 pub view-made :
     (part : List PublicEntry) (published : List ℕ) (s : FourTapes) (report : told.Report) (events : List Event) (given : List Given)
     (view : ClientView) → Some events ≡ told_events (report_seen report).events published →
-    given ≡ made_from all_of 0 (hidden_sizes part) [] (report_seen report).gates (words_of events) (miners_of s) →
+    given ≡ made_from all_of 0 (hidden_sizes part) [] (report_seen report).gates (gate_words_of events) (miners_of s) →
     view ≡ record { sightings = sightings events given; end = report.end } → made_view part published s (report_seen report) ≡ Some view
 view-made part published s report events given view told made is =
     ap (made_with part s (report_seen report)) (sym told)

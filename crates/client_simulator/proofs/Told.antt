@@ -1,14 +1,18 @@
 -- The events that are told, one after another.
-use Rattle.std.proofs.Common.{◌≡◌, ℕ, ◌+◌, ◌<◌, ◌≤◌, Bool, true, false, if◌then◌else◌, List, [], ◌∷◌, ◌++◌, length, take, drop, get_or, refl, sym, ◌∙◌, ap, arith}
+use Rattle.std.proofs.Common.{◌≡◌, ℕ, ◌+◌, ◌<◌, ◌≤◌, Bool, true, false, if◌then◌else◌, List, [], ◌∷◌, ◌++◌, length, map, take, drop, get_or}
+use Rattle.std.proofs.Common.{refl, sym, ◌∙◌, ap, arith}
 use Rattle.std.specs.Prelude.{nat_le, Option, Some, None}
-use Rattle.std.proofs.lemmas.List.{append_assoc, drop_more, take_more}
+use Rattle.std.proofs.lemmas.List.{append_assoc, drop_more, map-append, take_more}
 use Rattle.proto_core.proofs.Beginnings.{append-none}
 use Rattle.gates.specs.Clear.{Values}
 use Rattle.sc_text.specs.declared.elements.Element.{Element}
+use Rattle.sc_text.specs.declared.elements.Element.TheVariants.{Word, Truth}
 use Rattle.sc_text.specs.declared.event.Event.{Event}
 use Rattle.sc_text.specs.declared.event.Event.TheVariants.{Open, Publish, Hand}
-use Rattle.client_view.specs.Views.{and_then, told_as, told_elements, told_events, words_of}
-use Rattle.client_view.proofs.Lists.{words_append}
+use Rattle.language_model.specs.Learned.{element_word, elements_words}
+use Rattle.view_reader.specs.Opened as reader
+use Rattle.client_view.specs.Views.{and_then, told_as, told_elements, told_events, handed_elements, gate_words_of}
+use Rattle.client_view.proofs.Lists.{handed_append}
 use Rattle.client_simulator.specs.inner.Steps.{told_at, left_after}
 
 -- events that are told, and those after them
@@ -101,11 +105,24 @@ elements-all elements words told k none so =
 
 -- ---- WORDS
 
+-- an element's word is the same to the reader of files and to the language
+same_word : (e : Element) → reader.element_word e ≡ element_word e
+same_word (Word x) = refl
+same_word (Truth true) = refl
+same_word (Truth false) = refl
+
+pub same-words : (es : List Element) → map reader.element_word es ≡ map element_word es
+same-words [] = refl
+same-words (e ∷ es) = ap (λ w. w ∷ map reader.element_word es) (same_word e) ∙ ap (λ ws. element_word e ∷ ws) (same-words es)
+
+words_append : (es fs : List Event) → gate_words_of (es ++ fs) ≡ gate_words_of es ++ gate_words_of fs
+words_append es fs = ap (map elements_words) (handed_append es fs) ∙ map-append elements_words (handed_elements es) (handed_elements fs)
+
 pub words-more :
     (events : List Event) (words more : Values) (k : ℕ) (d e : Event) → k < length events → e ≡ get_or events k d →
-    words ≡ words_of (take k events) → more ≡ words ++ words_of (e ∷ []) → more ≡ words_of (take (k + 1) events)
+    words ≡ gate_words_of (take k events) → more ≡ words ++ gate_words_of (e ∷ []) → more ≡ gate_words_of (take (k + 1) events)
 words-more events words more k d e lt is so new =
     new
-    ∙ ap (λ (ws : Values). ws ++ words_of (e ∷ [])) so
+    ∙ ap (λ (ws : Values). ws ++ gate_words_of (e ∷ [])) so
     ∙ sym (words_append (take k events) (e ∷ []))
-    ∙ ap words_of (ap (λ (x : Event). take k events ++ x ∷ []) is ∙ sym (take_more events k d lt))
+    ∙ ap gate_words_of (ap (λ (x : Event). take k events ++ x ∷ []) is ∙ sym (take_more events k d lt))

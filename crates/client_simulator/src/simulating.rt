@@ -10,13 +10,13 @@ ghost use Rattle.view_model.specs.TapeMaps.{miners_of};
 ghost use Rattle.program_views.specs.Views.{lengths_of, told_run};
 ghost use Rattle.handed_shares.specs.Handed.{all_of};
 ghost use Rattle.client_model.specs.Given.{made_from};
-ghost use Rattle.client_view.specs.Views.{words_of};
+ghost use Rattle.client_view.specs.Views.{gate_words_of};
 ghost use Rattle.view_simulator.specs.Making.{CanBeMade};
 ghost use Rattle.client_simulator.specs.Simulating.{IsClientSimulation, IsMadeOf, IsShortage};
 
 use crate::making::made_from;
 use crate::simulate_err::SimulateErr;
-use crate::told::{told_events, words_of};
+use crate::told::{gate_words_of, told_events};
 use crate::zeros::shared_zeros;
 use clear_eval::{BlindRun, Report, blind_run};
 use client_runs::sightings;
@@ -77,13 +77,13 @@ fn given_told(
     tapes: &Tapes,
 ) -> Result<Vec<Given>, AllocError>
     requires { CanBeMade part.now gates.now tapes.now }
-    ensures { IfOk result (λ given. given.items ≡ made_from all_of 0 (hidden_sizes part.now) [] gates.now (words_of told.now) (miners_of tapes.now)) }
+    ensures { IfOk result (λ given. given.items ≡ made_from all_of 0 (hidden_sizes part.now) [] gates.now (gate_words_of told.now) (miners_of tapes.now)) }
 {
     if gates.is_empty() {
         return Ok(Vec::new(alloc));
     }
     let dealt = shared_zeros(alloc, &hidden_sizes(alloc, part.entries())?)?;
-    let words = words_of(alloc, told)?;
+    let words = gate_words_of(alloc, told)?;
     let own = MinersTapes {
         first: tapes.miner1(),
         second: tapes.miner2(),

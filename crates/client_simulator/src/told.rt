@@ -1,11 +1,14 @@
 // The events of a run, with the words that are told.
-ghost use Rattle.std.specs.Prelude.{◌≡◌, ◌≤◌, ◌++◌, [], ◌∷◌, length, IfOk, OnOk, option_map};
-ghost use Rattle.client_view.specs.Views.{told_as, told_elements, told_events, words_of};
+ghost use Rattle.std.specs.Prelude.{◌≡◌, ◌≤◌, ◌++◌, [], ◌∷◌, length, map, IfOk, OnOk, option_map};
+ghost use Rattle.language_model.specs.Learned.{element_word, elements_words};
+ghost use Rattle.client_view.specs.Views.{told_as, told_elements, told_events, gate_words_of};
 ghost use Rattle.client_simulator.specs.inner.Steps.{told_at, left_after};
 
 use gates::{Values, Words};
+use input_share::shared_as;
 use sc_text::{Element, Elements, Event};
 use std::alloc::{AllocError, Global};
+use value_file::DataType;
 use view_reader::push_words;
 
 /// The same elements.
@@ -97,24 +100,43 @@ pub(crate) fn told_events(
     Ok(Some(told))
 }
 
-/// The words of what an event hands over, after those that are there.
+/// The elements, each as a word: a truth value is 1 or 0.
+fn element_words(alloc: Global, elements: &[Element]) -> Result<Vec<u64>, AllocError>
+    ensures { IfOk result (λ words. words.items ≡ map element_word elements.now) }
+{
+    let mut words = Vec::new(alloc);
+    push_words(&mut words, elements)?;
+    Ok(words)
+}
+
+/// The elements of a value as gates have them: numbers in a word each, truth values packed.
+fn gate_words(alloc: Global, elements: &[Element]) -> Result<Vec<u64>, AllocError>
+    ensures { IfOk result (λ words. words.items ≡ elements_words elements.now) }
+{
+    let words = element_words(alloc, elements)?;
+    match elements.first() {
+        Some(Element::Truth(_)) => shared_as(alloc, DataType::Bool, words),
+        Some(Element::Word(_)) | None => Ok(words),
+    }
+}
+
+/// The gates' words of what an event hands over, after those that are there.
 fn push_handed(alloc: Global, words: &mut Values, event: &Event) -> Result<(), AllocError>
-    ensures { OnOk result (words.new ≡ words.old ++ words_of (event.now ∷ [])) }
+    ensures { OnOk result (words.new ≡ words.old ++ gate_words_of (event.now ∷ [])) }
 {
     match event {
         Event::Open(_) | Event::Publish(_, _) => Ok(()),
         Event::Hand(_, elements) => {
-            let mut handed = Vec::new(alloc);
-            push_words(&mut handed, elements.as_slice())?;
+            let handed = gate_words(alloc, elements.as_slice())?;
             words.push(Words::new(handed))?;
             Ok(())
         }
     }
 }
 
-/// The words of what events hand over, value by value.
-pub(crate) fn words_of(alloc: Global, events: &[Event]) -> Result<Values, AllocError>
-    ensures { IfOk result (λ words. words ≡ words_of events.now) }
+/// The gates' words of what events hand over, value by value.
+pub(crate) fn gate_words_of(alloc: Global, events: &[Event]) -> Result<Values, AllocError>
+    ensures { IfOk result (λ words. words ≡ gate_words_of events.now) }
 {
     let mut words = Values::new(alloc);
     for event in events {

@@ -10,7 +10,7 @@ use Rattle.view_model.specs.Dealing.{hidden_sizes}
 use Rattle.view_model.specs.TapeMaps.{miners_of}
 use Rattle.handed_shares.specs.Handed.{all_of}
 use Rattle.client_model.specs.Given.{made_from}
-use Rattle.client_view.specs.Views.{words_of}
+use Rattle.client_view.specs.Views.{gate_words_of}
 use Rattle.tape_twin.proofs.Passing.{if-ok}
 use Rattle.tape_twin.proofs.Whole.{own-tapes}
 use Rattle.client_simulator.proofs.Simulating.{can-run}
@@ -35,11 +35,11 @@ returns c =
     let sized : sizes_of (dealt One) ≡ hidden_sizes part = c.in_ok-dealt.ensures One ∙ c.in_ok-hidden_sizes.ensures in
     if-ok
     (λ made. made.items ≡ made_from all_of 0 (sizes_of (dealt One)) [] gates c.in_ok-words.words _)
-    (λ made. made.items ≡ made_from all_of 0 (hidden_sizes part) [] gates (words_of c.args.told.now) (miners_of s))
+    (λ made. made.items ≡ made_from all_of 0 (hidden_sizes part) [] gates (gate_words_of c.args.told.now) (miners_of s))
     (λ made is.
     is
     ∙ ap (λ (ds : List ℕ). made_from all_of 0 ds [] gates c.in_ok-words.words _) sized
     ∙ ap (λ (ws : Values). made_from all_of 0 (hidden_sizes part) [] gates ws _) c.in_ok-words.ensures
-    ∙ ap (λ (ts : Tapes). made_from all_of 0 (hidden_sizes part) [] gates (words_of c.args.told.now) ts)
+    ∙ ap (λ (ts : Tapes). made_from all_of 0 (hidden_sizes part) [] gates (gate_words_of c.args.told.now) ts)
     (sym (own-tapes s _ _ _ c.miner1.ensures c.miner2.ensures c.miner3.ensures)))
     c.made_from.result c.made_from.ensures

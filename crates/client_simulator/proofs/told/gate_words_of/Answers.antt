@@ -1,5 +1,5 @@
 use Rattle.client_simulator.proofs.Told.{words-more}
-use Rattle.client_simulator.proofs.told.words_of.Goals as goal
+use Rattle.client_simulator.proofs.told.gate_words_of.Goals as goal
 
 pub loop-event-preserved : goal.loop-event-preserved
 loop-event-preserved c =

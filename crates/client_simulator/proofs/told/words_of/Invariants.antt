@@ -1,6 +1,0 @@
-use Rattle.std.proofs.Common.{◌≡◌, take}
-use Rattle.client_view.specs.Views.{words_of}
-use Rattle.client_simulator.proofs.told.words_of.Given as goal
-
-abbrev pub invariant-loop-event : goal.invariant-loop-event
-invariant-loop-event l = l.words ≡ words_of (take l.event-index l.events)
