@@ -37,18 +37,10 @@ impl From<AllocError> for BlindErr {
 }
 
 /// The run of one who is told what is opened: its report, or where an opened value wanted more answers than were left what it told before.
+#[derive(Drop)]
 pub enum BlindRun {
     Ended(Report),
     Short(Vec<Event>),
-}
-
-// Written out, so that an early exit calls this once.
-impl Drop for BlindRun {
-    fn drop(self) {
-        match self {
-            BlindRun::Ended(_) | BlindRun::Short(_) => {}
-        }
-    }
 }
 
 /// The run of one who knows the public part of the inputs alone, and is told what is opened, as far as the answers last: zeros stand for the

@@ -10,7 +10,7 @@ use Rattle.tape_twin.proofs.FirstDifferences.{alike_have_none, none_are_alike as
 use Rattle.client_view.specs.Views.{published_of}
 use Rattle.client_view.specs.TapeMaps.{AreAlikeToClient}
 use Rattle.client_runs.specs.Alike.{PublishedDiffer}
-use Rattle.client_runs.proofs.Alike.{alike-to-client}
+use Rattle.client_runs.proofs.AlikeRuns.{alike-to-client}
 use Rattle.client_commands.specs.Difference.{ClientDifference, seen_by_all, at_element, handed_at, client_difference}
 
 abbrev beside : Option Difference → Option Difference → Option ClientDifference

@@ -1,3 +1,3 @@
-pub mod Sightings
-pub mod Given
-pub mod Alike
+pub mod SightingSteps
+pub mod GivenShares
+pub mod AlikeRuns

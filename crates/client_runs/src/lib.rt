@@ -4,14 +4,14 @@
 mod alike;
 mod given;
 mod maps;
-mod sightings;
+mod seeing;
 mod twin_err;
 mod twinning;
 mod viewing;
 
 pub use alike::published_of;
 pub use maps::{MappedRun, from_sim, map_run, to_sim};
-pub use sightings::sightings;
+pub use seeing::sightings;
 pub use tape_twin::Both;
 pub use twin_err::TwinErr;
 pub use twinning::twin;

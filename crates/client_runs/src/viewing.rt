@@ -7,7 +7,7 @@ ghost use Rattle.program_views.specs.Accepted.{IsAcceptedProgram};
 ghost use Rattle.client_view.specs.Views.{client_view_of};
 
 use crate::given::given_in;
-use crate::sightings::sightings;
+use crate::seeing::sightings;
 use client_text::ClientView;
 use program_trees::TypedProgram;
 use std::alloc::{AllocError, Global};

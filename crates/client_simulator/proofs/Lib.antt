@@ -1,3 +1,3 @@
-pub mod Told
-pub mod Making
-pub mod Simulating
+pub mod ToldEvents
+pub mod MakingSteps
+pub mod Answered

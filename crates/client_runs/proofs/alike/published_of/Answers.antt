@@ -1,4 +1,4 @@
-use Rattle.client_runs.proofs.Alike.{published-more}
+use Rattle.client_runs.proofs.AlikeRuns.{published-more}
 use Rattle.client_runs.proofs.alike.published_of.Goals as goal
 
 pub loop-event-preserved : goal.loop-event-preserved

@@ -4,7 +4,7 @@ use Rattle.gates.specs.Counts.{made_by}
 use Rattle.gates.specs.declared.gate.Gate.{Gate}
 use Rattle.shared_gates.proofs.GatesBehind.{next-gate}
 use Rattle.joint_run.specs.Three.{values_of}
-use Rattle.client_runs.proofs.Given.{given-more, given-all, made-few}
+use Rattle.client_runs.proofs.GivenShares.{given-more, given-all, made-few}
 use Rattle.client_runs.proofs.given.given_from.Goals as goal
 
 pub loop-place-preserved : goal.loop-place-preserved

@@ -16,7 +16,7 @@ use Rattle.tape_twin.proofs.Whole.{some-says, none-says, sizes-are, can-run, own
 use Rattle.view_model.specs.Dealing.{dealt_to, private_sizes}
 use Rattle.view_model.specs.TapeMaps.{miners_of}
 use Rattle.client_view.specs.Views.{given_in}
-use Rattle.client_runs.proofs.Given.{memory-alone, shares-are}
+use Rattle.client_runs.proofs.GivenShares.{memory-alone, shares-are}
 use Rattle.client_runs.proofs.given.given_in.Goals as goal
 
 pub returns-in_default : goal.returns-in_default

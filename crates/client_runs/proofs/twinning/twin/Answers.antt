@@ -12,7 +12,7 @@ use Rattle.program_views.specs.Views.{lengths_of}
 use Rattle.tape_twin.proofs.Runs.{runs-on-same}
 use Rattle.tape_twin.proofs.Whole.{none-says}
 use Rattle.client_view.specs.TapeMaps.{to_seen, from_seen}
-use Rattle.client_runs.proofs.Alike.{kept-so, reports-agree, twin-is}
+use Rattle.client_runs.proofs.AlikeRuns.{kept-so, reports-agree, twin-is}
 use Rattle.client_runs.proofs.twinning.twin.Goals as goal
 
 pub returns-clause-alike : goal.returns-clause-alike

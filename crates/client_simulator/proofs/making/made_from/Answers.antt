@@ -7,8 +7,8 @@ use Rattle.joint_run.specs.States.{state_of}
 use Rattle.joint_run.specs.RunState.{begun}
 use Rattle.joint_run.proofs.InSteps.{same_state}
 use Rattle.joint_run.proofs.GateLists.{none-through, same-sizes, next-refused}
-use Rattle.client_runs.proofs.Given.{memory-alone}
-use Rattle.client_simulator.proofs.Making.{MadeSo, none-made, one-more, slots-there, all-made}
+use Rattle.client_runs.proofs.GivenShares.{memory-alone}
+use Rattle.client_simulator.proofs.MakingSteps.{MadeSo, none-made, one-more, slots-there, all-made}
 use Rattle.client_simulator.proofs.making.made_from.Goals as goal
 
 pub loop-place-init : goal.loop-place-init

@@ -1,7 +1,7 @@
 use Rattle.std.proofs.Common.{take, drop}
 use Rattle.joint_run.specs.Three.{each_of, values_of}
 use Rattle.joint_run.specs.States.{state_of}
-use Rattle.client_simulator.proofs.Making.{MadeSo}
+use Rattle.client_simulator.proofs.MakingSteps.{MadeSo}
 use Rattle.client_simulator.proofs.making.made_from.Given as goal
 
 abbrev pub invariant-loop-place : goal.invariant-loop-place

@@ -13,7 +13,7 @@ use Rattle.client_model.specs.Given.{made_from}
 use Rattle.client_view.specs.Views.{gate_words_of}
 use Rattle.tape_twin.proofs.Passing.{if-ok}
 use Rattle.tape_twin.proofs.Whole.{own-tapes}
-use Rattle.client_simulator.proofs.Simulating.{can-run}
+use Rattle.client_simulator.proofs.Answered.{can-run}
 use Rattle.client_simulator.proofs.simulating.given_told.Goals as goal
 
 pub made_from-requires : goal.made_from-requires

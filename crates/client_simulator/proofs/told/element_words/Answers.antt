@@ -1,5 +1,5 @@
 use Rattle.std.proofs.Common.{◌∙◌}
-use Rattle.client_simulator.proofs.Told.{same-words}
+use Rattle.client_simulator.proofs.ToldEvents.{same-words}
 use Rattle.client_simulator.proofs.told.element_words.Goals as goal
 
 pub returns-in-Ok : goal.returns-in-Ok

@@ -1,4 +1,4 @@
-use Rattle.client_simulator.proofs.Told.{words-more}
+use Rattle.client_simulator.proofs.ToldEvents.{words-more}
 use Rattle.client_simulator.proofs.told.gate_words_of.Goals as goal
 
 pub loop-event-preserved : goal.loop-event-preserved

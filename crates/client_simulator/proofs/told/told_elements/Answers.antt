@@ -1,5 +1,5 @@
 use Rattle.std.proofs.lemmas.List.{drop_all}
-use Rattle.client_simulator.proofs.Told.{element-more, elements-all}
+use Rattle.client_simulator.proofs.ToldEvents.{element-more, elements-all}
 use Rattle.client_simulator.proofs.told.told_elements.Goals as goal
 
 pub loop-at-preserved : goal.loop-at-preserved

@@ -1,6 +1,6 @@
 use Rattle.std.proofs.Common.{◌∙◌}
 use Rattle.std.proofs.lemmas.List.{drop_all}
-use Rattle.client_simulator.proofs.Told.{begun, told-more, told-none, told-all}
+use Rattle.client_simulator.proofs.ToldEvents.{begun, told-more, told-none, told-all}
 use Rattle.client_simulator.proofs.told.told_events.Goals as goal
 
 pub loop-event-init : goal.loop-event-init

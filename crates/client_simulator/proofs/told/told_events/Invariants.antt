@@ -1,6 +1,6 @@
 use Rattle.std.proofs.Common.{◌≡◌, drop}
 use Rattle.client_view.specs.Views.{told_events}
-use Rattle.client_simulator.proofs.Told.{behind}
+use Rattle.client_simulator.proofs.ToldEvents.{behind}
 use Rattle.client_simulator.proofs.told.told_events.Given as goal
 
 abbrev pub invariant-loop-event : goal.invariant-loop-event

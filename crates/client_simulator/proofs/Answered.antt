@@ -25,7 +25,7 @@ use Rattle.client_simulator.specs.declared.simulate_err.SimulateErr.{SimulateErr
 use Rattle.client_simulator.specs.declared.simulate_err.SimulateErr.TheVariants.{Memory}
 use Rattle.client_simulator.specs.declared.simulate_err.SimulateErr.TheVariants as error
 use Rattle.client_simulator.specs.Simulating.{IsMadeOf, IsAnswer, IsShortage}
-use Rattle.client_simulator.proofs.Making.{all-need-same}
+use Rattle.client_simulator.proofs.MakingSteps.{all-need-same}
 
 -- ---- GATES THAT CAN BE MADE
 

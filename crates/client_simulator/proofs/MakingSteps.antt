@@ -22,7 +22,7 @@ use Rattle.joint_run.proofs.GateLists.{next-through}
 use Rattle.handed_shares.specs.Handed.{all_of}
 use Rattle.client_model.specs.Given.{Given, made_given, slots_of, made_by_gate, published_after, after_gate, made_from}
 use Rattle.tape_twin.proofs.Passing.{same_for}
-use Rattle.client_runs.proofs.Given.{draws-at}
+use Rattle.client_runs.proofs.GivenShares.{draws-at}
 use Rattle.client_simulator.specs.inner.Steps.{HasSlots}
 
 -- how many words a gate draws doesn't hang on what was dealt

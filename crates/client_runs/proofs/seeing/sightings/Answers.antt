@@ -1,7 +1,7 @@
 use Rattle.std.proofs.Common.{ap, refl}
 use Rattle.std.proofs.lemmas.List.{drop_all}
-use Rattle.client_runs.proofs.Sightings.{seen-more, all-seen}
-use Rattle.client_runs.proofs.sightings.sightings.Goals as goal
+use Rattle.client_runs.proofs.SightingSteps.{seen-more, all-seen}
+use Rattle.client_runs.proofs.seeing.sightings.Goals as goal
 
 pub loop-event-preserved : goal.loop-event-preserved
 loop-event-preserved c =
