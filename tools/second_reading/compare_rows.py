@@ -15,12 +15,12 @@ from commands import Answer, Caller, NeedsPeers, refusal
 from files import read_tapes
 from miner_files import read_code, read_own_tape
 from miner_texts import joined, lines_of
-from node import BadMessage, Node
+from node import Node
+from peers import LinkFault, Peers, text_of_a_run
 from refusals import CallRefused
 from row_files import Row, read_rows
 from shares import read_share
-from wire import HEADER_SIZE, HELLO_SIZE, BadFrame, frame, hello_of, read_header, read_hello
-from wire import read_words as words_in
+from wire import hello_of
 from words import Words, read_words
 
 DEFAULT_BUDGET = 1_000_000
@@ -28,42 +28,23 @@ ENDED = (0, 1, 7, 8)
 SHOWN = 600
 
 
-class LinkFault(Exception):
-    """No more bytes come."""
-
-
-class ByteLinks:
+class ByteLinks(Peers):
     """Links of which the bytes that come are given."""
 
     def __init__(self, me: int, coming: dict[str, bytes]):
-        self.me = me
-        self.others = [peer for peer in (1, 2, 3) if peer != me]
-        self.coming = {peer: coming.get(str(peer), b"") for peer in self.others}
-        self.sent = {peer: b"" for peer in self.others}
+        others = [peer for peer in (1, 2, 3) if peer != me]
+        super().__init__(me, dict.fromkeys(others))
+        self.coming = {peer: coming.get(str(peer), b"") for peer in others}
+        self.sent = {peer: b"" for peer in others}
+
+    def write(self, peer: int, data: bytes):
+        self.sent[peer] += data
 
     def read(self, peer: int, count: int) -> bytes:
         data, self.coming[peer] = self.coming[peer][:count], self.coming[peer][count:]
         if len(data) < count:
             raise LinkFault
         return data
-
-    def greet(self, hello) -> str | None:
-        """Both hellos go out, then both are read, the lower peer's first."""
-        for peer in self.others:
-            self.sent[peer] += hello.to(peer).data()
-        found = None
-        for peer in self.others:
-            theirs = read_hello(self.read(peer, HELLO_SIZE))
-            found = found or hello.to(peer).answer().first_difference(theirs)
-            if found:
-                return found
-        return None
-
-    def send(self, peer: int, words: list[int]):
-        self.sent[peer] += frame(words)
-
-    def receive(self, peer: int) -> list[int]:
-        return words_in(self.read(peer, 8 * read_header(self.read(peer, HEADER_SIZE))))
 
 
 class RowCaller(Caller):
@@ -93,17 +74,9 @@ class RowCaller(Caller):
         given, budget = read_share(share, me), words.number("budget", DEFAULT_BUDGET)
         tape = read_own_tape(self.read(words["tape"]), given.lengths[me])
         links = ByteLinks(me, self.row.named("arrive"))
+        hello = hello_of(code, share, budget, me, 0)
         try:
-            found = links.greet(hello_of(code, share, budget, me, 0))
-            if found:
-                raise CallRefused(f"N2 {found}", 11)
-            text, status = Node(read_code(code), given, tape, budget, links.send, links.receive).text()
-        except LinkFault:
-            raise CallRefused("link", 10) from None
-        except BadFrame as bad:
-            raise CallRefused(f"N3 place {bad.place}", 11) from None
-        except BadMessage as bad:
-            raise CallRefused(str(bad), 11) from None
+            text, status = text_of_a_run(links, hello, lambda links: Node(read_code(code), given, tape, budget, links.send, links.receive))
         finally:
             self.sent = links.sent
         return Answer(status, written=[(words["out"], text.encode())])

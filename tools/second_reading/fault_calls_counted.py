@@ -22,7 +22,8 @@ from commands import Answer, Caller
 from entries import read_inputs
 from files import read_tapes, write_inputs, write_tapes
 from link_rows import (
-    Rows, SIX_SEVEN, ZEROS, common_text, file, hexed, honest, miner_call, miner_files, number, shares_written, started, texts, waits, was_sent, written,
+    Rows, SIX_SEVEN, ZEROS, common_text, file, hexed, honest, miner_call, miner_files, number, shares_written, started, texts, waits, was_sent, write_files,
+    written,
 )
 from network import script_of
 from served import GREETING, Setting, frame
@@ -245,9 +246,9 @@ def process_rows() -> FaultRows:
 def main(words: list[str]):
     if len(words) != 1:
         sys.exit(__doc__)
-    for name, rows in (("commands", command_rows()), ("processes", process_rows())):
-        with open(f"{words[0]}/{name}.rows", "w", encoding="utf-8") as target:
-            target.write(rows.text())
+    made = {"commands": command_rows(), "processes": process_rows()}
+    write_files(words[0], made)
+    for rows in made.values():
         print("\n".join(rows.counts))
 
 

@@ -39,8 +39,18 @@ class Rows:
         return "".join(line + "\n" for line in self.lines)
 
 
+# The most bytes of a line of bytes, and characters of a text in a line: lines of a text's bytes follow one another.
+BYTES_EACH, CHARACTERS_EACH = 48, 150
+
+
 def hexed(data: bytes) -> list[str]:
-    return ["hex " + " ".join(f"{byte:02x}" for byte in data)] if data else []
+    return ["hex " + data[at : at + BYTES_EACH].hex(" ") for at in range(0, len(data), BYTES_EACH)]
+
+
+def cut(line: str, mark: str) -> list[str]:
+    """A line of a text, of which the last piece has this mark."""
+    places = range(0, max(len(line), 1), CHARACTERS_EACH)
+    return [(mark if at == places[-1] else ">") + line[at : at + CHARACTERS_EACH] for at in places]
 
 
 def spelled(data: bytes) -> list[str]:
@@ -55,8 +65,15 @@ def spelled(data: bytes) -> list[str]:
 
 def written(data: bytes) -> list[str]:
     """The bytes of a text, line by line."""
-    lines = data.decode().split("\n")
-    return [f"|{line}" for line in lines[:-1]] + ([f">{lines[-1]}"] if lines[-1] else [])
+    *lines, rest = data.decode().split("\n")
+    return [piece for line in lines for piece in cut(line, "|")] + (cut(rest, ">") if rest else [])
+
+
+def write_files(folder: str, made: dict[str, Rows]):
+    """Writes row files of these names."""
+    for name, rows in made.items():
+        with open(f"{folder}/{name}.rows", "w", encoding="utf-8") as target:
+            target.write(rows.text())
 
 
 def file(name: str, lines: list[str]) -> list[str]:
@@ -586,9 +603,7 @@ def truth_rows(rows: Rows):
 def main(words: list[str]):
     if len(words) != 1:
         sys.exit(__doc__)
-    for name, rows in (("miners", miner_rows()), ("trios", trio_rows()), ("joins", join_rows())):
-        with open(f"{words[0]}/{name}.rows", "w", encoding="utf-8") as target:
-            target.write(rows.text())
+    write_files(words[0], {"miners": miner_rows(), "trios": trio_rows(), "joins": join_rows()})
 
 
 if __name__ == "__main__":

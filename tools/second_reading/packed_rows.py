@@ -12,7 +12,7 @@ from commands import Caller
 from fault_calls_counted import answered, shown
 from files import write_inputs, write_tapes
 from good_calls import MULTIPLYING
-from link_rows import ALL_ONES, Rows, ends, file, hexed
+from link_rows import ALL_ONES, Rows, ends, file, hexed, write_files
 from served_programs import HEAD, NOTHING_DONE, PRODUCT
 from tree import Data
 
@@ -245,9 +245,7 @@ def upgrade_rows() -> TruthRows:
 def main(words: list[str]):
     if len(words) != 1:
         sys.exit(__doc__)
-    for name, rows in (("truths", truth_rows()), ("upgrades", upgrade_rows())):
-        with open(f"{words[0]}/{name}.rows", "w", encoding="utf-8") as target:
-            target.write(rows.text())
+    write_files(words[0], {"truths": truth_rows(), "upgrades": upgrade_rows()})
 
 
 if __name__ == "__main__":

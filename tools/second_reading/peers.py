@@ -3,8 +3,11 @@ from __future__ import annotations
 
 import socket
 import time
+from collections.abc import Callable
 
-from wire import HEADER_SIZE, HELLO_SIZE, Hello, frame, read_header, read_hello, read_words
+from node import BadMessage, Node
+from refusals import CallRefused
+from wire import HEADER_SIZE, HELLO_SIZE, BadFrame, Hello, frame, read_header, read_hello, read_words
 
 HOST = "127.0.0.2"
 PATIENCE = 60.0
@@ -107,3 +110,17 @@ class Peers:
                 pass
             stream.close()
 
+
+def text_of_a_run(peers: Peers, hello: Hello, node: Callable[[Peers], Node]) -> tuple[str, int]:
+    """The text of a miner, and its status, once both peers have greeted it; or the refusal of what came."""
+    try:
+        found = peers.greet(hello)
+        if found:
+            raise CallRefused(f"N2 {found}", 11)
+        return node(peers).text()
+    except LinkFault:
+        raise CallRefused("link", 10) from None
+    except BadFrame as bad:
+        raise CallRefused(f"N3 place {bad.place}", 11) from None
+    except BadMessage as bad:
+        raise CallRefused(str(bad), 11) from None

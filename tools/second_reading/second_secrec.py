@@ -15,11 +15,11 @@ from entries import read_inputs
 from files import read_tapes
 from miner_files import read_code, read_own_tape
 from miner_texts import joined, lines_of
-from node import BadMessage, Node
-from peers import LinkFault, Peers, join
+from node import Node
+from peers import LinkFault, Peers, join, text_of_a_run
 from refusals import CallRefused
 from shares import read_share
-from wire import BadFrame, hello_of
+from wire import hello_of
 
 DEFAULT_BUDGET = "1000000"
 OPTIONS = {
@@ -73,19 +73,13 @@ def miner(words: list[str]) -> tuple[str, int]:
     tape = read_own_tape(read(options["tape"]), given.lengths[me])
     try:
         peers = Peers(me, join(me, int(options["port"])))
-        try:
-            found = peers.greet(hello_of(code, share, budget, me, 0))
-            if found:
-                raise CallRefused(f"N2 {found}", 11)
-            text, status = Node(decoded, given, tape, budget, peers.send, peers.receive).text()
-        finally:
-            peers.close()
     except LinkFault:
         raise CallRefused("link", 10) from None
-    except BadFrame as bad:
-        raise CallRefused(f"N3 place {bad.place}", 11) from None
-    except BadMessage as bad:
-        raise CallRefused(str(bad), 11) from None
+    try:
+        hello = hello_of(code, share, budget, me, 0)
+        text, status = text_of_a_run(peers, hello, lambda links: Node(decoded, given, tape, budget, links.send, links.receive))
+    finally:
+        peers.close()
     write(options["out"], text.encode())
     return "", status
 
