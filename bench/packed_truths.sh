@@ -1,8 +1,8 @@
 #!/usr/bin/env bash
 # Measures what packed truth values take on shares: `secrec run` over 1,048,576 of them by `&`, `|` and `!=`, and opened; over comparisons that are opened; over
 # the bits of numbers; and over a loop that sets each element of an array, beside the same loop over numbers and one that stores nothing. Told are the words
-# of miner 1, the messages, the processor time and the peak memory of the run of three that took least; but of words and messages each beyond a run over the
-# same inputs without the operation. It measures; it tests nothing. Another program than the one that `./secrec` runs can be named, and after it one of a
+# of miner 1, the messages and the processor time, each beyond a run over the same inputs without the operation, and the peak memory; of three runs the one
+# that took least. It measures; it tests nothing. Another program than the one that `./secrec` runs can be named, and after it one of a
 # release before 0.13, which is measured beside it.
 . "$(dirname "$0")/begin.sh"
 

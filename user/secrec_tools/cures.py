@@ -104,7 +104,8 @@ def advice(path: str, text: bytes, inputs, most: int) -> tuple[list[str], Spot |
     row, node = drawing(text, inputs)
     cure = cures()[row]
     name = "the inputs" if node is None else f"{costs.name_of(node)} in line {opens.line_of(text, node)}"
-    said = [f"{name}: most words go there, to {row}" if node is not None else "most words are the dealer's: two for each number of a private input, or 64 truth values"]
+    dealt = "most words are the dealer's: two for each number of a private input, or 64 truth values"
+    said = [f"{name}: most words go there, to {row}" if node is not None else dealt]
     said += [f"what takes fewer: {cure.fewer}"] * bool(cure.fewer)
     runs = "in several runs" if row in (SORTS, QUESTIONS) else f"in {-(-most // MOST)} runs or more"
     said += [f"{runs}: {cure.pieces}"] * bool(cure.pieces)
