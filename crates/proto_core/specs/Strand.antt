@@ -37,9 +37,15 @@ accepts s m = (length m == length s.fields * s.count) && has_bits s.count s.fiel
 
 -- ---- what a miner does
 
--- what a value is made of: words, or bits as 0 and 1; one of them, or an array
+-- what an element of a value is: a number, a number with a sign as its two's complement word, or a truth value as 0 or 1
+pub data ElementType : Type 0 where
+  Unsigned : ElementType
+  Signed : ElementType
+  TruthValue : ElementType
+
+-- what a value is made of; one element, or an array
 pub record Form : Type 0 where
-  pub element : Field
+  pub element : ElementType
   pub array : Bool
 
 -- what a miner tells the world
