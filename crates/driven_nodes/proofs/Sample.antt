@@ -2,7 +2,7 @@
 -- over.
 use Rattle.std.proofs.Common.{◌≡◌, ◌≢◌, ℕ, zero, suc, false, List, [], ◌∷◌, ◌++◌, refl, ap, subst}
 use Rattle.proto_core.specs.declared.party.Number.{Number}
-use Rattle.proto_core.specs.Strand.{Words, Notice, Shown}
+use Rattle.proto_core.specs.Strand.{Unsigned, Notice, Shown}
 use Rattle.protocol_model.specs.Gates.{Local}
 use Rattle.driven_nodes.specs.Driven.{path, stop, notices}
 use Rattle.driven_nodes.specs.Steps.{Went, On, Over, Wants, Steps, Running, Stopped, ToRun, last_of, next_turn}
@@ -38,7 +38,7 @@ asking =
       gates = words_made;
       notices = λ before after values.
           elim before as (λ _. List Notice)
-          [ zero ↦ Shown (record { element = Words; array = false }) (last_of values) ∷ [] | suc _ ↦ [] ];
+          [ zero ↦ Shown (record { element = Unsigned; array = false }) (last_of values) ∷ [] | suc _ ↦ [] ];
     }
 
 abbrev Same : ℕ → ℕ → Type 0
@@ -88,5 +88,5 @@ stops = refl
 tells :
     (i : Number) →
     notices (next_turn asking known_words) 3 i (Running 0) (λ i. []) (λ i. [])
-    ≡ Shown (record { element = Words; array = false }) (7 ∷ []) ∷ []
+    ≡ Shown (record { element = Unsigned; array = false }) (7 ∷ []) ∷ []
 tells i = refl

@@ -2,7 +2,7 @@
 -- as each has parameters.
 use Rattle.std.specs.Prelude.{ℕ, ◌≡◌, ◌+◌, ◌<◌, ◌≤◌, List, [], ◌∷◌, length, map, Option, Some, None}
 use Rattle.std.specs.List.{slice_get}
-use Rattle.program_trees.specs.TypedTree.{TypedTree, TypedTrees, word_node, truth_node, slot_node, call_node, size_node, cat_node, sum_node, bits_node}
+use Rattle.program_trees.specs.TypedTree.{TypedTree, TypedTrees, word_node, truth_node, slot_node, call_node, size_node, cat_node, sum_node, bits_node, lookup_node}
 use Rattle.program_trees.specs.TypedTree.{element_node, not_node, cast_node, binary_node, cut_node, declassify_node}
 use Rattle.program_trees.specs.TypedTree as Tree'
 use Rattle.program_trees.specs.TypedStatements.{TypedStatementTree, TypedStatementTrees, empty_statement, block_statement, if_statement, loop_statement, do_statement}
@@ -26,6 +26,7 @@ abbrev mutual
   IsSoundTree n ps (cat_node line a b) = IsSoundTree n ps a × IsSoundTree n ps b
   IsSoundTree n ps (sum_node e) = IsSoundTree n ps e
   IsSoundTree n ps (bits_node line e) = IsSoundTree n ps e
+  IsSoundTree n ps (lookup_node line a i) = IsSoundTree n ps a × IsSoundTree n ps i
   IsSoundTree n ps (element_node line a i) = IsSoundTree n ps a × IsSoundTree n ps i
   IsSoundTree n ps (not_node e) = IsSoundTree n ps e
   IsSoundTree n ps (cast_node c e) = IsSoundTree n ps e

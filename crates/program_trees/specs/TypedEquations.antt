@@ -13,7 +13,7 @@ use Rattle.program_trees.specs.declared.typed_statement.TypedStatement.{TypedSta
 use Rattle.program_trees.specs.declared.typed_statement.TypedStatement.TheVariants as StatementVariant
 use Rattle.program_trees.specs.declared.typed_statement.TypedStatement.TheOpen as StatementOpen
 use Rattle.program_trees.specs.declared.typed_statement.TypedStatement.TheFolds.{fold-roll-TypedStatement}
-use Rattle.program_trees.specs.TypedTree.{TypedTree, word_node, truth_node, slot_node, call_node, size_node, cat_node, sum_node, bits_node, element_node}
+use Rattle.program_trees.specs.TypedTree.{TypedTree, word_node, truth_node, slot_node, call_node, size_node, cat_node, sum_node, bits_node, lookup_node, element_node}
 use Rattle.program_trees.specs.TypedTree.{not_node, cast_node, binary_node, cut_node, declassify_node, typed_trees_of, typed_layer, typed_tree}
 use Rattle.program_trees.specs.TypedStatements.{TypedStatementTree, empty_statement, block_statement, if_statement, loop_statement, do_statement, break_statement}
 use Rattle.program_trees.specs.TypedStatements.{continue_statement, return_statement, assert_statement, store_statement, default_statement, fill_statement}
@@ -45,6 +45,10 @@ sum_node_is e = ap typed_tree (sym (Variant.rolls-Sum e)) ∙ fold-roll-TypedExp
 
 pub bits_node_is : (line : ℕ) (e : Box TypedExpression Global) → typed_tree (Variant.BitExtract line e) ≡ bits_node line (typed_tree e.value)
 bits_node_is line e = ap typed_tree (sym (Variant.rolls-BitExtract line e)) ∙ fold-roll-TypedExpression TypedTree typed_layer (Open.BitExtract line e)
+
+pub lookup_node_is : (line : ℕ) (a : Box TypedExpression Global) (i : Box TypedExpression Global)
+    → typed_tree (Variant.Lookup line a i) ≡ lookup_node line (typed_tree a.value) (typed_tree i.value)
+lookup_node_is line a i = ap typed_tree (sym (Variant.rolls-Lookup line a i)) ∙ fold-roll-TypedExpression TypedTree typed_layer (Open.Lookup line a i)
 
 pub element_node_is : (line : ℕ) (a : Box TypedExpression Global) (i : Box TypedExpression Global)
     → typed_tree (Variant.Element line a i) ≡ element_node line (typed_tree a.value) (typed_tree i.value)

@@ -19,6 +19,7 @@ mutual
     cat_node : (line : ℕ) → (left right : TypedTree) → TypedTree
     sum_node : TypedTree → TypedTree
     bits_node : (line : ℕ) → TypedTree → TypedTree
+    lookup_node : (line : ℕ) → (array index : TypedTree) → TypedTree
     element_node : (line : ℕ) → (array position : TypedTree) → TypedTree
     not_node : TypedTree → TypedTree
     cast_node : Cast → TypedTree → TypedTree
@@ -44,6 +45,7 @@ typed_layer (Open.Size e) = size_node e.value
 typed_layer (Open.Cat line a b) = cat_node line a.value b.value
 typed_layer (Open.Sum e) = sum_node e.value
 typed_layer (Open.BitExtract line e) = bits_node line e.value
+typed_layer (Open.Lookup line a i) = lookup_node line a.value i.value
 typed_layer (Open.Element line a i) = element_node line a.value i.value
 typed_layer (Open.Not e) = not_node e.value
 typed_layer (Open.Cast c e) = cast_node c e.value

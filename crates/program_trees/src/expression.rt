@@ -11,6 +11,7 @@ use std::alloc::{AllocError, Global};
 #[derive(Clone, Copy, PartialEq, Eq)]
 pub enum DataType {
     Uint64,
+    Int64,
     Bool,
 }
 

@@ -1,13 +1,13 @@
 // Operators, casts, and what they give.
 ghost use Rattle.std.specs.Prelude.{◌≡◌};
 ghost use Rattle.program_trees.specs.declared.operators.BinaryOperator.TheVariants.{Bools};
-ghost use Rattle.program_trees.specs.Operators.{word_result, on_bools, sign_of, element_made, result_shape, is_product, connective};
+ghost use Rattle.program_trees.specs.Operators.{number_result, on_bools, sign_of, element_made, result_shape, is_product, connective};
 ghost use Rattle.program_trees.specs.Operators.{operands_of, cast_between, cast_shape};
 
 use crate::expression::DataType;
 use crate::kinds::Shape;
 
-/// The sign of an operator: an operator on words is its sign, and truth values have five of the signs.
+/// The sign of an operator: numbers without a sign have all of them, those with a sign all but the last three, and truth values five.
 #[derive(Clone, Copy)]
 pub enum OperatorSign {
     Add,
@@ -40,6 +40,8 @@ pub enum BoolOperator {
 #[derive(Clone, Copy)]
 pub enum BinaryOperator {
     Words(OperatorSign),
+    /// On numbers with a sign. Types and code give it none of the signs that work bit by bit.
+    Ints(OperatorSign),
     Bools(BoolOperator),
 }
 
@@ -66,9 +68,9 @@ impl OperatorSign {
         }
     }
 
-    // The data type of what it gives.
-    fn result(self) -> DataType
-        ensures { result ≡ word_result self }
+    // The data type of what it gives on numbers of this one.
+    fn result(self, number: DataType) -> DataType
+        ensures { result ≡ number_result number self }
     {
         match self {
             OperatorSign::Equal
@@ -84,7 +86,7 @@ impl OperatorSign {
             | OperatorSign::Remainder
             | OperatorSign::And
             | OperatorSign::Or
-            | OperatorSign::Xor => DataType::Uint64,
+            | OperatorSign::Xor => number,
         }
     }
 }
@@ -110,7 +112,7 @@ impl BinaryOperator {
         ensures { result ≡ sign_of self }
     {
         match self {
-            BinaryOperator::Words(operator) => operator,
+            BinaryOperator::Words(operator) | BinaryOperator::Ints(operator) => operator,
             BinaryOperator::Bools(operator) => operator.sign(),
         }
     }
@@ -120,7 +122,8 @@ impl BinaryOperator {
         ensures { result ≡ element_made self }
     {
         match self {
-            BinaryOperator::Words(operator) => operator.result(),
+            BinaryOperator::Words(operator) => operator.result(DataType::Uint64),
+            BinaryOperator::Ints(operator) => operator.result(DataType::Int64),
             BinaryOperator::Bools(_) => DataType::Bool,
         }
     }
@@ -141,7 +144,9 @@ impl BinaryOperator {
     {
         matches!(
             self,
-            BinaryOperator::Words(OperatorSign::Multiply) | BinaryOperator::Bools(BoolOperator::And)
+            BinaryOperator::Words(OperatorSign::Multiply)
+                | BinaryOperator::Ints(OperatorSign::Multiply)
+                | BinaryOperator::Bools(BoolOperator::And)
         )
     }
 }
@@ -196,13 +201,11 @@ pub struct Operation {
     pub operands: Operands,
 }
 
-/// A cast, by what it casts and to what.
+/// A cast, by the data type of what it casts and the one that it makes.
 #[derive(Clone, Copy)]
-pub enum Cast {
-    WordToWord,
-    WordToBool,
-    BoolToWord,
-    BoolToBool,
+pub struct Cast {
+    pub given: DataType,
+    pub wanted: DataType,
 }
 
 impl Cast {
@@ -210,22 +213,16 @@ impl Cast {
     pub fn between(given: DataType, wanted: DataType) -> Cast
         ensures { result ≡ cast_between given wanted }
     {
-        match (given, wanted) {
-            (DataType::Uint64, DataType::Uint64) => Cast::WordToWord,
-            (DataType::Uint64, DataType::Bool) => Cast::WordToBool,
-            (DataType::Bool, DataType::Uint64) => Cast::BoolToWord,
-            (DataType::Bool, DataType::Bool) => Cast::BoolToBool,
-        }
+        Cast { given, wanted }
     }
 
     /// The shape of what it gives.
     pub fn shape(self, array: bool) -> Shape
         ensures { result ≡ cast_shape self array }
     {
-        let element = match self {
-            Cast::WordToWord | Cast::BoolToWord => DataType::Uint64,
-            Cast::WordToBool | Cast::BoolToBool => DataType::Bool,
-        };
-        Shape { element, array }
+        Shape {
+            element: self.wanted,
+            array,
+        }
     }
 }

@@ -15,10 +15,13 @@ pub enum TypedExpression {
     Size(Box<TypedExpression>),
     /// An array and the elements of another after it.
     Cat(u32, Box<TypedExpression>, Box<TypedExpression>),
-    /// The sum of an array of words.
+    /// The sum of an array of numbers, with or without a sign.
     Sum(Box<TypedExpression>),
     /// The bits of words, 64 for each, the lowest first.
     BitExtract(u32, Box<TypedExpression>),
+    /// The elements of a private array at private indices, of which nobody learns which they are: the array, and one index or an
+    /// array of them.
+    Lookup(u32, Box<TypedExpression>, Box<TypedExpression>),
     /// An element of an array, by its index.
     Element(u32, Box<TypedExpression>, Box<TypedExpression>),
     Not(Box<TypedExpression>),
@@ -41,6 +44,7 @@ impl Drop for TypedExpression {
             | TypedExpression::Cat(_, _, _)
             | TypedExpression::Sum(_)
             | TypedExpression::BitExtract(_, _)
+            | TypedExpression::Lookup(_, _, _)
             | TypedExpression::Element(_, _, _)
             | TypedExpression::Not(_)
             | TypedExpression::Cast(_, _)

@@ -5,9 +5,10 @@ use Rattle.std.specs.List.{flat_map}
 use Rattle.sc_text.specs.declared.elements.Element.{Element}
 use Rattle.sc_text.specs.declared.elements.Element.TheVariants as elements
 
--- a word in decimal, a truth value as a word of English
+-- a number in decimal, after `-` where it is below 0, a truth value as a word of English
 unfoldable pub element_text : Element → List ℕ
 element_text (elements.Word word) = decimal word
+element_text (elements.Negative below) = codes "-" ++ decimal below
 element_text (elements.Truth true) = codes "true"
 element_text (elements.Truth false) = codes "false"
 

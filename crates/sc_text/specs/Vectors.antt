@@ -3,7 +3,7 @@ use Rattle.std.specs.Prelude.{◌≡◌, ◌^◌, ◌-◌, [], ◌∷◌, codes,
 use Rattle.std.proofs.Common.{refl}
 use Rattle.std.specs.Fmt.{digits}
 use Rattle.sc_text.specs.declared.code.PlacedFault.TheVariants as placed
-use Rattle.sc_text.specs.declared.elements.Element.TheVariants.{Word, Truth}
+use Rattle.sc_text.specs.declared.elements.Element.TheVariants.{Word, Negative, Truth}
 use Rattle.sc_text.specs.declared.end.Ending.TheVariants as endings
 use Rattle.sc_text.specs.declared.end.TapeOwner.TheVariants as owners
 use Rattle.sc_text.specs.declared.end.TrapKind.TheVariants as kinds
@@ -19,6 +19,10 @@ use Rattle.sc_text.specs.Fault.{placed_code, span_text, field_word, input_fault_
 pub opened_truths : event_line (events.Open (Truth true ∷ Truth false ∷ [])) ≡ codes "open true false\n"
 unfolding event_line elements_text element_text
 opened_truths = refl
+
+pub opened_least : event_line (events.Open (Negative (2 ^ 63) ∷ Word 5 ∷ [])) ≡ codes "open -9223372036854775808 5\n"
+unfolding event_line elements_text element_text digits
+opened_least = refl
 
 pub opened_none : event_line (events.Open []) ≡ codes "open\n"
 unfolding event_line elements_text

@@ -9,11 +9,14 @@ use std::marker::Model;
 /// An element of a printed value.
 #[derive(Clone, Copy)]
 pub enum Element {
+    /// A number that isn't below 0.
     Word(u64),
+    /// A number below 0, by what it is below 0: from 1 to 2^63.
+    Negative(u64),
     Truth(bool),
 }
 
-/// Writes a word in decimal, and a truth value as `true` or `false`.
+/// Writes a number in decimal, after `-` where it is below 0, and a truth value as `true` or `false`.
 impl fmt::Display for Element {
     ghost output = { λ element. Some (element_text element) };
 
@@ -21,6 +24,7 @@ impl fmt::Display for Element {
     fn fmt<W: fmt::Write>(&self, f: &mut fmt::Formatter<W>) -> fmt::Result {
         match self {
             Element::Word(word) => write!(f, "{word}"),
+            Element::Negative(below) => write!(f, "-{below}"),
             Element::Truth(true) => f.write_str("true"),
             Element::Truth(false) => f.write_str("false"),
         }
