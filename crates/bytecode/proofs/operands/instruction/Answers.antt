@@ -7,8 +7,8 @@ use Rattle.bytecode.specs.Versions.{counting, is_tag}
 use Rattle.bytecode.proofs.SameOperands.{same_operands, plain_unless_call, reads_operands}
 use Rattle.bytecode.proofs.operands.instruction.Goals as goal
 
-pub returns-in_Call : goal.returns-in_Call
-returns-in_Call c = reads_operands raw_instruction c.args.version c.args.parameters.now c.args.reader.now _ _ _ _ c.in_ok-tested.ensures.reads c.call.ensures
+pub returns-in-Call : goal.returns-in-Call
+returns-in-Call c = reads_operands raw_instruction c.args.version c.args.parameters.now c.args.reader.now _ _ _ _ c.in_ok-tested.ensures.reads c.call.ensures
 
 pub returns-in_default : goal.returns-in_default
 returns-in_default c =
