@@ -83,7 +83,7 @@ fn default_of(element: DataType) -> TypedExpression
     ensures { typed_tree result ≡ default_of element }
 {
     match element {
-        DataType::Uint64 => TypedExpression::Word(0),
+        DataType::Uint64 | DataType::Int64 => TypedExpression::Word(0),
         DataType::Bool => TypedExpression::Truth(false),
     }
 }

@@ -68,6 +68,7 @@ pub fn expression(
             Ok(domain)
         }
         TypedExpression::Cat(_, left, right)
+        | TypedExpression::Lookup(_, left, right)
         | TypedExpression::Binary(_, _, _, left, right)
         | TypedExpression::CutShort(_, left, right) => {
             let left = expression(alloc, found, here, left)?;

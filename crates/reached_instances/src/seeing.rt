@@ -58,6 +58,7 @@ pub fn domain(
         | TypedExpression::Cast(_, operand)
         | TypedExpression::Element(_, operand, _) => domain(alloc, here, operand),
         TypedExpression::Cat(_, left, right)
+        | TypedExpression::Lookup(_, left, right)
         | TypedExpression::Binary(_, _, _, left, right)
         | TypedExpression::CutShort(_, left, right) => {
             let left = domain(alloc, here, left)?;
