@@ -1,5 +1,5 @@
--- The elements of a printed value, as text.
-use Rattle.std.specs.Prelude.{ℕ, List, ◌++◌, codes, true, false}
+-- The elements of a printed value, as text and as words.
+use Rattle.std.specs.Prelude.{ℕ, ◌-◌, ◌%◌, ◌^◌, List, ◌++◌, codes, true, false}
 use Rattle.std.specs.Fmt.{decimal}
 use Rattle.std.specs.List.{flat_map}
 use Rattle.sc_text.specs.declared.elements.Element.{Element}
@@ -15,3 +15,10 @@ element_text (elements.Truth false) = codes "false"
 -- a space and then the element, for each
 unfoldable pub elements_text : List Element → List ℕ
 elements_text list = flat_map (λ element. codes " " ++ element_text element) list
+
+-- an element as a word: a number below 0 by two's complement, a truth value 1 or 0
+abbrev pub element_word : Element → ℕ
+element_word (elements.Word word) = word
+element_word (elements.Negative below) = (2 ^ 64 - below) % 2 ^ 64
+element_word (elements.Truth true) = 1
+element_word (elements.Truth false) = 0

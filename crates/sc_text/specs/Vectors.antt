@@ -11,7 +11,7 @@ use Rattle.sc_text.specs.declared.event.Event.TheVariants as events
 use Rattle.sc_text.specs.declared.fault.Fault.TheVariants as faults
 use Rattle.sc_text.specs.declared.input_fault.EntryField.TheVariants as fields
 use Rattle.sc_text.specs.declared.input_fault.InputFault.TheVariants as inputs
-use Rattle.sc_text.specs.Elements.{element_text, elements_text}
+use Rattle.sc_text.specs.Elements.{element_text, elements_text, element_word}
 use Rattle.sc_text.specs.End.{trap_word, owner_digit, ending_text, end_line}
 use Rattle.sc_text.specs.Event.{event_line, run_text}
 use Rattle.sc_text.specs.Fault.{placed_code, span_text, field_word, input_fault_text, fault_text, fault_line, file_line}
@@ -27,6 +27,12 @@ opened_least = refl
 pub opened_none : event_line (events.Open []) ≡ codes "open\n"
 unfolding event_line elements_text
 opened_none = refl
+
+pub word_of_minus_one : element_word (Negative 1) ≡ 2 ^ 64 - 1
+word_of_minus_one = refl
+
+pub word_of_least : element_word (Negative (2 ^ 63)) ≡ 2 ^ 63
+word_of_least = refl
 
 pub whole_run : run_text (events.Publish (codes "s") (Word 13 ∷ []) ∷ []) (record { how = endings.Done; cost = 7 }) ≡ codes "publish s 13\nend done cost 7\n"
 unfolding run_text event_line elements_text element_text end_line ending_text digits

@@ -1,6 +1,6 @@
 ghost use Rattle.std.specs.Prelude.{◌≡◌, [], ◌∷◌, ◌++◌, List, Some, OnOk, OnErr};
 ghost use Rattle.sc_text.specs.declared.elements.Element.{Element};
-ghost use Rattle.sc_text.specs.Elements.{element_text, elements_text};
+ghost use Rattle.sc_text.specs.Elements.{element_text, elements_text, element_word};
 
 use std::alloc::{AllocError, Global};
 use std::fmt;
@@ -14,6 +14,20 @@ pub enum Element {
     /// A number below 0, by what it is below 0: from 1 to 2^63.
     Negative(u64),
     Truth(bool),
+}
+
+impl Element {
+    /// The element as a word: a number below 0 by two's complement, a truth value 1 or 0.
+    pub fn word(self) -> u64
+        ensures { result ≡ element_word self }
+    {
+        match self {
+            Element::Word(word) => word,
+            Element::Negative(below) => below.wrapping_neg(),
+            Element::Truth(true) => 1,
+            Element::Truth(false) => 0,
+        }
+    }
 }
 
 /// Writes a number in decimal, after `-` where it is below 0, and a truth value as `true` or `false`.

@@ -4,24 +4,24 @@ ghost use Rattle.std.specs.List.{flat_map};
 ghost use Rattle.gates.specs.Clear.{bits_of, first_word};
 ghost use Rattle.language_model.specs.Words.{flipped, cast_word};
 
-use crate::operators::truth;
-use program_trees::Cast;
+use crate::operators::{flip, truth};
+use program_trees::{Cast, DataType};
 use std::alloc::{AllocError, Global};
 
 /// Each truth value turned round: 1 for 0, and 0 for any other word.
 pub fn flipped(alloc: Global, xs: &[u64]) -> Result<Vec<u64>, AllocError>
     ensures { IfOk result (λ words. words.items ≡ map flipped xs.now) }
 {
-    xs.iter().map(|x| truth(*x == 0)).collect(alloc)
+    xs.iter().map(|x| flip(*x)).collect(alloc)
 }
 
 /// A word that is cast.
 fn cast_to(cast: Cast, x: u64) -> u64
     ensures { result ≡ cast_word cast x }
 {
-    match cast {
-        Cast::WordToBool => truth(x != 0),
-        Cast::WordToWord | Cast::BoolToWord | Cast::BoolToBool => x,
+    match (cast.given, cast.wanted) {
+        (DataType::Uint64 | DataType::Int64, DataType::Bool) => truth(x != 0),
+        (DataType::Bool, _) | (_, DataType::Uint64 | DataType::Int64) => x,
     }
 }
 
