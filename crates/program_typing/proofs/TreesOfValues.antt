@@ -29,7 +29,7 @@ use Rattle.domain_types.specs.Settings.{Setting, in_domain, domain_of, type_writ
 use Rattle.domain_types.specs.Scopes as checked
 use Rattle.domain_types.specs.ExpressionTypes.{within, variable_type, result_type, cast_type, declassified}
 use Rattle.sc_text.specs.Lists.{Among}
-use Rattle.domain_types.specs.Typing.{OperatesOn, IsBuiltInCall, ParametersTake, IsCall, HasType, HaveTypes}
+use Rattle.domain_types.specs.Typing.{IsNumber, OperatesOn, IsBuiltInCall, ParametersTake, IsCall, HasType, HaveTypes}
 use Rattle.sc_text.proofs.Lists.{among_left, among_right}
 use Rattle.program_trees.specs.declared.operators.OperatorSign.TheVariants as word
 use Rattle.program_trees.specs.declared.operators.BoolOperator.TheVariants as truth_of
@@ -265,8 +265,12 @@ call_gives d k x line (defined n f) vs gs t a e s h =
 
 -- OPERATORS
 
+pub no_number : IsNumber datatype.Bool → ⊥
+no_number (inl e) = cc
+no_number (inr e) = cc
+
 -- numbers with a sign are not worked on bit by bit
-no_bits : (d : Protection) → (Int64 ≡ datatype.Bool) ⊎ ((Int64 ≡ Uint64) × (d ≡ Public)) → ⊥
+pub no_bits : (d : Protection) → (Int64 ≡ datatype.Bool) ⊎ ((Int64 ≡ Uint64) × (d ≡ Public)) → ⊥
 no_bits d (inl e) = cc
 no_bits d (inr e) = let no = e.0 in cc
 
@@ -274,19 +278,19 @@ operator_makes : (op : Operator) (t : DataType) (d : Protection) (r : DataType) 
     → (b : BinaryOperator) × (operator_on op t t ≡ Some b) × (element_made b ≡ r)
 operator_makes Add Uint64 d r h = (Words word.Add, refl, sym h.1)
 operator_makes Add Int64 d r h = (Ints word.Add, refl, sym h.1)
-operator_makes Add datatype.Bool d r h = absurd h.0
+operator_makes Add datatype.Bool d r h = absurd (no_number h.0)
 operator_makes Subtract Uint64 d r h = (Words word.Subtract, refl, sym h.1)
 operator_makes Subtract Int64 d r h = (Ints word.Subtract, refl, sym h.1)
-operator_makes Subtract datatype.Bool d r h = absurd h.0
+operator_makes Subtract datatype.Bool d r h = absurd (no_number h.0)
 operator_makes Multiply Uint64 d r h = (Words word.Multiply, refl, sym h.1)
 operator_makes Multiply Int64 d r h = (Ints word.Multiply, refl, sym h.1)
-operator_makes Multiply datatype.Bool d r h = absurd h.0
+operator_makes Multiply datatype.Bool d r h = absurd (no_number h.0)
 operator_makes Divide Uint64 d r h = (Words word.Divide, refl, sym h.1)
 operator_makes Divide Int64 d r h = (Ints word.Divide, refl, sym h.1)
-operator_makes Divide datatype.Bool d r h = absurd h.0
+operator_makes Divide datatype.Bool d r h = absurd (no_number h.0)
 operator_makes Remainder Uint64 d r h = (Words word.Remainder, refl, sym h.1)
 operator_makes Remainder Int64 d r h = (Ints word.Remainder, refl, sym h.1)
-operator_makes Remainder datatype.Bool d r h = absurd h.0
+operator_makes Remainder datatype.Bool d r h = absurd (no_number h.0)
 operator_makes Equal Uint64 d r h = (Words word.Equal, refl, sym h)
 operator_makes Equal Int64 d r h = (Ints word.Equal, refl, sym h)
 operator_makes Equal datatype.Bool d r h = (Bools truth_of.Equal, refl, sym h)
@@ -295,16 +299,16 @@ operator_makes NotEqual Int64 d r h = (Ints word.NotEqual, refl, sym h)
 operator_makes NotEqual datatype.Bool d r h = (Bools truth_of.NotEqual, refl, sym h)
 operator_makes Less Uint64 d r h = (Words word.Less, refl, sym h.1)
 operator_makes Less Int64 d r h = (Ints word.Less, refl, sym h.1)
-operator_makes Less datatype.Bool d r h = absurd h.0
+operator_makes Less datatype.Bool d r h = absurd (no_number h.0)
 operator_makes LessOrEqual Uint64 d r h = (Words word.LessOrEqual, refl, sym h.1)
 operator_makes LessOrEqual Int64 d r h = (Ints word.LessOrEqual, refl, sym h.1)
-operator_makes LessOrEqual datatype.Bool d r h = absurd h.0
+operator_makes LessOrEqual datatype.Bool d r h = absurd (no_number h.0)
 operator_makes Greater Uint64 d r h = (Words word.Greater, refl, sym h.1)
 operator_makes Greater Int64 d r h = (Ints word.Greater, refl, sym h.1)
-operator_makes Greater datatype.Bool d r h = absurd h.0
+operator_makes Greater datatype.Bool d r h = absurd (no_number h.0)
 operator_makes GreaterOrEqual Uint64 d r h = (Words word.GreaterOrEqual, refl, sym h.1)
 operator_makes GreaterOrEqual Int64 d r h = (Ints word.GreaterOrEqual, refl, sym h.1)
-operator_makes GreaterOrEqual datatype.Bool d r h = absurd h.0
+operator_makes GreaterOrEqual datatype.Bool d r h = absurd (no_number h.0)
 operator_makes And Uint64 d r h = (Words word.And, refl, sym h.0)
 operator_makes And Int64 d r h = absurd (no_bits d h.1)
 operator_makes And datatype.Bool d r h = (Bools truth_of.And, refl, sym h.0)

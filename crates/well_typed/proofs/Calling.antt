@@ -42,6 +42,7 @@ use Rattle.name_resolution.specs.Values.{TypedValue, TypedCall, shape_returned, 
 use Rattle.name_resolution.specs.Order as order
 use Rattle.name_resolution.specs.Functions.{slot_written, slots_written, given_back, typed_functions, with_functions}
 use Rattle.name_resolution.proofs.SoundValues.{callee_there, mapped, some_is}
+use Rattle.program_typing.proofs.TreesOfValues.{no_number}
 use Rattle.reached_instances.specs.declared.instance.BoundDomain.{BoundDomain}
 use Rattle.reached_instances.specs.Domains as domains
 use Rattle.reached_instances.specs.Domains.{domain, domain_under, given_domain, call_domain, bound_below, binding_of}
@@ -111,7 +112,7 @@ good_value p w x v u g e = record { good = λ y f. good_as p w x y v u g (some_i
 is_number : (t : DataType) → typing.IsNumber t → IsNumber t
 is_number Uint64 h = tt
 is_number Int64 h = tt
-is_number datatype.Bool h = absurd h
+is_number datatype.Bool h = absurd (no_number h)
 
 pub good_built_in : (p : ProgramTree) (w : domains.Setting) (line : ℕ) (b : BuiltIn) (gs : List Argument) (xs : List TypedValue) (v : ValueType)
     → AllGood p w xs gs → IsBuiltInCall b gs v → GoodValue p w (built_in_value line b xs) v

@@ -25,6 +25,7 @@ use Rattle.program_trees.specs.Operators.{operator_on, element_made, operands_of
 use Rattle.program_trees.specs.Shapes.{shape_of}
 use Rattle.name_resolution.specs.Values.{TypedValue, operation_node, operation_made}
 use Rattle.name_resolution.proofs.SoundValues.{some_is}
+use Rattle.program_typing.proofs.TreesOfValues.{no_number, no_bits}
 use Rattle.reached_instances.specs.Domains.{Setting, domain, joined_domain}
 use Rattle.reached_instances.specs.Calls.{calls}
 use Rattle.well_typed.specs.Kinds.{scalar, Meet, operand_of, MayOperate, left_is_array, right_is_array}
@@ -51,33 +52,28 @@ word_public : (d : Protection) → (Uint64 ≡ datatype.Bool) ⊎ ((Uint64 ≡ U
 word_public d (inl e) = cc
 word_public d (inr e) = e.1
 
--- numbers with a sign are not worked on bit by bit
-no_bits : (d : Protection) → (Int64 ≡ datatype.Bool) ⊎ ((Int64 ≡ Uint64) × (d ≡ checked.Public)) → ⊥
-no_bits d (inl e) = cc
-no_bits d (inr e) = let no = e.0 in cc
-
 operator_suits : (sign : Operator) (t : DataType) (d : Protection) (r : DataType) (o : BinaryOperator) → OperatesOn sign t d r → Means sign t d r o
 operator_suits Add Uint64 d r o h e = suits (Words word.Add) o Uint64 d r (record { operand = refl; result = sym h.1; allowed = λ n. cc }) e
 operator_suits Add Int64 d r o h e = suits (Ints word.Add) o Int64 d r (record { operand = refl; result = sym h.1; allowed = (refl, λ n. cc) }) e
-operator_suits Add datatype.Bool d r o h e = absurd h.0
+operator_suits Add datatype.Bool d r o h e = absurd (no_number h.0)
 operator_suits Subtract Uint64 d r o h e = suits (Words word.Subtract) o Uint64 d r (record { operand = refl; result = sym h.1; allowed = λ n. cc }) e
 operator_suits Subtract Int64 d r o h e =
     suits (Ints word.Subtract) o Int64 d r (record { operand = refl; result = sym h.1; allowed = (refl, λ n. cc) }) e
-operator_suits Subtract datatype.Bool d r o h e = absurd h.0
+operator_suits Subtract datatype.Bool d r o h e = absurd (no_number h.0)
 operator_suits Multiply Uint64 d r o h e = suits (Words word.Multiply) o Uint64 d r (record { operand = refl; result = sym h.1; allowed = λ n. cc }) e
 operator_suits Multiply Int64 d r o h e =
     suits (Ints word.Multiply) o Int64 d r (record { operand = refl; result = sym h.1; allowed = (refl, λ n. cc) }) e
-operator_suits Multiply datatype.Bool d r o h e = absurd h.0
+operator_suits Multiply datatype.Bool d r o h e = absurd (no_number h.0)
 operator_suits Divide Uint64 d r o h e =
     suits (Words word.Divide) o Uint64 d r (record { operand = refl; result = sym h.1; allowed = λ n. ap bound_domain h.2 }) e
 operator_suits Divide Int64 d r o h e =
     suits (Ints word.Divide) o Int64 d r (record { operand = refl; result = sym h.1; allowed = (refl, λ n. ap bound_domain h.2) }) e
-operator_suits Divide datatype.Bool d r o h e = absurd h.0
+operator_suits Divide datatype.Bool d r o h e = absurd (no_number h.0)
 operator_suits Remainder Uint64 d r o h e =
     suits (Words word.Remainder) o Uint64 d r (record { operand = refl; result = sym h.1; allowed = λ n. ap bound_domain h.2 }) e
 operator_suits Remainder Int64 d r o h e =
     suits (Ints word.Remainder) o Int64 d r (record { operand = refl; result = sym h.1; allowed = (refl, λ n. ap bound_domain h.2) }) e
-operator_suits Remainder datatype.Bool d r o h e = absurd h.0
+operator_suits Remainder datatype.Bool d r o h e = absurd (no_number h.0)
 operator_suits Equal Uint64 d r o h e = suits (Words word.Equal) o Uint64 d r (record { operand = refl; result = sym h; allowed = λ n. cc }) e
 operator_suits Equal Int64 d r o h e = suits (Ints word.Equal) o Int64 d r (record { operand = refl; result = sym h; allowed = (refl, λ n. cc) }) e
 operator_suits Equal datatype.Bool d r o h e = suits (Bools truth.Equal) o datatype.Bool d r (record { operand = refl; result = sym h; allowed = tt }) e
@@ -87,20 +83,20 @@ operator_suits NotEqual Int64 d r o h e =
 operator_suits NotEqual datatype.Bool d r o h e = suits (Bools truth.NotEqual) o datatype.Bool d r (record { operand = refl; result = sym h; allowed = tt }) e
 operator_suits Less Uint64 d r o h e = suits (Words word.Less) o Uint64 d r (record { operand = refl; result = sym h.1; allowed = λ n. cc }) e
 operator_suits Less Int64 d r o h e = suits (Ints word.Less) o Int64 d r (record { operand = refl; result = sym h.1; allowed = (refl, λ n. cc) }) e
-operator_suits Less datatype.Bool d r o h e = absurd h.0
+operator_suits Less datatype.Bool d r o h e = absurd (no_number h.0)
 operator_suits LessOrEqual Uint64 d r o h e = suits (Words word.LessOrEqual) o Uint64 d r (record { operand = refl; result = sym h.1; allowed = λ n. cc }) e
 operator_suits LessOrEqual Int64 d r o h e =
     suits (Ints word.LessOrEqual) o Int64 d r (record { operand = refl; result = sym h.1; allowed = (refl, λ n. cc) }) e
-operator_suits LessOrEqual datatype.Bool d r o h e = absurd h.0
+operator_suits LessOrEqual datatype.Bool d r o h e = absurd (no_number h.0)
 operator_suits Greater Uint64 d r o h e = suits (Words word.Greater) o Uint64 d r (record { operand = refl; result = sym h.1; allowed = λ n. cc }) e
 operator_suits Greater Int64 d r o h e =
     suits (Ints word.Greater) o Int64 d r (record { operand = refl; result = sym h.1; allowed = (refl, λ n. cc) }) e
-operator_suits Greater datatype.Bool d r o h e = absurd h.0
+operator_suits Greater datatype.Bool d r o h e = absurd (no_number h.0)
 operator_suits GreaterOrEqual Uint64 d r o h e =
     suits (Words word.GreaterOrEqual) o Uint64 d r (record { operand = refl; result = sym h.1; allowed = λ n. cc }) e
 operator_suits GreaterOrEqual Int64 d r o h e =
     suits (Ints word.GreaterOrEqual) o Int64 d r (record { operand = refl; result = sym h.1; allowed = (refl, λ n. cc) }) e
-operator_suits GreaterOrEqual datatype.Bool d r o h e = absurd h.0
+operator_suits GreaterOrEqual datatype.Bool d r o h e = absurd (no_number h.0)
 operator_suits And Uint64 d r o h e =
     suits (Words word.And) o Uint64 d r (record { operand = refl; result = sym h.0; allowed = λ n. ap bound_domain (word_public d h.1) }) e
 operator_suits And Int64 d r o h e = absurd (no_bits d h.1)
