@@ -10,7 +10,7 @@ from tree import (
 PUBLIC = "public"
 KNOWN_KIND = "shared3p"
 ALWAYS_THERE = {"size": 1, "cat": 2}
-BROUGHT_BY = {"stdlib": {"sum": 1}, "shared3p": {"sum": 1, "bitExtract": 1}}
+BROUGHT_BY = {"stdlib": {"sum": 1}, "shared3p": {"sum": 1, "bitExtract": 1, "lookup": 2}}
 ARITHMETIC = frozenset("+ - * / %".split())
 DIVISIONS = frozenset("/ %".split())
 EQUALITIES = frozenset("== !=".split())
@@ -443,10 +443,12 @@ class BodyChecker:
         first = found[0]
         if call.name == "cat":
             return self.joined(call, first, found[1])
+        if call.name == "lookup":
+            return self.looked_up(call, first, found[1])
         if call.name == "size":
             good, result = first.dimension == 1, Type(PUBLIC, Data.NUMBER, 0)
         elif call.name == "sum":
-            good, result = first.dimension == 1 and first.data == Data.NUMBER, Type(first.domain, Data.NUMBER, 0)
+            good, result = first.dimension == 1 and first.data.is_number, Type(first.domain, first.data, 0)
         else:
             good, result = first.data == Data.NUMBER, Type(first.domain, Data.TRUTH, 1)
         if not good:
@@ -463,6 +465,17 @@ class BodyChecker:
             self.refuse(10, call.place)
             return None
         return first if first.private else second
+
+    def looked_up(self, call: Call, array: Type, index: Type) -> Typing:
+        """The type of `lookup`."""
+        private = array.private or index.private
+        if array.dimension == 0 or not array.data.is_number or index.data != Data.NUMBER or not private:
+            self.refuse(3, call.place)
+            return None
+        if array.private and index.private and array.domain != index.domain:
+            self.refuse(10, call.place)
+            return None
+        return Type(array.domain if array.private else index.domain, array.data, index.dimension)
 
     def own_call(self, call: Call, number: int, found: list[Type]) -> Typing:
         """The type of a call of a function of the program, which reaches an instance."""
@@ -538,11 +551,11 @@ def data_fits(operator: str, left: Data, right: Data, private: bool) -> bool:
     if left != right:
         return False
     if operator in ARITHMETIC or operator in ORDERINGS:
-        return left == Data.NUMBER
+        return left.is_number
     if operator in EQUALITIES:
         return True
     if operator in BITWISE:
-        return left == Data.TRUTH or not private
+        return left == Data.TRUTH or left == Data.NUMBER and not private
     return left == Data.TRUTH
 
 

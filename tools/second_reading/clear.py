@@ -25,11 +25,11 @@ class ValueType:
 
     @property
     def ring(self) -> Ring:
-        return Ring.ADDITIVE if self.data is Data.NUMBER else Ring.BITWISE
+        return Ring.ADDITIVE if self.data.is_number else Ring.BITWISE
 
     def gate_size(self, count: int) -> int:
         """How many words gates have of so many elements."""
-        return count if self.data is Data.NUMBER else words_for(count)
+        return count if self.data.is_number else words_for(count)
 
     def gate_words(self, elements) -> tuple[int, ...]:
         """The words that gates have of elements."""
@@ -38,7 +38,19 @@ class ValueType:
 
 def gate_words(data: Data, elements) -> tuple[int, ...]:
     """Numbers are their own words; truth values are packed."""
-    return tuple(elements) if data is Data.NUMBER else tuple(packed(elements))
+    return tuple(elements) if data.is_number else tuple(packed(elements))
+
+
+def signed(word: int) -> int:
+    """The number with a sign that a word stands for, by two's complement."""
+    return word - MASK - 1 if word >> 63 else word
+
+
+def shown(data: Data, words) -> list[str]:
+    """Elements as they are printed."""
+    if data is Data.TRUTH:
+        return ["true" if word else "false" for word in words]
+    return [str(signed(word) if data is Data.SIGNED else word) for word in words]
 
 
 @dataclass(frozen=True)
@@ -77,8 +89,7 @@ class Event:
 
     def line(self) -> str:
         head = "open" if self.name is None else f"publish {self.name}"
-        shown = [str(word) if self.data is Data.NUMBER else ("true" if word else "false") for word in self.words]
-        return " ".join([head, *shown])
+        return " ".join([head, *shown(self.data, self.words)])
 
 
 @dataclass
@@ -163,7 +174,20 @@ WORD_OPERATORS = {
     "<": lambda u, v: int(u < v), "<=": lambda u, v: int(u <= v), ">": lambda u, v: int(u > v),
     ">=": lambda u, v: int(u >= v), "&": lambda u, v: u & v, "|": lambda u, v: u | v, "^": lambda u, v: u ^ v,
 }
+SIGNED_OPERATORS = {
+    **WORD_OPERATORS,
+    "/": lambda u, v: quotient(signed(u), signed(v)) & MASK,
+    "%": lambda u, v: (signed(u) - signed(v) * quotient(signed(u), signed(v))) & MASK,
+    "<": lambda u, v: int(signed(u) < signed(v)), "<=": lambda u, v: int(signed(u) <= signed(v)),
+    ">": lambda u, v: int(signed(u) > signed(v)), ">=": lambda u, v: int(signed(u) >= signed(v)),
+}
 COMPARING = ("==", "!=", "<", "<=", ">", ">=")
+
+
+def quotient(dividend: int, divisor: int) -> int:
+    """Towards 0."""
+    found = abs(dividend) // abs(divisor)
+    return found if (dividend < 0) == (divisor < 0) else -found
 
 
 @dataclass
@@ -290,7 +314,9 @@ class Evaluation:
         if node.name == "size":
             return ValueType(False, Data.NUMBER, False)
         if node.name == "sum":
-            return ValueType(private, Data.NUMBER, False)
+            return ValueType(private, types[0].data, False)
+        if node.name == "lookup":
+            return ValueType(private, types[0].data, types[1].array)
         if node.name == "cat":
             return ValueType(private, types[0].data, True)
         if node.name == "bitExtract":
@@ -520,7 +546,7 @@ class Evaluation:
         self.charge(1)
         self.charge_rest(len(value.words))
         words, number = value.words, value.number
-        if value.type.data is not data:
+        if value.type.data.is_number != data.is_number:
             words = tuple(int(word != 0) for word in words)
             if value.type.private:
                 number = self.making(lambda made: self.cast_gates(made, data, value))
@@ -530,7 +556,7 @@ class Evaluation:
     def cast_gates(made: GateList, data: Data, value: Value) -> int:
         """The gates of a private cast."""
         count = len(value.words)
-        if data is Data.NUMBER:
+        if data.is_number:
             return made.one(Kind.CONVERT, made.unpack(value.number, count))
         return made.flip(made.pack(made.equal_to_zero(value.number)), count)
 
@@ -629,7 +655,7 @@ class Evaluation:
         self.charge_rest(size)
         first = left.words if left.type.array else left.words * size
         second = right.words if right.type.array else right.words * size
-        function = WORD_OPERATORS[operator]
+        function = (SIGNED_OPERATORS if left.type.data is Data.SIGNED else WORD_OPERATORS)[operator]
         words = tuple(function(u, v) for u, v in zip(first, second))
         data = Data.TRUTH if operator in COMPARING else left.type.data
         private = left.type.private or right.type.private
@@ -652,7 +678,7 @@ class Evaluation:
             return made.make(Kind.MULTIPLY_PUBLIC, (number,), len(known), left.type.ring, known)
         if left.type.data is Data.TRUTH:
             return self.truth_gates(made, operator, u, v, size)
-        return self.number_gates(made, operator, u, v, size)
+        return self.number_gates(made, operator, u, v, size, made.less_signed if left.type.data is Data.SIGNED else made.less)
 
     @staticmethod
     def truth_gates(made: GateList, operator: str, u: int, v: int, size: int) -> int:
@@ -666,7 +692,7 @@ class Evaluation:
         return made.two(Kind.XOR, either, both)
 
     @staticmethod
-    def number_gates(made: GateList, operator: str, u: int, v: int, size: int) -> int:
+    def number_gates(made: GateList, operator: str, u: int, v: int, size: int, less_of) -> int:
         if operator == "+":
             return made.two(Kind.ADD, u, v)
         if operator == "-":
@@ -678,7 +704,7 @@ class Evaluation:
             return equal if operator == "==" else made.flip(equal, size)
         if operator not in ("<", "<=", ">", ">="):
             raise ValueError(operator)
-        less = made.pack(made.less(u, v) if operator in ("<", ">=") else made.less(v, u))
+        less = made.pack(less_of(u, v) if operator in ("<", ">=") else less_of(v, u))
         return less if operator in ("<", ">") else made.flip(less, size)
 
     # Calls
@@ -688,6 +714,9 @@ class Evaluation:
             return self.call_function(node, frame)
         if node.name == "cat":
             return self.concatenation(node, frame)
+        if node.name == "lookup":
+            array, index = (self.expression(argument, frame) for argument in node.arguments)
+            return self.looked_up(self.wanted(array, True), self.wanted(index, True), node)
         operand = self.expression(node.arguments[0], frame)
         self.charge(1)
         if node.name == "size":
@@ -716,6 +745,17 @@ class Evaluation:
         """Two arrays of one type, end to end."""
         number = self.making(lambda made: joined(made, left, right)) if left.type.private else None
         return Value(left.type, left.words + right.words, number)
+
+    def looked_up(self, array: Value, index: Value, node: tree.Node) -> Value:
+        """`lookup`, of a private array and private places."""
+        self.charge(1)
+        size = len(array.words) * len(index.words)
+        if size > ARRAY_LIMIT:
+            self.trap("Large", node)
+        self.charge_rest(size)
+        words = tuple(array.words[place] if place < len(array.words) else 0 for place in index.words)
+        number = self.making(lambda made: made.looked_up(array.number, index.number))
+        return Value(ValueType(True, array.type.data, index.type.array), words, number)
 
     def bit_extract(self, node: tree.Call, operand: Value) -> Value:
         size = 64 * len(operand.words)

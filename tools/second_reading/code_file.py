@@ -6,7 +6,7 @@ import struct
 from dataclasses import dataclass, field
 from enum import IntEnum
 
-PRIVATE, TRUTH, ARRAY = 1, 2, 4
+PRIVATE, TRUTH, ARRAY, SIGNED = 1, 2, 4, 8
 NOTHING = 255
 NO_RESULT = 65535
 SIGNATURE = b"SC3P"
@@ -17,13 +17,21 @@ NAME_FORM = re.compile(rb"[A-Za-z0-9_]{1,64}")
 
 @dataclass(frozen=True)
 class Rules:
-    """What changed between versions: the fifth byte, and whether a call says how many arguments it has; else they are as many as its function's parameters."""
+    """What changed between versions: the fifth byte; whether a call says how many arguments it has, else they are as many as its function's parameters;
+    and whether there are numbers with a sign and look-ups."""
 
     version: int
     counts_arguments: bool
+    is_wide: bool
+
+    def is_kind(self, kind: int) -> bool:
+        return kind < 8 or self.is_wide and kind < 16 and not kind & TRUTH
+
+    def is_tag(self, tag: int) -> bool:
+        return tag in LAYOUTS and (self.is_wide or tag != Tag.LOOKUP)
 
 
-FIRST, SECOND = Rules(1, False), Rules(2, True)
+FIRST, SECOND = Rules(1, False, False), Rules(2, True, True)
 
 
 class Tag(IntEnum):
@@ -52,6 +60,7 @@ class Tag(IntEnum):
     CALL = 0x16
     RETURN = 0x17
     RETURN_NONE = 0x18
+    LOOKUP = 0x19
 
 
 # Each letter is an operand: r a register, n a name, f a function, t a target, o an operator, v the value of a branch, l a line, w a word;
@@ -60,7 +69,7 @@ LAYOUTS = {
     Tag.LITERAL: "rw", Tag.MOVE: "rr", Tag.STORE: "rr", Tag.BINARY: "orrrl", Tag.NOT: "rr", Tag.CAST: "rr", Tag.CLASSIFY: "rr",
     Tag.FILL: "rrrl", Tag.AT: "rrrl", Tag.PUT: "rrrl", Tag.SIZE: "rr", Tag.CAT: "rrrl", Tag.SUM: "rr", Tag.BITS: "rrl",
     Tag.DECLASSIFY: "rr", Tag.ARGUMENT: "rnl", Tag.PUBLISH: "nr", Tag.ASSERT: "rl", Tag.BRANCH: "rvt", Tag.JUMP: "t", Tag.CALL: "fral",
-    Tag.RETURN: "r", Tag.RETURN_NONE: "",
+    Tag.RETURN: "r", Tag.RETURN_NONE: "", Tag.LOOKUP: "rrrl",
 }
 WIDTHS = {"r": 2, "n": 2, "f": 2, "t": 2, "o": 1, "v": 1, "l": 4, "w": 8}
 BOUNDS = {"o": len(OPERATORS) - 1, "v": 1}
@@ -137,12 +146,12 @@ class ByteReader:
     def head(self) -> tuple[Function, int]:
         """A function without its instructions, and how many they are."""
         parameters = self.number(2)
-        result = self.bounded(1, lambda kind: kind <= 7 or kind == NOTHING)
-        kinds = tuple(self.bounded(1, lambda kind: kind <= 7) for _ in range(self.number(2)))
+        result = self.bounded(1, lambda kind: self.rules.is_kind(kind) or kind == NOTHING)
+        kinds = tuple(self.bounded(1, self.rules.is_kind) for _ in range(self.number(2)))
         return Function(parameters, result, kinds), self.number(2)
 
     def instruction(self, functions: list[Function]) -> Instruction:
-        tag = Tag(self.bounded(1, lambda byte: byte in LAYOUTS))
+        tag = Tag(self.bounded(1, self.rules.is_tag))
         operands: list[int] = []
         for letter in LAYOUTS[tag]:
             if letter == "a":
@@ -281,13 +290,15 @@ class Verifier:
 def operation_fits(operator: str, to: int, left: int, right: int) -> bool:
     """Whether an operator takes these kinds, and gives that one."""
     truth, private = left & TRUTH, (left | right) & PRIVATE
-    if truth != right & TRUTH:
+    if (left ^ right) & (TRUTH | SIGNED):
+        return False
+    if left & SIGNED and operator in ("&", "|", "^"):
         return False
     if truth and operator not in ("==", "!=", "&", "|", "^") or not truth and private and operator in ("/", "%", "&", "|", "^"):
         return False
     if (left ^ right) & PRIVATE and not (operator == "*" or truth and operator == "&"):
         return False
-    result = TRUTH if truth or operator in COMPARISONS else 0
+    result = TRUTH if truth or operator in COMPARISONS else left & SIGNED
     return to == private | result | (left | right) & ARRAY
 
 
@@ -295,7 +306,7 @@ RULES = {
     Tag.MOVE: lambda to, source: to == source,
     Tag.STORE: lambda to, source: to == source,
     Tag.NOT: lambda to, source: to == source and source & TRUTH,
-    Tag.CAST: lambda to, source: to & ~TRUTH == source & ~TRUTH,
+    Tag.CAST: lambda to, source: to & (PRIVATE | ARRAY) == source & (PRIVATE | ARRAY),
     Tag.CLASSIFY: lambda to, source: not source & PRIVATE and to == source | PRIVATE,
     Tag.FILL: lambda to, size, value: size == 0 and not value & ARRAY and to == value | ARRAY,
     Tag.AT: lambda to, array, index: array & ARRAY and index == 0 and to == array & ~ARRAY,
@@ -303,6 +314,8 @@ RULES = {
     Tag.SIZE: lambda to, source: source & ARRAY and to == 0,
     Tag.CAT: lambda to, left, right: to == left == right and to & ARRAY,
     Tag.SUM: lambda to, source: source & ARRAY and not source & TRUTH and to == source & ~ARRAY,
-    Tag.BITS: lambda to, source: not source & TRUTH and to == source & PRIVATE | TRUTH | ARRAY,
+    Tag.LOOKUP: lambda to, array, index: array & ARRAY and array & PRIVATE and not array & TRUTH and index & ~ARRAY == PRIVATE
+    and to == array & ~ARRAY | index & ARRAY,
+    Tag.BITS: lambda to, source: not source & (TRUTH | SIGNED) and to == source & PRIVATE | TRUTH | ARRAY,
     Tag.DECLASSIFY: lambda to, source: to == source & ~PRIVATE,
 }

@@ -6,7 +6,7 @@ from dataclasses import dataclass, field
 
 import tree
 from checker import BodyChecker, Findings, Instance, Names, Type, Typing, checked_bodies
-from code_file import ARRAY, COMPARISONS, NOTHING, OPERATORS, PRIVATE, TRUTH, Code, Function, Tag
+from code_file import ARRAY, COMPARISONS, NOTHING, OPERATORS, PRIVATE, SIGNED, TRUTH, Code, Function, Tag
 from limits import function_size, in_code_order, reached
 from tree import Data, Node, Program
 
@@ -17,7 +17,12 @@ UNSAID = (Tag.LITERAL, Tag.MOVE, Tag.CLASSIFY, Tag.JUMP, Tag.RETURN, Tag.RETURN_
 
 def kind_of(type_: Type) -> int:
     """The kind of a register for values of a type."""
-    return (PRIVATE if type_.private else 0) | (TRUTH if type_.data is Data.TRUTH else 0) | (ARRAY if type_.dimension else 0)
+    return (PRIVATE if type_.private else 0) | data_of(type_.data) | (ARRAY if type_.dimension else 0)
+
+
+def data_of(data: Data) -> int:
+    """The bit of a data type."""
+    return {Data.NUMBER: 0, Data.SIGNED: SIGNED, Data.TRUTH: TRUTH}[data]
 
 
 class TypeRecorder(BodyChecker):
@@ -166,8 +171,8 @@ class FormMaker:
             case tree.Flip():
                 return self.one(Tag.NOT, self.value(node.inner), lambda kind: kind)
             case tree.Cast():
-                data = TRUTH if node.data is Data.TRUTH else 0
-                return self.one(Tag.CAST, self.value(node.inner), lambda kind: kind & ~TRUTH | data)
+                data = data_of(node.data)
+                return self.one(Tag.CAST, self.value(node.inner), lambda kind: kind & (PRIVATE | ARRAY) | data)
             case tree.Declassify():
                 return self.one(Tag.DECLASSIFY, self.value(node.inner), lambda kind: kind & ~PRIVATE)
             case tree.Publish():
@@ -201,7 +206,7 @@ class FormMaker:
         private = (left | right) & PRIVATE
         if not (operator == "*" or operator == "&" and left_type.data is Data.TRUTH):
             left, right = self.stored(left, private), self.stored(right, private)
-        to = private | (left | right) & ARRAY | (TRUTH if operator in COMPARISONS else left & TRUTH)
+        to = private | (left | right) & ARRAY | (TRUTH if operator in COMPARISONS else left & (TRUTH | SIGNED))
         has_line = node.operator == operator or to & ARRAY
         self.does(Tag.BINARY, operator, to, left, right, self.line(node) if has_line else 0)
         return to
@@ -231,6 +236,12 @@ class FormMaker:
                 self.stored(self.value(argument), wanted)
             self.does(Tag.CAT, wanted, wanted, wanted, self.line(node))
             return wanted
+        if node.name == "lookup":
+            kinds = [self.value(argument) for argument in node.arguments]
+            array, index = (self.stored(kind, PRIVATE) for kind in kinds)
+            to = array & ~ARRAY | index & ARRAY
+            self.does(Tag.LOOKUP, to, array, index, self.line(node))
+            return to
         kind = self.value(node.arguments[0])
         if node.name == "bitExtract":
             self.does(Tag.BITS, kind & PRIVATE | TRUTH | ARRAY, kind, self.line(node))

@@ -16,7 +16,7 @@ class StrayRead(Exception):
 
 
 def type_of(kind: int) -> ValueType:
-    data = Data.TRUTH if kind & code_file.TRUTH else Data.NUMBER
+    data = Data.TRUTH if kind & code_file.TRUTH else Data.SIGNED if kind & code_file.SIGNED else Data.NUMBER
     return ValueType(bool(kind & code_file.PRIVATE), data, bool(kind & code_file.ARRAY))
 
 
@@ -94,7 +94,7 @@ class CodeRun(Evaluation):
             Tag.BINARY: self.do_binary, Tag.NOT: lambda to, source: self.put(to, self.flip(self.numbered(source))),
             Tag.CAST: self.do_cast, Tag.CLASSIFY: lambda to, source: self.put(to, self.wanted(self.value(source), True)),
             Tag.FILL: self.do_fill, Tag.AT: self.do_at, Tag.PUT: self.do_put, Tag.SIZE: self.do_size, Tag.CAT: self.do_cat,
-            Tag.SUM: self.do_sum, Tag.BITS: self.do_bits, Tag.ARGUMENT: self.do_argument,
+            Tag.SUM: self.do_sum, Tag.BITS: self.do_bits, Tag.LOOKUP: self.do_lookup, Tag.ARGUMENT: self.do_argument,
             Tag.DECLASSIFY: lambda to, source: self.put(to, self.declassify(self.numbered(source))),
             Tag.PUBLISH: lambda name, source: self.publish(self.code.names[name], self.numbered(source)),
             Tag.ASSERT: self.do_assert, Tag.BRANCH: self.do_branch, Tag.JUMP: self.do_jump, Tag.CALL: self.do_call,
@@ -112,7 +112,8 @@ class CodeRun(Evaluation):
 
     def do_cast(self, to: int, source: int):
         kind = type_of(self.calls[-1].function.kinds[to])
-        value = self.value(source) if self.value(source).type == kind else self.numbered(source)
+        keeps = self.value(source).type.data.is_number == kind.data.is_number
+        value = self.value(source) if keeps else self.numbered(source)
         self.put(to, self.cast(kind.data, value))
 
     def do_fill(self, to: int, size: int, value: int, line: int):
@@ -161,6 +162,9 @@ class CodeRun(Evaluation):
         operand = self.numbered(source)
         self.charge(1)
         self.put(to, self.bit_extract(line, operand))
+
+    def do_lookup(self, to: int, array: int, index: int, line: int):
+        self.put(to, self.looked_up(self.numbered(array), self.numbered(index), line))
 
     def do_argument(self, to: int, name: int, line: int):
         kind = type_of(self.calls[-1].function.kinds[to])

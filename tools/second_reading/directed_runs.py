@@ -21,8 +21,10 @@ SIZES = (0, 1, 2, 63, 64, 65, 511, 512, 513, 1024, 1025)
 TRUTH_BLOCKS = (32_768, 32_769)
 TRUTH_SIZES = (1, 2, 63, 64, 65, 127, 128, 129, 513)
 PRIVATE = {"a": (Data.NUMBER, True), "b": (Data.NUMBER, True), "c": (Data.TRUTH, True), "d": (Data.TRUTH, True),
-           "s": (Data.NUMBER, False), "t": (Data.TRUTH, False)}
-PUBLIC = {"k": (Data.NUMBER, True), "l": (Data.TRUTH, True), "n": (Data.NUMBER, False), "f": (Data.TRUTH, False)}
+           "g": (Data.SIGNED, True), "h": (Data.SIGNED, True),
+           "s": (Data.NUMBER, False), "t": (Data.TRUTH, False), "u": (Data.SIGNED, False)}
+PUBLIC = {"k": (Data.NUMBER, True), "l": (Data.TRUTH, True), "e": (Data.SIGNED, True),
+          "n": (Data.NUMBER, False), "f": (Data.TRUTH, False), "o": (Data.SIGNED, False)}
 OPERATIONS = (
     "a + b", "a - b", "a * b", "a + s", "s - a", "a * s", "s * b", "a + k", "k - a", "a * k", "k * s", "n * a", "a * n", "s + n",
     "s * n", "s * s",
@@ -33,6 +35,15 @@ OPERATIONS = (
     "(uint64) c", "(uint64) t", "(bool) a", "(bool) s", "(uint64) a", "(bool) c",
     "cat(a, b)", "cat(c, d)", "cat(a, k)", "cat(l, d)", "sum(a)", "sum(a * b)", "sum((uint64) c)", "bitExtract(s)", "a[0]", "c[0]",
     "bitExtract(s * s)[63]", "a[size(a) - 1]", "(uint64) (a < b)", "a * (uint64) c", "(bool) (a * b)", "!(a == b)",
+    "g + h", "g - h", "g * h", "g + u", "u - g", "g * u", "g + e", "e - g", "g * e", "o * g", "u + o", "u * u",
+    "g == h", "g != h", "g < h", "g <= h", "g > h", "g >= h", "u < g", "g >= e", "o > g", "u < u", "u <= o",
+    "(int64) c", "(int64) t", "(bool) g", "(int64) a", "(uint64) g", "(int64) g", "(uint64) u < s", "(int64) s < u",
+    "cat(g, h)", "cat(g, e)", "sum(g)", "sum(g * h)", "g[0]", "(int64) (g < h)",
+    "lookup(a, s)", "lookup(a, n)", "lookup(k, s)", "lookup(g, s)", "lookup(e, s)",
+)
+LOOK_UPS = (
+    (0, 'lookup(a, s)'), (0, 'lookup(a, cat(a, k))'), (1, 'lookup(a, b)'), (2, 'lookup(a, (uint64) c)'), (3, 'lookup(g, (uint64) t)'), (64, 'lookup(e, (uint64) c)'), (3, 'lookup(g, k)'), (17, 'lookup(k, a)'),
+    (65, 'lookup(g, a)'), (513, 'lookup(a, s)'), (2, 'lookup(g, s) < u'), (1024, 'lookup(a, s)'),
 )
 OF_TRUTHS = (
     'c[0] = t; c[size(c) - 1] = d[0]; publish("c", c); publish("d", declassify(c ^ d));',
@@ -99,7 +110,7 @@ def case_of(source: random.Random, body: str, size: int) -> Case:
 def operations(source: random.Random) -> Iterator[Case]:
     """Each operation at each size, published privately or opened."""
     for operation, size in product(OPERATIONS, SIZES):
-        arrays = any(letter in operation for letter in "abcdkl") and not operation.startswith(("bitExtract", "t ", "f ", "!f", "!t"))
+        arrays = re.search(r"\b[abcdeghkl]\b", operation) and not operation.startswith(("bitExtract", "t ", "f ", "!f", "!t"))
         if not arrays and size > 1:
             continue
         costly = any(sign in operation for sign in ("<", ">"))
@@ -109,6 +120,8 @@ def operations(source: random.Random) -> Iterator[Case]:
         yield case_of(source, f'publish("r", {result});', size)
     for body, size in product(OF_TRUTHS, TRUTH_SIZES):
         yield case_of(source, body, size)
+    for size, operation in LOOK_UPS:
+        yield case_of(source, f'publish("r", {operation}); publish("q", declassify({operation}));', size)
     for operation, size in product(("c & d", "declassify(c | d)", "c", "declassify(!c)", "declassify(f & c)", "cat(c, d)[size(c)]"), TRUTH_BLOCKS):
         yield case_of(source, f'publish("r", {operation});', size)
 

@@ -5,7 +5,8 @@ import re
 from functools import lru_cache
 
 from clear import Input, ValueType
-from json_text import NoJson, json_value
+from gates import MASK
+from json_text import Below, NoJson, json_value
 from refusals import CallRefused
 from tree import Data
 
@@ -18,7 +19,9 @@ class EntryFault(Exception):
 
 
 def is_of(value, data: Data) -> bool:
-    """Whether a scalar of a file is a word, or a truth value."""
+    """Whether a scalar of a file is a word, a number with a sign, or a truth value."""
+    if data is Data.SIGNED:
+        return type(value) is Below or type(value) is int and value < 1 << 63
     return type(value) is (int if data is Data.NUMBER else bool)
 
 
@@ -51,7 +54,7 @@ class EntryReader:
         if not all(is_of(one, data) for one in scalars):
             raise self.bad("value")
         self.count(len(scalars))
-        return array, tuple(int(one) for one in scalars)
+        return array, tuple(int(one) & MASK for one in scalars)
 
     def shape(self) -> tuple[bool, tuple[int, ...]]:
         """Likewise of a private entry of a public file; the words are zeros."""
@@ -70,7 +73,7 @@ class EntryReader:
     def read(self, taken: set[str], has_shapes: bool) -> Input:
         name = self.name(taken)
         private = self.one_of("domain", ("public", "private")) == "private"
-        data = Data(self.one_of("type", ("uint64", "bool")))
+        data = Data(self.one_of("type", ("uint64", "int64", "bool")))
         array, words = self.shape() if private and has_shapes else self.value(data)
         return Input(name, ValueType(private, data, array), words)
 

@@ -34,10 +34,11 @@ DOMAINS = (
     '"public"', '"private"', '"Private"', '"p"', '""', '"public "', "null", "true", "0", "[]", '["private"]', '"privat\\u0065"',
     '"shared3p"',
 )
-TYPES = ('"uint64"', '"bool"', '"uint"', '"Bool"', '"int64"', '"uint64[[1]]"', '""', "null", "64", "[]", '"boo\\u006c"')
+TYPES = ('"uint64"', '"bool"', '"uint"', '"Bool"', '"int64"', '"int"', '"Int64"', '"uint64[[1]]"', '""', "null", "64", "[]", '"boo\\u006c"')
 VALUES = (
     "0", "1", "5", "18446744073709551615", "18446744073709551616", "99999999999999999999999", "-1", "-0", "0.0", "1.0", "1e0", "1E2",
-    "0e0", "1.5", "9223372036854775808", "-9223372036854775809", "true", "false", "null", '"6"', '"true"', '""', "{}", "[]", "[0]",
+    "0e0", "1.5", "9223372036854775808", "-9223372036854775809",
+    "-9223372036854775808", "9223372036854775807", "-1.0", "-1e0", "[-1,1]", "[-0]", "[-9223372036854775808,9223372036854775808]", "true", "false", "null", '"6"', '"true"', '""', "{}", "[]", "[0]",
     "[true]", "[1,2,3]", "[true,false]", "[1,true]", "[true,1]", "[[1]]", "[[]]", "[null]", "[1,null]", '["1"]', "[1,-1]", "[1.0]",
     "[1,2,18446744073709551616]", "{\"value\":1}", "[{}]", "1e999", "01", "[01]", "[1,]",
 )
@@ -80,6 +81,8 @@ def entries_of(has_shapes: bool) -> Iterator[dict[str, str | None]]:
         yield {**base, field: None}
     for text in VALUES:
         yield {**GOOD, "type": '"bool"', "value": text}
+        yield {**GOOD, "type": '"int64"', "value": text}
+        yield {**GOOD, "domain": '"public"', "type": '"int64"', "value": text}
         yield {**GOOD, "domain": '"public"', "value": text}
     for bits in range(16):
         yield {**base, **{field: WRONG[field] for place, field in enumerate(names) if bits >> place & 1}}
@@ -161,7 +164,7 @@ SHARED_SHAPES = ('"scalar"', 0, 1, 2, 63, 64, 65, 127, 128, 129)
 
 def share_files() -> Iterator[bytes]:
     """Share files of one value of each type, with words that are as many as its elements, as the words that hold so many truth values, and others."""
-    for kind, shape in itertools.product(("bool", "uint64"), SHARED_SHAPES):
+    for kind, shape in itertools.product(("bool", "uint64", "int64"), SHARED_SHAPES):
         count = shape if isinstance(shape, int) else 1
         for size in sorted({0, 1, 2, 3, count, count + 1, -(-count // 64), count // 64}):
             words = ",".join(str(SHARE_WORDS[place % 4 if size > 1 else 2]) for place in range(size))

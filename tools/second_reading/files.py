@@ -5,7 +5,7 @@ import json
 import re
 import struct
 
-from clear import Input, Report
+from clear import Input, Report, signed
 from joint import LINKS
 from refusals import CallRefused
 from tree import Data
@@ -18,7 +18,8 @@ def compact(value) -> bytes:
 
 
 def shown_value(entry: Input):
-    words = [word if entry.type.data is Data.NUMBER else bool(word) for word in entry.words]
+    shown = {Data.NUMBER: int, Data.SIGNED: signed, Data.TRUTH: bool}[entry.type.data]
+    words = [shown(word) for word in entry.words]
     return words if entry.type.array else words[0]
 
 
@@ -102,6 +103,7 @@ def read_tapes(data: bytes) -> list[list[int]]:
 
 
 WORD_FORM = re.compile(rb"0|[1-9][0-9]{0,19}")
+BELOW_FORM = re.compile(rb"-[1-9][0-9]{0,18}")
 
 
 def lines_of(data: bytes) -> tuple[list[bytes], bool]:
@@ -130,6 +132,8 @@ def read_opened(data: bytes) -> list[int]:
 def opened_word(part: bytes, line: int) -> int:
     if part in (b"true", b"false"):
         return int(part == b"true")
+    if BELOW_FORM.fullmatch(part) and -int(part) <= 1 << 63:
+        return int(part) + (1 << 64)
     if not WORD_FORM.fullmatch(part) or int(part) >= 1 << 64:
         raise CallRefused(f"V1 line {line}", 4)
     return int(part)

@@ -61,6 +61,9 @@ class Kind(Enum):
     PUT = auto()
     REPEAT = auto()
     SUM = auto()
+    STRETCH = auto()
+    TILE = auto()
+    SUM_EACH = auto()
     PACK = auto()
     UNPACK = auto()
     REPEAT_BIT = auto()
@@ -201,6 +204,23 @@ class GateList:
             same = self.part(both, size, size)
         return self.one(Kind.LOW, below)
 
+    def less_signed(self, left: int, right: int) -> int:
+        """Likewise of numbers with a sign, by their words with half of all words added."""
+        size = self.sizes[left]
+        halves = self.make(Kind.CONSTANT, (), size, None, [1 << 63] * size)
+        return self.less(self.two(Kind.ADD, left, halves), self.two(Kind.ADD, right, halves))
+
+    def looked_up(self, array: int, index: int) -> int:
+        """The array's elements at places, 0 where it has none there."""
+        count, wanted = self.sizes[array], self.sizes[index]
+        size = count * wanted
+        stretched = self.make(Kind.STRETCH, (index,), size, None, (count,))
+        places = self.make(Kind.CONSTANT, (), size, None, list(range(count)) * wanted)
+        there = self.one(Kind.CONVERT, self.equal_to_zero(self.two(Kind.SUBTRACT, stretched, places)))
+        tiled = self.make(Kind.TILE, (array,), size, None, (wanted,))
+        product = self.two(Kind.MULTIPLY, tiled, there, Ring.ADDITIVE)
+        return self.make(Kind.SUM_EACH, (product,), wanted, None, (count,))
+
 
 def local_share(gate: Gate, operands: list[list[int]], miner: int) -> list[int]:
     """What a gate that sends nothing makes of one miner's shares."""
@@ -234,6 +254,12 @@ def local_share(gate: Gate, operands: list[list[int]], miner: int) -> list[int]:
         return first * gate.size
     if kind is Kind.SUM:
         return [sum(first) & MASK]
+    if kind is Kind.STRETCH:
+        return [word for word in first for _ in range(extra[0])]
+    if kind is Kind.TILE:
+        return first * extra[0]
+    if kind is Kind.SUM_EACH:
+        return [sum(first[part * extra[0] : (part + 1) * extra[0]]) & MASK for part in range(gate.size)]
     return bit_share(gate, operands)
 
 

@@ -17,8 +17,12 @@ class NoJson(Exception):
     """The bytes are no JSON."""
 
 
+class Below(int):
+    """A number from -2^63 to -1."""
+
+
 class Reader:
-    """Reads a text from its start; a number is an `int` where it is a word, else a `float`."""
+    """Reads a text from its start; a number is an `int` where it is a word, `Below` where it is one of those, else a `float`."""
 
     def __init__(self, text: str):
         self.text, self.place = text, 0
@@ -138,6 +142,8 @@ class Reader:
         sign, digits, rest = found.groups()
         if not sign and not rest and len(digits) <= 20 and int(digits) < WORD_BOUND:
             return int(digits)
+        if sign and not rest and len(digits) <= 20 and 1 <= int(digits) <= WORD_BOUND >> 1:
+            return Below(-int(digits))
         value = float(found.group())
         if value in (float("inf"), float("-inf")):
             raise NoJson

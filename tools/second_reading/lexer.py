@@ -8,7 +8,7 @@ NAME_LIMIT = 64
 WORD_END = 1 << 64
 
 KEYWORDS = frozenset(
-    "import kind domain template public void uint64 uint bool if else while do for break continue return assert "
+    "import kind domain template public void uint64 uint int64 int bool if else while do for break continue return assert "
     "true false argument publish declassify".split()
 )
 LONG_SIGNS = frozenset("== != <= >= && || += -= *= &= |= ^= ++ --".split())

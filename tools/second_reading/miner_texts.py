@@ -5,34 +5,44 @@ import re
 from dataclasses import dataclass
 from itertools import zip_longest
 
+from clear import shown
 from gates import MASK, unpacked, words_for
 from refusals import CallRefused
+from tree import Data
 
 NAME, WORD = r"[A-Za-z0-9_]{1,64}", r"(?:0|[1-9][0-9]*)"
-ELEMENTS = rf"(?: {WORD}| true| false)*"
+ELEMENTS = rf"(?: {WORD}| -[1-9][0-9]*| true| false)*"
 KINDS = "Length|Div|Index|Argument|Depth|Assert|Large"
 TOLD = re.compile(rf"open{ELEMENTS}|publish {NAME}{ELEMENTS}")
-# Of a number its words; of truth values how many they are, and then their words.
-SHARE = re.compile(rf"share ({NAME}) (?:(uint64)|(bool) ({WORD}))((?: {WORD})*)")
+# Of numbers their words; of truth values how many they are, and then their words.
+SHARE = re.compile(rf"share ({NAME}) (?:(u?int64)|(bool) ({WORD}))((?: {WORD})*)")
 END = re.compile(rf"end (?:(done)|(trap) (?:{KINDS}) line {WORD}|(budget)|(tape) [0-3] need {WORD} have {WORD}) cost {WORD}")
 STATUSES = (0, 1, 7, 8)
 # How large a word may be that stands after such a one.
 BOUNDS = {"need": 1 << 128, "line": 1 << 32}
 
 
+def is_bounded(word: str) -> bool:
+    """Whether an element isn't too large; one below 0 goes down to -2^63."""
+    if word.startswith("-"):
+        return -int(word) <= 1 << 63
+    return not word.isdigit() or int(word) < 1 << 64
+
+
 def are_bounded(line: str) -> bool:
     words = line.split(" ")
     if words[0] != "end":
         # (a name may be of digits alone)
-        return all(not word.isdigit() or int(word) < 1 << 64 for word in words[1 if words[0] == "open" else 2 :])
+        return all(is_bounded(word) for word in words[1 if words[0] == "open" else 2 :])
     return all(not word.isdigit() or int(word) < BOUNDS.get(before, 1 << 64) for before, word in zip(words, words[1:]))
 
 
 @dataclass(frozen=True)
 class Share:
-    """A line with a miner's share: the name, how many truth values there are (None of numbers), and the words."""
+    """A line with a miner's share: the name, the type, how many truth values there are (None of numbers), and the words."""
 
     name: str
+    kind: str
     count: int | None
     words: tuple[int, ...]
 
@@ -42,14 +52,14 @@ class Share:
 
     def compared(self) -> str:
         """The line as it is compared: of the words only how many they are."""
-        kind = "uint64" if self.count is None else f"bool {self.count}"
-        return f"share {self.name} {kind} {len(self.words)}"
+        count = "" if self.count is None else f" {self.count}"
+        return f"share {self.name} {self.kind}{count} {len(self.words)}"
 
 
 def share_in(line: str) -> Share | None:
     """The share in a line, where it is one."""
     found = SHARE.fullmatch(line)
-    return found and Share(found[1], None if found[2] else int(found[4]), tuple(int(word) for word in found[5].split()))
+    return found and Share(found[1], found[2] or found[3], None if found[2] else int(found[4]), tuple(int(word) for word in found[5].split()))
 
 
 def is_good(line: str) -> bool:
@@ -87,10 +97,10 @@ def together(three: tuple[str, str, str]) -> str:
         return three[0]
     columns = list(zip(*(share.words for share in shares)))
     if first.count is None:
-        shown = [str(sum(words) & MASK) for words in columns]
+        elements = [sum(words) & MASK for words in columns]
     else:
-        shown = ["true" if truth else "false" for truth in unpacked([x ^ y ^ z for x, y, z in columns], first.count)]
-    return " ".join(["publish", first.name, *shown])
+        elements = unpacked([x ^ y ^ z for x, y, z in columns], first.count)
+    return " ".join(["publish", first.name, *shown(Data(first.kind), elements)])
 
 
 def joined(parts: list[list[str]]) -> tuple[str, int]:

@@ -3,7 +3,7 @@ from __future__ import annotations
 
 from collections.abc import Callable
 
-from clear import Input, Value, ValueType
+from clear import Input, Value, ValueType, shown
 from code_file import Code
 from code_meaning import CodeRun
 from gates import INTERACTIVE, MASK, Gate, Kind, Ring, blocks_of, local_share, unpacked
@@ -135,16 +135,16 @@ class Node(CodeRun):
         words = tuple(self.run_gates())
         if value.type.data is Data.TRUTH:
             words = tuple(unpacked(words, len(value.words)))
-        self.lines.append(" ".join(["open", *shown(value, words)]))
+        self.lines.append(" ".join(["open", *shown(value.type.data, words)]))
         return words
 
     def publish(self, name: str, value: Value) -> None:
         super().publish(name, value)
         if value.type.private:
-            kind = ["uint64"] if value.type.data is Data.NUMBER else ["bool", str(len(value.words))]
+            kind = [value.type.data.value] if value.type.data.is_number else ["bool", str(len(value.words))]
             self.lines.append(" ".join(["share", name, *kind, *map(str, self.run_gates())]))
         else:
-            self.lines.append(" ".join(["publish", name, *shown(value, value.words)]))
+            self.lines.append(" ".join(["publish", name, *shown(value.type.data, value.words)]))
 
     def run_gates(self) -> list[int]:
         """Does what was made since; the words of the last gate, which opens or hands over."""
@@ -191,6 +191,3 @@ class Node(CodeRun):
         self.run_gates()
         return "".join(line + "\n" for line in [*self.lines, report.end_line()]), report.end.status
 
-
-def shown(value: Value, words) -> list[str]:
-    return [str(word) if value.type.data is Data.NUMBER else ("true" if word else "false") for word in words]

@@ -12,7 +12,7 @@ from tree import (
 )
 
 HEIGHT_LIMIT = 128
-DATA_TYPES = {"uint64": Data.NUMBER, "uint": Data.NUMBER, "bool": Data.TRUTH}
+DATA_TYPES = {"uint64": Data.NUMBER, "uint": Data.NUMBER, "int64": Data.SIGNED, "int": Data.SIGNED, "bool": Data.TRUTH}
 LEVELS = (("||",), ("&&",), ("|",), ("^",), ("&",), ("==", "!="), ("<", "<=", ">", ">="), ("+", "-"), ("*", "/", "%"))
 LEVEL_OF = {operator: level for level, operators in enumerate(LEVELS) for operator in operators}
 STORES = {"+=": "+", "-=": "-", "*=": "*", "&=": "&", "|=": "|", "^=": "^"}

@@ -14,16 +14,17 @@ from parser import LEVEL_OF, LEVELS
 from runs import Case, random_input, random_word
 from tree import Data
 
-NUMBER, TRUTH = Data.NUMBER, Data.TRUTH
+NUMBER, SIGNED, TRUTH = Data.NUMBER, Data.SIGNED, Data.TRUTH
 COUNT, FLAG = Type(PUBLIC, NUMBER, 0), Type(PUBLIC, TRUTH, 0)
 UNARY, POSTFIX, PRIMARY = len(LEVELS), len(LEVELS) + 1, len(LEVELS) + 2
-COMPARING = tuple((sign, NUMBER) for sign in ("==", "!=", "<", "<=", ">", ">="))
+COMPARING = tuple((sign, data) for sign in ("==", "!=", "<", "<=", ">", ">=") for data in (NUMBER, SIGNED))
 TRUTH_SIGNS = tuple((sign, TRUTH) for sign in ("&&", "||", "&", "|", "^", "==", "!="))
-RING_SIGNS = tuple((sign, NUMBER) for sign in "+-*")
-PUBLIC_SIGNS = tuple((sign, NUMBER) for sign in "/%&|^")
+RING_SIGNS = "+-*"
+PUBLIC_SIGNS = {NUMBER: "/%&|^", SIGNED: "/%"}
+WORDS = {NUMBER: ("uint64", "uint64", "uint"), SIGNED: ("int64", "int64", "int"), TRUTH: ("bool",)}
 LENGTHS = (0, 1, 1, 2, 2, 3, 3, 4, 5, 8)
 LONG_LENGTHS = (31, 32, 33, 40, 64, 65, 100, 200, 511, 513)
-OTHER_NAMES = ("size", "sum", "cat", "p", "D", "main", "f0", "shared3p", "stdlib", "bitExtract")
+OTHER_NAMES = ("size", "sum", "cat", "p", "D", "main", "f0", "shared3p", "stdlib", "bitExtract", "lookup")
 TOO_LARGE = "1048577"
 EXPRESSION_LIMIT, STATEMENT_LIMIT = 700, 500
 BUDGETS_OF_ONE, SMALL_COST = 2, 12
@@ -109,7 +110,7 @@ class Expressions:
 
     def random_type(self, array_share: float = 0.35) -> Type:
         domain = self.source.choice(self.domains()) if self.domains() and self.often(self.plan.private) else PUBLIC
-        return Type(domain, NUMBER if self.often(0.6) else TRUTH, int(self.often(array_share)))
+        return Type(domain, self.source.choice((NUMBER, NUMBER, SIGNED, TRUTH, TRUTH)), int(self.often(array_share)))
 
     def wanted(self, kind: Type) -> Type:
         """The type of a value for a place of this type: a public one may stand for a private one."""
@@ -148,17 +149,21 @@ class Expressions:
             makers.append(self.flip)
         if not kind.dimension:
             makers.append(self.element)
-            if kind.data is NUMBER:
-                makers.append(self.total if kind.private or self.often(0.5) else self.size)
+            if kind.data.is_number:
+                makers.append(self.total if kind.private or kind.data is SIGNED or self.often(0.5) else self.size)
         elif not usual:
             makers += [self.joined, self.joined] + ([self.bits] if kind.data is TRUTH else [])
+        if kind.private and kind.data.is_number:
+            makers.append(self.looked_up)
         return makers
 
-    def literal(self, data: Data) -> str:
+    def literal(self, data: Data) -> Text:
+        """A literal; of a number with a sign one behind a cast."""
         if data is TRUTH:
-            return self.source.choice(("true", "false"))
+            return Text(self.source.choice(("true", "false")))
         word = random_word(self.source) if self.often(0.4) else self.source.randrange(5)
-        return f"0x{word:x}" if self.often(0.1) else str(word)
+        shown = f"0x{word:x}" if self.often(0.1) else str(word)
+        return Text(shown) if data is NUMBER else Text(f"( {self.source.choice(WORDS[SIGNED])} ) {shown}", UNARY)
 
     def leaf(self, kind: Type, depth: int, usual: bool) -> Text:
         """A variable, or something small."""
@@ -166,7 +171,7 @@ class Expressions:
         if found and (kind != replace(kind, domain=PUBLIC, dimension=0) or self.often(0.7)):
             return Text(self.source.choice(found).name)
         if not kind.private and not kind.dimension:
-            return Text(self.literal(kind.data))
+            return self.literal(kind.data)
         known = self.known()
         for held in self.source.sample(known, len(known)):
             if held.type.private and replace(held.type, domain=PUBLIC) == kind and (held.usual or not usual):
@@ -178,29 +183,32 @@ class Expressions:
     def operator(self, kind: Type, depth: int, usual: bool) -> Text:
         """Two operands, of which one has the domain and one the dimension, and the operator between them."""
         choice = self.source.choice
-        signs = TRUTH_SIGNS + COMPARING if kind.data is TRUTH else RING_SIGNS if kind.private else RING_SIGNS + PUBLIC_SIGNS
-        sign, data = choice(signs)
+        if kind.data is TRUTH:
+            sign, data = choice(TRUTH_SIGNS + COMPARING)
+        else:
+            sign, data = choice(RING_SIGNS if kind.private else RING_SIGNS + PUBLIC_SIGNS[kind.data]), kind.data
         domains = choice(((kind.domain, kind.domain), (kind.domain, PUBLIC), (PUBLIC, kind.domain)))
         dimensions = choice(((1, 1), (1, 0), (0, 1))) if kind.dimension else (0, 0)
         alike = usual or not self.trap_here()
         left, right = (self.expression(Type(domain, data, one), depth, alike) for domain, one in zip(domains, dimensions))
         if sign in "/%":
-            right = self.divisor(right, dimensions[1])
+            right = self.divisor(right, dimensions[1], data)
         level = LEVEL_OF[sign]
         return Text(f"{self.wrapped(left, level)} {sign} {self.wrapped(right, level + 1)}", level)
 
-    def divisor(self, text: Text, dimension: int) -> Text:
+    def divisor(self, text: Text, dimension: int, data: Data) -> Text:
         """A divisor, in which mostly no element is 0."""
         if self.trap_here():
             return text
+        if data is SIGNED:
+            return Text(f"( int64 ) ( ( uint64 ) {self.wrapped(text, UNARY)} | {self.source.choice((1, MASK))} )", UNARY)
         if not dimension and self.often(0.5):
             return Text(str(self.source.choice((1, 2, 3, 7, MASK))))
         return Text(f"{self.wrapped(text, LEVEL_OF['|'])} | 1", LEVEL_OF["|"])
 
     def cast(self, kind: Type, depth: int, usual: bool) -> Text:
-        inner = self.expression(replace(kind, data=self.source.choice((NUMBER, TRUTH))), depth, usual)
-        word = "bool" if kind.data is TRUTH else self.source.choice(("uint64", "uint64", "uint"))
-        return Text(f"( {word} ) {self.wrapped(inner, UNARY)}", UNARY)
+        inner = self.expression(replace(kind, data=self.source.choice(tuple(Data))), depth, usual)
+        return Text(f"( {self.source.choice(WORDS[kind.data])} ) {self.wrapped(inner, UNARY)}", UNARY)
 
     def flip(self, kind: Type, depth: int, usual: bool) -> Text:
         return Text(f"! {self.wrapped(self.expression(kind, depth, usual), UNARY)}", UNARY)
@@ -242,6 +250,15 @@ class Expressions:
         if not self.plan.knows("bitExtract") or self.often(0.6):
             raise NoWay
         return Text(f"bitExtract ( {self.words(Type(kind.domain, NUMBER, int(self.often(0.4))), min(depth, 1))} )")
+
+    def looked_up(self, kind: Type, depth: int, usual: bool) -> Text:
+        """Elements of an array at places, of which one is private at least."""
+        if not self.plan.knows("lookup"):
+            raise NoWay
+        array, index = self.source.choice(((kind.domain, kind.domain), (kind.domain, PUBLIC), (PUBLIC, kind.domain)))
+        elements = self.words(Type(array, kind.data, 1), min(depth, 1), self.often(0.5))
+        places = self.words(Type(index, NUMBER, kind.dimension), min(depth, 1), usual)
+        return Text(f"lookup ( {elements} , {places} )")
 
     # Calls
 
@@ -306,7 +323,7 @@ class Body(Expressions):
     def type_text(self, kind: Type) -> str:
         """A type as one of the ways to write it."""
         domain = kind.domain + " " if kind.private or self.often(0.15) else ""
-        word = "bool" if kind.data is TRUTH else self.source.choice(("uint64", "uint64", "uint"))
+        word = self.source.choice(WORDS[kind.data])
         dimension = " [ [ 1 ] ]" if kind.dimension else " [ [ 0 ] ]" if self.often(0.05) else ""
         return domain + word + dimension
 
@@ -417,7 +434,7 @@ class Body(Expressions):
             kind = Type(domain, data, dimension)
             if self.often(array_share if dimension else share) or kind == self.head.result:
                 size = f" ( {self.plan.length} )" if dimension else ""
-                made.append(self.held(Held(self.new_name("s"), kind), f"{size} = {self.literal(data)} ;"))
+                made.append(self.held(Held(self.new_name("s"), kind), f"{size} = {self.literal(data).words} ;"))
         return made + [f"{self.tried(self.asked) or ''} ;" for _ in self.plan.inputs]
 
     def changeable(self, array: bool = False) -> Held:
@@ -442,8 +459,9 @@ class Body(Expressions):
         """The sign of an assignment, and what is stored."""
         if self.often(0.5):
             return f"= {self.words(self.wanted(kind), 3, usual or self.often(0.5))}"
-        signs = ("&=", "|=", "^=") if kind.data is TRUTH or not kind.private and self.often(0.3) else ("+=", "-=", "*=", "++", "--")
-        sign = self.source.choice(signs)
+        bitwise = kind.data is TRUTH or kind.data is NUMBER and not kind.private and self.often(0.3)
+        signs = ("&=", "|=", "^=") if bitwise else ("+=", "-=", "*=", "++", "--")
+        sign = self.source.choice(signs[:3] if kind.data is SIGNED else signs)
         if sign in ("++", "--"):
             return sign
         operand = replace(kind, dimension=kind.dimension and int(self.often(0.6)))
@@ -552,7 +570,7 @@ class ProgramMaker:
     def shape(self) -> tuple[Data, int]:
         """A data type and a dimension."""
         array = self.source.random() < (0.7 if self.plan.storing else 0.35)
-        return NUMBER if self.source.random() < 0.6 else TRUTH, int(array)
+        return self.source.choice((NUMBER, NUMBER, SIGNED, TRUTH, TRUTH)), int(array)
 
     def head(self, number: int) -> Head:
         """A function's head; one that calls itself counts down by its first parameter."""

@@ -6,7 +6,8 @@ from dataclasses import dataclass
 from checker import PUBLIC, Type
 from tree import Data
 
-NUMBER, TRUTH = Data.NUMBER, Data.TRUTH
+NUMBER, SIGNED, TRUTH = Data.NUMBER, Data.SIGNED, Data.TRUTH
+WORDS = {NUMBER: ("uint64", "uint64", "uint"), SIGNED: ("int64", "int64", "int"), TRUTH: ("bool",)}
 NAMES = ("a", "b", "c", "x", "y", "z", "sum", "size", "p", "D", "main", "f0", "t0", "count", "_", "X9", "stdlib", "shared3p")
 EDGE_NUMBERS = (
     "0", "1", "2", "63", "64", "128", "18446744073709551615", "18446744073709551616", "0xffffffffffffffff", "0x10000000000000000",
@@ -74,7 +75,7 @@ class Writer:
         return self.chooser.choice([PUBLIC, PUBLIC] + self.local_domains)
 
     def kind(self) -> Type:
-        return Type(self.domain(), self.chooser.choice((NUMBER, NUMBER, TRUTH)), self.chooser.choice((0, 0, 0, 1)))
+        return Type(self.domain(), self.chooser.choice((NUMBER, NUMBER, SIGNED, TRUTH)), self.chooser.choice((0, 0, 0, 1)))
 
     def known_kind(self) -> Type:
         """A type of which a value can be written."""
@@ -97,7 +98,7 @@ class Writer:
             tokens = ["public"]
         if self.odds(self.wild / 4):
             tokens = ["nowhere"]
-        tokens.append("bool" if kind.data is TRUTH else self.chooser.choice(("uint64", "uint64", "uint")))
+        tokens.append(self.chooser.choice(WORDS[kind.data]))
         if kind.dimension == 1:
             tokens += ["[", "[", self.chooser.choice(("1", "1", "1", "0x1", "01")), "]", "]"]
         elif self.odds(0.1):
@@ -113,12 +114,12 @@ class Writer:
         parameters = [(self.kind(), f"u{k}") for k in range(self.chooser.randint(0, 3))]
         for name, _ in variables:
             if not self.odds(self.wild / 4):
-                kind = Type(name, self.chooser.choice((NUMBER, TRUTH)), self.chooser.choice((0, 0, 1)))
+                kind = Type(name, self.chooser.choice(tuple(Data)), self.chooser.choice((0, 0, 1)))
                 parameters.insert(self.chooser.randint(0, len(parameters)), (kind, f"w{name}"))
         result = None if self.odds(0.3) else self.kind()
         name = ("t" if template else "f") + str(number)
         if self.odds(self.wild / 2):
-            name = self.chooser.choice(("sum", "size", "bitExtract", "cat", "f0", "main", "p"))
+            name = self.chooser.choice(("sum", "size", "bitExtract", "cat", "lookup", "f0", "main", "p"))
         return Signature(name, variables, result, parameters)
 
     # Expressions
@@ -148,7 +149,8 @@ class Writer:
             case 3:
                 return self.called(None, room - 1) or ["publish", "(", '"s"', ",", "1", ")"]
             case 4 | 5:
-                return self.expression(Type(want.domain, TRUTH if want.data is NUMBER else NUMBER, want.dimension), room - 1)
+                other = self.chooser.choice([data for data in Data if data is not want.data])
+                return self.expression(Type(want.domain, other, want.dimension), room - 1)
             case 6 | 7 | 8:
                 return self.expression(Type(want.domain, want.data, 1 - want.dimension), room - 1)
             case _:
@@ -163,7 +165,8 @@ class Writer:
             return self.variable(want, room)
         if want.data is TRUTH:
             return [self.chooser.choice(("true", "false"))]
-        return [self.chooser.choice(("0", "1", "2", "7", "0x10", "18446744073709551615"))]
+        cast = ["(", self.chooser.choice(WORDS[SIGNED]), ")"] if want.data is SIGNED else []
+        return [*cast, self.chooser.choice(("0", "1", "2", "7", "0x10", "18446744073709551615"))]
 
     def conjured(self, want: Type, room: int) -> list[str]:
         """A value of a type of which there is no variable."""
@@ -195,14 +198,14 @@ class Writer:
 
     def binary(self, want: Type, room: int) -> list[str] | None:
         private = want.domain != PUBLIC
-        if want.data is NUMBER:
-            signs = "+ - *".split() if private else "+ - * / % & | ^".split()
-            left, right = self.mixed(want, room, NUMBER)
+        if want.data.is_number:
+            signs = "+ - *".split() if private else "+ - * / %".split() if want.data is SIGNED else "+ - * / % & | ^".split()
+            left, right = self.mixed(want, room, want.data)
         else:
             match self.chooser.randrange(3):
                 case 0:
                     signs = "== != < <= > >=".split()
-                    left, right = self.mixed(want, room, NUMBER)
+                    left, right = self.mixed(want, room, self.chooser.choice((NUMBER, SIGNED)))
                 case 1:
                     signs = "== !=".split()
                     left, right = self.mixed(want, room, TRUTH)
@@ -223,11 +226,11 @@ class Writer:
 
     def other(self, want: Type, room: int) -> list[str] | None:
         """A negation, a cast, an opening, an element or a built-in function."""
-        match self.chooser.randrange(7):
+        match self.chooser.randrange(8):
             case 0 if want.data is TRUTH:
                 return ["!", *self.operand(want, room)]
             case 1:
-                inner = Type(want.domain, self.chooser.choice((NUMBER, TRUTH)), want.dimension)
+                inner = Type(want.domain, self.chooser.choice(tuple(Data)), want.dimension)
                 return ["(", want.data.value, ")", *self.operand(inner, room)]
             case 2 if want.domain == PUBLIC:
                 return ["declassify", "(", *self.expression(self.alike(want), room), ")"]
@@ -238,8 +241,12 @@ class Writer:
             case 4 if want == Type(PUBLIC, NUMBER, 0):
                 arrays = [kind for kind in self.visible().values() if kind.dimension == 1]
                 return ["size", "(", *self.expression(self.chooser.choice(arrays), room), ")"] if arrays else None
-            case 5 if want.dimension == 0 and want.data is NUMBER and (self.brings_shared or self.brings_standard):
-                return ["sum", "(", *self.expression(Type(want.domain, NUMBER, 1), room), ")"]
+            case 5 if want.dimension == 0 and want.data.is_number and (self.brings_shared or self.brings_standard):
+                return ["sum", "(", *self.expression(Type(want.domain, want.data, 1), room), ")"]
+            case 7 if want.data.is_number and want.domain != PUBLIC and self.brings_shared:
+                array, index = self.chooser.choice(((want.domain, want.domain), (want.domain, PUBLIC), (PUBLIC, want.domain)))
+                array_words = self.expression(Type(array, want.data, 1), room)
+                return ["lookup", "(", *array_words, ",", *self.expression(Type(index, NUMBER, want.dimension), room), ")"]
             case 6 if want.dimension == 1:
                 if want.data is TRUTH and self.brings_shared and self.odds(0.5):
                     return ["bitExtract", "(", *self.expression(Type(want.domain, NUMBER, self.chooser.choice((0, 1))), room), ")"]
@@ -345,8 +352,8 @@ class Writer:
         if kind.data is NUMBER and self.odds(0.3):
             return [*tokens, self.chooser.choice(("++", "--"))]
         signs = ["="]
-        if kind.data is NUMBER:
-            signs += ["+=", "-=", "*="] + (["&=", "|=", "^="] if kind.domain == PUBLIC else [])
+        if kind.data.is_number:
+            signs += ["+=", "-=", "*="] + (["&=", "|=", "^="] if kind.domain == PUBLIC and kind.data is NUMBER else [])
         else:
             signs += ["&=", "|=", "^="]
         if self.odds(self.wild):
@@ -447,7 +454,7 @@ class Writer:
         """Declarations of one variable of most types."""
         tokens = []
         for domain in [PUBLIC, *self.local_domains]:
-            for data in (NUMBER, TRUTH):
+            for data in Data:
                 for dimension in (0, 1):
                     kind = Type(domain, data, dimension)
                     if self.odds(chance):

@@ -9,7 +9,7 @@ from clear import Input, ValueType
 from gates import MASK
 from tree import Data
 
-NUMBER, TRUTH = Data.NUMBER, Data.TRUTH
+TRUTH = Data.TRUTH
 EDGES = (0, 1, 2, 3, 63, 64, 65, 511, 512, 513, 1 << 31, 1 << 32, 1 << 63, (1 << 63) - 1, MASK, MASK - 1, 0x5555555555555555)
 
 
@@ -37,7 +37,7 @@ def random_words(source: random.Random, count: int) -> list[int]:
 
 def random_input(source: random.Random, others: list[Input], size: int) -> Input:
     """An input of any type, an array with so many elements, under a name that no other has."""
-    kind = ValueType(source.random() < 0.7, source.choice((NUMBER, TRUTH)), source.random() < 0.5)
+    kind = ValueType(source.random() < 0.7, source.choice(tuple(Data)), source.random() < 0.5)
     letters = string.ascii_letters + string.digits + "_"
     length = 64 if source.random() < 0.02 else source.randint(1, 3)
     taken = {entry.name for entry in others}
@@ -61,7 +61,7 @@ def changed_word(source: random.Random, entry: Input) -> tuple[int, ...]:
     words = list(entry.words)
     places = range(len(words))
     choice = source.random()
-    if entry.type.data is NUMBER and len(words) > 1 and choice < 0.4:
+    if entry.type.data.is_number and len(words) > 1 and choice < 0.4:
         first, second = source.sample(places, 2)
         step = random_word(source)
         words[first], words[second] = (words[first] + step) & MASK, (words[second] - step) & MASK

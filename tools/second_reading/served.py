@@ -122,5 +122,5 @@ class Setting:
 
     @staticmethod
     def share_line(event: Event, words: list[int]) -> str:
-        kind = "uint64" if event.data is Data.NUMBER else f"bool {len(event.words)}"
+        kind = event.data.value if event.data.is_number else f"bool {len(event.words)}"
         return " ".join(["share", event.name, kind, *map(str, words)])

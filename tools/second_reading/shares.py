@@ -31,7 +31,7 @@ def share_words(reader: EntryReader, kind: str) -> tuple[bool, int, list[int]]:
     if not array and shape != "scalar":
         raise reader.bad("shape")
     count, words = shape if array else 1, reader.fields.get("share")
-    if not is_words(words, count if kind == "uint64" else words_for(count)):
+    if not is_words(words, words_for(count) if kind == "bool" else count):
         raise reader.bad("share")
     reader.count(count)
     return array, count, words
@@ -42,7 +42,7 @@ def read_entry(reader: EntryReader, taken: set[str]) -> dict:
     if reader.fields.get("domain") != "private":
         return public_entry(reader.read(taken, False))
     name = reader.name(taken)
-    kind = reader.one_of("type", ("uint64", "bool"))
+    kind = reader.one_of("type", ("uint64", "int64", "bool"))
     array, count, words = share_words(reader, kind)
     return {"name": name, "domain": "private", "type": kind, "shape": count if array else "scalar", "share": words}
 

@@ -5,10 +5,15 @@ from enum import Enum
 
 
 class Data(Enum):
-    """The two data types."""
+    """The three data types."""
 
     NUMBER = "uint64"
+    SIGNED = "int64"
     TRUTH = "bool"
+
+    @property
+    def is_number(self) -> bool:
+        return self is not Data.TRUTH
 
 
 @dataclass(frozen=True)

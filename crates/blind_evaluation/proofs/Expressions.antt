@@ -8,7 +8,7 @@ use Rattle.program_trees.specs.declared.operators.BinaryOperator.TheVariants as 
 use Rattle.program_trees.specs.declared.operators.Operands.TheVariants.{Scalars}
 use Rattle.program_trees.specs.declared.operators.Connective.{Connective}
 use Rattle.program_trees.specs.TypedTree.{TypedTree, TypedTrees, word_node, truth_node, slot_node, call_node, size_node, cat_node, sum_node, bits_node}
-use Rattle.program_trees.specs.TypedTree.{element_node, not_node, cast_node, binary_node, cut_node, declassify_node}
+use Rattle.program_trees.specs.TypedTree.{lookup_node, element_node, not_node, cast_node, binary_node, cut_node, declassify_node}
 use Rattle.program_trees.specs.TypedTree as Tree'
 use Rattle.language_model.specs.BoundDomain.{BoundDomain}
 use Rattle.language_model.specs.Domains.{Setting, domains}
@@ -22,7 +22,7 @@ use Rattle.language_model.specs.Reports.{Offered}
 use Rattle.blind_evaluation.proofs.Alike.{Alike, alike_bind, alike_done, same_bind}
 use Rattle.blind_evaluation.proofs.AlikeValues.{LikeValues, plains, AllLike, no_more, and_more}
 use Rattle.blind_evaluation.proofs.Rows.{clear, unseen, plain_alike, wanted_alike, negated_alike, size_told_alike, summed_alike, concatenated_alike}
-use Rattle.blind_evaluation.proofs.Rows.{element_alike, tested_alike, declassified_alike, operation_alike, cast_to_alike, bits_extracted_alike}
+use Rattle.blind_evaluation.proofs.Rows.{element_alike, tested_alike, declassified_alike, operation_alike, cast_to_alike, bits_extracted_alike, lookup_alike}
 
 abbrev pub LikeFrames : Frame → Frame → Type 0
 LikeFrames fr fr' = (i : ℕ) → LikeValues (fr i) (fr' i)
@@ -66,6 +66,8 @@ module _ (o : Offered) where
           alike_bind (value_alike b fr fr' l) (λ y y' p. alike_bind (wanted_alike secret p) (λ v v' p. concatenated_alike line m p))))
       value_alike (sum_node e) fr fr' l = alike_bind (value_alike e fr fr' l) (λ x x' m. summed_alike m)
       value_alike (bits_node line e) fr fr' l = alike_bind (value_alike e fr fr' l) (λ x x' m. bits_extracted_alike o line m)
+      value_alike (lookup_node line a i) fr fr' l =
+          alike_bind (value_alike a fr fr' l) (λ x x' m. alike_bind (value_alike i fr fr' l) (λ k k' p. lookup_alike o line m p))
       value_alike (element_node line a i) fr fr' l =
           alike_bind (value_alike a fr fr' l) (λ x x' m. alike_bind (value_alike i fr fr' l) (λ j j' p. element_alike line m p))
       value_alike (not_node e) fr fr' l = alike_bind (value_alike e fr fr' l) (λ x x' m. negated_alike m)

@@ -1,6 +1,6 @@
 -- How many words an operation gives depends on how many it is given.
 use Rattle.std.proofs.Common.{◌≡◌, ℕ, ◌*◌, List, [], ◌∷◌, ◌++◌, length, Bool, true, false, refl, sym, ap, ◌∙◌, arith, length-append, min}
-use Rattle.std.specs.Prelude.{if◌then◌else◌, nat_le, nat_eq, map, replicate, set, ◌%◌}
+use Rattle.std.specs.Prelude.{if◌then◌else◌, nat_le, nat_eq, map, get_or, replicate, set, ◌%◌}
 use Rattle.std.specs.List.{zip, flat_map}
 use Rattle.std.specs.Int.{bit_at}
 use Rattle.std.proofs.lemmas.List.{length-map, length-replicate, length-set}
@@ -9,9 +9,10 @@ use Rattle.std.proofs.lemmas.Slice.Zip.{length-zip}
 use Rattle.std.proofs.lemmas.Bool.Decides.{nat_tests}
 use Rattle.std.proofs.Math.Nat.{mod-mod}
 use Rattle.program_trees.specs.declared.expression.DataType.{DataType}
-use Rattle.program_trees.specs.declared.expression.DataType.TheVariants.{Uint64}
+use Rattle.program_trees.specs.declared.expression.DataType.TheVariants.{Uint64, Int64}
 use Rattle.program_trees.specs.declared.expression.DataType.TheVariants as datatype
 use Rattle.gates.specs.Clear.{each_two, bits_of, first_word}
+use Rattle.language_model.specs.Lookup.{looked}
 use Rattle.program_trees.specs.declared.operators.BinaryOperator.{BinaryOperator}
 use Rattle.program_trees.specs.declared.operators.Operands.{Operands}
 use Rattle.program_trees.specs.declared.operators.Operands.TheVariants.{Scalars, ArrayAndScalar, ScalarAndArray, Arrays}
@@ -43,6 +44,9 @@ all_bits_length (x ∷ xs) = omega (arith, length-append (bits_of x) (flat_map b
 pub bits_lengths : (xs xs' : List ℕ) → length xs ≡ length xs' → length (flat_map bits_of xs) ≡ length (flat_map bits_of xs')
 bits_lengths xs xs' e = all_bits_length xs ∙ ap (λ n. 64 * n) e ∙ sym (all_bits_length xs')
 
+pub looked_length : (xs xs' ks ks' : List ℕ) → length ks ≡ length ks' → length (looked xs ks) ≡ length (looked xs' ks')
+looked_length xs xs' ks ks' e = length-map ks (λ k. get_or xs k 0) ∙ e ∙ sym (length-map ks' (λ k. get_or xs' k 0))
+
 abbrev pub zeros_for : (secret : Bool) → List ℕ → List ℕ
 zeros_for secret words = if secret then replicate (length words) 0 else words
 
@@ -54,11 +58,13 @@ zeros_length false words = refl
 
 pub answer_length : (element : DataType) (words : List ℕ) → length (read_answer element words) ≡ length words
 answer_length Uint64 words = refl
+answer_length Int64 words = refl
 answer_length datatype.Bool words = length-map words (λ x. x % 2)
 
 -- what was read is read as it is
 pub read_again : (element : DataType) (words : List ℕ) → read_answer element (read_answer element words) ≡ read_answer element words
 read_again Uint64 words = refl
+read_again Int64 words = refl
 read_again datatype.Bool words = bits words
   where
     bits : (words : List ℕ) → map (λ x. x % 2) (map (λ x. x % 2) words) ≡ map (λ x. x % 2) words

@@ -5,21 +5,22 @@ use Rattle.std.specs.Prelude.{get_or, nat_le, nat_lt, map, replicate, set, sum, 
 use Rattle.std.specs.List.{flat_map}
 use Rattle.std.proofs.lemmas.List.Elements.{AllZip-push}
 use Rattle.std.proofs.Math.Seq.{take-append_seam, drop-append_seam}
+use Rattle.sc_text.specs.declared.elements.Element.TheVariants.{Word, Negative}
 use Rattle.sc_text.specs.declared.end.TrapKind.TheVariants as trap
 use Rattle.sc_text.specs.declared.event.Event.{Event}
 use Rattle.sc_text.specs.declared.event.Event.TheVariants as event
 use Rattle.program_trees.specs.declared.expression.DataType.{DataType}
-use Rattle.program_trees.specs.declared.expression.DataType.TheVariants.{Uint64}
+use Rattle.program_trees.specs.declared.expression.DataType.TheVariants.{Uint64, Int64}
 use Rattle.program_trees.specs.declared.expression.DataType.TheVariants as datatype
 use Rattle.gates.specs.declared.gate.Gate.TheVariants.{Const, MulPub, Sum, Open}
 use Rattle.gates.specs.declared.gate.Gate.TheVariants as gates
 use Rattle.gates.specs.Clear.{bits_of, first_word}
 use Rattle.language_model.specs.BitExtract.{bits_plan}
+use Rattle.language_model.specs.Lookup.{looked, lookup_plan}
 use Rattle.program_trees.specs.declared.kinds.Shape.{Shape}
 use Rattle.program_trees.specs.declared.operators.BinaryOperator.{BinaryOperator}
 use Rattle.program_trees.specs.declared.operators.Operands.{Operands}
 use Rattle.program_trees.specs.declared.operators.Cast.{Cast}
-use Rattle.program_trees.specs.declared.operators.Cast.TheVariants.{WordToWord, WordToBool, BoolToWord, BoolToBool}
 use Rattle.program_trees.specs.Shapes.{shape_of}
 use Rattle.language_model.specs.Effects.{Words, words_each, Clear, Answers, World, Stage, Short, Effect, ◌>>=◌, carry, done, test, gate, draw}
 use Rattle.language_model.specs.Effects.{planned, emit, next_answers, show}
@@ -31,16 +32,16 @@ use Rattle.language_model.specs.Operations.{repeated_gate, element_gate, stored_
 use Rattle.language_model.specs.Operations.{revealed, opened_from, declassified, stretched, is_scalar_left, is_scalar_right, flip, words_of_operator}
 use Rattle.language_model.specs.Operations.{operator_gates, is_product, result_shape, private_result, product_with, combined_from, operator_traps}
 use Rattle.language_model.specs.Operations.{operated, is_classified, operation, negated_from, negated, words_of_cast, cast_shape, cast_gates, changed}
-use Rattle.language_model.specs.Operations.{cast_from, cast_to, scalar_word, size_told, summed_from, summed, words_for_bits, bits_from}
-use Rattle.language_model.specs.Operations.{bits_extracted, concatenated_from, concatenated, position, element_from, element_of_array}
+use Rattle.language_model.specs.Operations.{converted, relabelled, cast_from, cast_to, scalar_word, size_told, summed_from, summed, words_for_bits, bits_from}
+use Rattle.language_model.specs.Operations.{bits_extracted, words_for_lookup, looked_up, lookup, concatenated_from, concatenated, position, element_from, element_of_array}
 use Rattle.language_model.specs.Operations.{with_element_from, with_element, filled_from, filled, handed_over, publication, published, tested, asserted}
 use Rattle.language_model.specs.Reports.{Offered, world_of, public_part}
 use Rattle.blind_evaluation.specs.Courses.{is_truth, LikeEvent, LikeEvents}
 use Rattle.blind_evaluation.proofs.Alike.{retold, SameOutcome, Alike, alike_bind, alike_done, Same, Any, same_bind, any_bind, charge_alike}
 use Rattle.blind_evaluation.proofs.Alike.{gate_alike, planned_alike, emit_alike, to_equal, charge_equal, test_equal, draw_equal, gate_equal}
 use Rattle.blind_evaluation.proofs.AlikeValues.{LikeValues, plains, unmade, made, like_size, like_seen, like_shape, like_secrecy}
-use Rattle.blind_evaluation.proofs.Lengths.{mapped_length, set_length, replicated_length, joined_length, bits_lengths, answer_length, read_again}
-use Rattle.blind_evaluation.proofs.Lengths.{are_enough, result_length, same_result_size, same_are_alike, same_left, same_right}
+use Rattle.blind_evaluation.proofs.Lengths.{mapped_length, set_length, replicated_length, joined_length, bits_lengths, looked_length, answer_length}
+use Rattle.blind_evaluation.proofs.Lengths.{read_again, are_enough, result_length, same_result_size, same_are_alike, same_left, same_right}
 use Rattle.blind_evaluation.proofs.Gates.{value_number_alike, stretched_alike, flip_alike, operator_alike, cast_alike}
 
 -- ---- THE PARTS OF AN OPERATION
@@ -101,10 +102,11 @@ size_told_alike {v = v} l = any_bind (charge_alike 1)
     (λ _ _. to_equal (λ n. done (scalar_word n)) (like_size l) (plain_alike (shape_of Uint64 false) (size v ∷ [])))
 
 summed_private : (k : Option ℕ) {v v' : Value} → LikeValues v v' → Alike LikeValues (summed_from (Private k) v) (summed_from (Private k) v')
-summed_private k l = same_bind (value_number_alike l) (λ u. same_bind (gate_alike (Sum u)) (λ r. result_alike refl refl r))
+summed_private k l = same_bind (value_number_alike l)
+    (λ u. same_bind (gate_alike (Sum u)) (λ r. result_alike (ap (λ (s : Shape). shape_of s.element false) (like_shape l)) refl r))
 
 summed_from_alike : {v v' : Value} → LikeValues v v' → Alike LikeValues (summed_from v.secrecy v) (summed_from v'.secrecy v')
-summed_from_alike (plains shape words) = plain_alike (shape_of Uint64 false) (sum words % 2 ^ 64 ∷ [])
+summed_from_alike (plains shape words) = plain_alike (shape_of shape.element false) (sum words % 2 ^ 64 ∷ [])
 summed_from_alike (unmade shape words) = summed_private None (unmade shape words)
 summed_from_alike (made shape k words words' e) = summed_private (Some k) (made shape k words words' e)
 
@@ -238,6 +240,11 @@ same_classified op {x = x} {y' = y'} l m =
 -- elements of one kind are alike, whatever their words
 same_kind : (e : DataType) (x y : ℕ) → is_truth (element_of e x) ≡ is_truth (element_of e y)
 same_kind Uint64 x y = refl
+same_kind Int64 x y = no_truth (nat_lt x (2 ^ 63)) x ∙ sym (no_truth (nat_lt y (2 ^ 63)) y)
+  where
+    no_truth : (b : Bool) (z : ℕ) → is_truth (cond b (Word z) (Negative (2 ^ 64 - z))) ≡ false
+    no_truth true z = refl
+    no_truth false z = refl
 same_kind datatype.Bool x y = refl
 
 same_kinds : (e : DataType) (xs ys : List ℕ) → length xs ≡ length ys → map is_truth (map (element_of e) xs) ≡ map is_truth (map (element_of e) ys)
@@ -395,18 +402,30 @@ module _ (o : Offered) where
       same_bind (to_equal (λ n. cast_gates c n u) (like_size l) (cast_alike c (size v) u)) (λ r.
       result_alike (ap (λ (s : Shape). cast_shape c s.array) (like_shape l)) (mapped_length (W.cast_word c) v.words v'.words (like_size l)) r)))
 
-  cast_from_alike : (c : Cast) {v v' : Value} → LikeValues v v' → Alike LikeValues (cast_from clear v.secrecy c v) (cast_from unseen v'.secrecy c v')
-  cast_from_alike WordToWord l = alike_done l
-  cast_from_alike BoolToBool l = alike_done l
-  cast_from_alike WordToBool (plains shape words) = plain_alike (cast_shape WordToBool shape.array) (map (W.cast_word WordToBool) words)
-  cast_from_alike WordToBool (unmade shape words) = changed_alike WordToBool (unmade shape words)
-  cast_from_alike WordToBool (made shape k words words' e) = changed_alike WordToBool (made shape k words words' e)
-  cast_from_alike BoolToWord (plains shape words) = plain_alike (cast_shape BoolToWord shape.array) (map (W.cast_word BoolToWord) words)
-  cast_from_alike BoolToWord (unmade shape words) = changed_alike BoolToWord (unmade shape words)
-  cast_from_alike BoolToWord (made shape k words words' e) = changed_alike BoolToWord (made shape k words words' e)
+  converted_alike : (c : Cast) {v v' : Value} → LikeValues v v' → Alike LikeValues (converted clear v.secrecy c v) (converted unseen v'.secrecy c v')
+  converted_alike c (plains shape words) = plain_alike (cast_shape c shape.array) (map (W.cast_word c) words)
+  converted_alike c (unmade shape words) = changed_alike c (unmade shape words)
+  converted_alike c (made shape k words words' e) = changed_alike c (made shape k words words' e)
+
+  relabelled_like : (c : Cast) {v v' : Value} → LikeValues v v' → LikeValues (relabelled c v) (relabelled c v')
+  relabelled_like c (plains shape words) = plains (cast_shape c shape.array) words
+  relabelled_like c (unmade shape words) = unmade (cast_shape c shape.array) words
+  relabelled_like c (made shape k words words' e) = made (cast_shape c shape.array) k words words' e
+
+  cast_from_alike : (given wanted : DataType) (c : Cast) {v v' : Value} → LikeValues v v'
+      → Alike LikeValues (cast_from given wanted clear c v) (cast_from given wanted unseen c v')
+  cast_from_alike Uint64 Uint64 c l = alike_done l
+  cast_from_alike Uint64 Int64 c l = alike_done (relabelled_like c l)
+  cast_from_alike Uint64 datatype.Bool c l = converted_alike c l
+  cast_from_alike Int64 Uint64 c l = alike_done (relabelled_like c l)
+  cast_from_alike Int64 Int64 c l = alike_done l
+  cast_from_alike Int64 datatype.Bool c l = converted_alike c l
+  cast_from_alike datatype.Bool Uint64 c l = converted_alike c l
+  cast_from_alike datatype.Bool Int64 c l = converted_alike c l
+  cast_from_alike datatype.Bool datatype.Bool c l = alike_done l
 
   pub cast_to_alike : (c : Cast) {v v' : Value} → LikeValues v v' → Alike LikeValues (cast_to clear c v) (cast_to unseen c v')
-  cast_to_alike c l = any_bind (sized_alike l) (λ _ _. cast_from_alike c l)
+  cast_to_alike c l = any_bind (sized_alike l) (λ _ _. cast_from_alike c.given c.wanted c l)
 
   bits_private : (k : Option ℕ) {v v' : Value} → LikeValues v v' → Alike LikeValues (bits_from clear (Private k) v) (bits_from unseen (Private k) v')
   bits_private k {v = v} {v' = v'} l =
@@ -423,6 +442,20 @@ module _ (o : Offered) where
   bits_extracted_alike line l =
       let e = ap (λ n. 64 * n) (like_size l) in
       any_bind (charged_alike (too_large_alike line e) e) (λ _ _. bits_from_alike l)
+
+  looked_up_alike : (line : ℕ) {a a' i i' : Value} → LikeValues a a' → LikeValues i i' → Alike LikeValues (looked_up clear line a i) (looked_up unseen line a' i')
+  looked_up_alike line {a = a} {a' = a'} {i = i} {i' = i'} l m =
+      let e : size a * size i ≡ size a' * size i' = ap (λ n. n * size i) (like_size l) ∙ ap (λ n. size a' * n) (like_size m) in
+      any_bind (charged_alike (too_large_alike line e) e) (λ _ _. any_bind (draws (ap words_for_lookup e)) (λ _ _.
+      same_bind (value_number_alike l) (λ u. same_bind (value_number_alike m) (λ v.
+      same_bind (to_equal (λ n. planned (λ first. lookup_plan first u v n (size i'))) (like_size l)
+      (to_equal (λ n. planned (λ first. lookup_plan first u v (size a) n)) (like_size m) (planned_alike (λ first. lookup_plan first u v (size a) (size i)))))
+      (λ r. result_alike
+      (ap (λ (s : Shape). shape_of s.element i.shape.array) (like_shape l) ∙ ap (λ (s : Shape). shape_of a'.shape.element s.array) (like_shape m))
+      (looked_length a.words a'.words i.words i'.words (like_size m)) r)))))
+
+  pub lookup_alike : (line : ℕ) {a a' i i' : Value} → LikeValues a a' → LikeValues i i' → Alike LikeValues (lookup clear line a i) (lookup unseen line a' i')
+  lookup_alike line l m = alike_bind (classified_alike l) (λ x x' p. alike_bind (classified_alike m) (λ k k' q. looked_up_alike line p q))
 
   handed_private : (k : Option ℕ) {v v' : Value} → LikeValues v v'
       → Alike (Any {A = Unit {0}} {B = Unit {0}}) (handed_over clear (Private k) v) (handed_over unseen (Private k) v')

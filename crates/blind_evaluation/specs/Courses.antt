@@ -2,7 +2,7 @@
 use Rattle.std.specs.Prelude.{◌≡◌, Bool, true, false, List, map}
 use Rattle.std.specs.List.{AllZip}
 use Rattle.sc_text.specs.declared.elements.Element.{Element}
-use Rattle.sc_text.specs.declared.elements.Element.TheVariants.{Word, Truth}
+use Rattle.sc_text.specs.declared.elements.Element.TheVariants.{Word, Negative, Truth}
 use Rattle.sc_text.specs.declared.event.Event.{Event}
 use Rattle.sc_text.specs.declared.event.Event.TheVariants.{Open, Publish, Hand}
 use Rattle.language_model.specs.Effects.{RunStop, Ended, Short}
@@ -10,6 +10,7 @@ use Rattle.language_model.specs.Reports.{Report}
 
 abbrev pub is_truth : Element → Bool
 is_truth (Word word) = false
+is_truth (Negative below) = false
 is_truth (Truth value) = true
 
 -- an opening is the same, and so is a publication; what is handed over has the same name, and as many elements, of the same kinds

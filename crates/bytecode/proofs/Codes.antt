@@ -1,5 +1,5 @@
 -- A whole text: what is written of code is read again, and what is read is what would be written.
-use Rattle.std.proofs.Common.{◌≡◌, ℕ, zero, suc, ◌==◌, ◌||◌, ◌<◌, List, [], ◌∷◌, ◌++◌, length, map, Bool, true, false, Option, None, Some, Ok, Err}
+use Rattle.std.proofs.Common.{◌≡◌, ℕ, zero, suc, ◌==◌, ◌&&◌, ◌||◌, ◌<◌, nat_lt, List, [], ◌∷◌, ◌++◌, length, map, Bool, true, false, Option, None, Some, Ok, Err}
 use Rattle.std.proofs.Common.{refl, sym, ap, ◌∙◌, subst, inl, inr, arith, append-nil, IsTrue, if◌then◌else◌}
 use Rattle.std.proofs.lemmas.Bool.{lt-ltb, ltb-true, eqb-true, or_cases, and_parts}
 use Rattle.std.specs.List.{AllByRecursion as Each, All, flat_map}
@@ -23,23 +23,32 @@ use Rattle.bytecode.proofs.Instructions.{instruction_spells, instruction_told}
 
 of_parts : (s : Bool) (e : DataType) (a : Bool)
     → (kind_of (kind_byte (record { secret = s; element = e; array = a })) ≡ record { secret = s; element = e; array = a })
-    × IsTrue (is_kind (kind_byte (record { secret = s; element = e; array = a })))
+    × IsTrue (is_kind Second (kind_byte (record { secret = s; element = e; array = a })))
 of_parts false types.Uint64 false = (refl, refl)
 of_parts true types.Uint64 false = (refl, refl)
+of_parts false types.Int64 false = (refl, refl)
+of_parts true types.Int64 false = (refl, refl)
 of_parts false types.Bool false = (refl, refl)
 of_parts true types.Bool false = (refl, refl)
 of_parts false types.Uint64 true = (refl, refl)
 of_parts true types.Uint64 true = (refl, refl)
+of_parts false types.Int64 true = (refl, refl)
+of_parts true types.Int64 true = (refl, refl)
 of_parts false types.Bool true = (refl, refl)
 of_parts true types.Bool true = (refl, refl)
 
 pub kind_back : (k : Kind) → kind_of (kind_byte k) ≡ k
 kind_back k = (of_parts k.secret k.element k.array).0
 
-pub byte_is_kind : (k : Kind) → IsTrue (is_kind (kind_byte k))
+pub byte_is_kind : (k : Kind) → IsTrue (is_kind Second (kind_byte k))
 byte_is_kind k = (of_parts k.secret k.element k.array).1
 
-pub byte_back : (b : ℕ) → IsTrue (is_kind b) → kind_byte (kind_of b) ≡ b
+-- no byte above the last one is a kind
+no_kind : {X : Type 0} (b : ℕ) → 13 < b → IsTrue (is_kind Second b) → X
+no_kind b l h = elim (or_cases (nat_lt b 10) (nat_lt 11 b && nat_lt b 14) h)
+    [ inl low ↦ absurd (omega (arith, l, ltb-true b 10 low)) | inr high ↦ absurd (omega (arith, l, ltb-true b 14 (and_parts _ _ high).1)) ]
+
+pub byte_back : (b : ℕ) → IsTrue (is_kind Second b) → kind_byte (kind_of b) ≡ b
 byte_back zero h = refl
 byte_back (suc zero) h = refl
 byte_back (suc (suc zero)) h = refl
@@ -48,7 +57,14 @@ byte_back (suc (suc (suc (suc zero)))) h = refl
 byte_back (suc (suc (suc (suc (suc zero))))) h = refl
 byte_back (suc (suc (suc (suc (suc (suc zero)))))) h = refl
 byte_back (suc (suc (suc (suc (suc (suc (suc zero))))))) h = refl
-byte_back (suc (suc (suc (suc (suc (suc (suc (suc b)))))))) h = absurd (omega (arith, ltb-true (suc (suc (suc (suc (suc (suc (suc (suc b)))))))) 8 h))
+byte_back (suc (suc (suc (suc (suc (suc (suc (suc zero)))))))) h = refl
+byte_back (suc (suc (suc (suc (suc (suc (suc (suc (suc zero))))))))) h = refl
+byte_back (suc (suc (suc (suc (suc (suc (suc (suc (suc (suc zero)))))))))) h = cc
+byte_back (suc (suc (suc (suc (suc (suc (suc (suc (suc (suc (suc zero))))))))))) h = cc
+byte_back (suc (suc (suc (suc (suc (suc (suc (suc (suc (suc (suc (suc zero)))))))))))) h = refl
+byte_back (suc (suc (suc (suc (suc (suc (suc (suc (suc (suc (suc (suc (suc zero))))))))))))) h = refl
+byte_back (suc (suc (suc (suc (suc (suc (suc (suc (suc (suc (suc (suc (suc (suc b)))))))))))))) h =
+    no_kind (suc (suc (suc (suc (suc (suc (suc (suc (suc (suc (suc (suc (suc (suc b)))))))))))))) (omega arith) h
 
 or_right : (a b : Bool) → IsTrue b → IsTrue (a || b)
 or_right true b h = refl
@@ -62,22 +78,26 @@ not_255 : (s : Bool) (e : DataType) (a : Bool)
     → return_of (kind_byte (record { secret = s; element = e; array = a })) ≡ Some (kind_of (kind_byte (record { secret = s; element = e; array = a })))
 not_255 false types.Uint64 false = refl
 not_255 true types.Uint64 false = refl
+not_255 false types.Int64 false = refl
+not_255 true types.Int64 false = refl
 not_255 false types.Bool false = refl
 not_255 true types.Bool false = refl
 not_255 false types.Uint64 true = refl
 not_255 true types.Uint64 true = refl
+not_255 false types.Int64 true = refl
+not_255 true types.Int64 true = refl
 not_255 false types.Bool true = refl
 not_255 true types.Bool true = refl
 
-pub return_back : (gives : Option Kind) → (return_of (return_byte gives) ≡ gives) × IsTrue (is_return (return_byte gives))
+pub return_back : (gives : Option Kind) → (return_of (return_byte gives) ≡ gives) × IsTrue (is_return Second (return_byte gives))
 return_back None = (refl, refl)
-return_back (Some k) = (not_255 k.secret k.element k.array ∙ ap Some (kind_back k), or_left (is_kind (kind_byte k)) _ (byte_is_kind k))
+return_back (Some k) = (not_255 k.secret k.element k.array ∙ ap Some (kind_back k), or_left (is_kind Second (kind_byte k)) _ (byte_is_kind k))
 
-pub return_byte_back : (b : ℕ) → IsTrue (is_return b) → return_byte (return_of b) ≡ b
+pub return_byte_back : (b : ℕ) → IsTrue (is_return Second b) → return_byte (return_of b) ≡ b
 return_byte_back b h = go (b == 255) refl
   where
-    below : (b == 255) ≡ false → IsTrue (is_kind b)
-    below e = elim (or_cases (is_kind b) (b == 255) h) [ inl l ↦ l | inr r ↦ cc ]
+    below : (b == 255) ≡ false → IsTrue (is_kind Second b)
+    below e = elim (or_cases (is_kind Second b) (b == 255) h) [ inl l ↦ l | inr r ↦ cc ]
 
     go : (t : Bool) → (b == 255) ≡ t → return_byte (return_of b) ≡ b
     go true e = ap (λ t. return_byte (if t then None else Some (kind_of b))) e ∙ sym (eqb-true b 255 e)
@@ -86,17 +106,17 @@ return_byte_back b h = go (b == 255) refl
 abbrev kind_numbers : List Kind → List Number
 kind_numbers = map (λ k. byte (kind_byte k))
 
-all_kinds_spell : (ks : List Kind) → Spells (repeated kind_layout (length ks)) (kind_numbers ks) ks
+all_kinds_spell : (ks : List Kind) → Spells (repeated (kind_layout Second) (length ks)) (kind_numbers ks) ks
 all_kinds_spell [] = (refl, refl)
 all_kinds_spell (k ∷ ks) =
-    behind_spells kind_layout (λ k. behind (repeated kind_layout (length ks)) (λ ys. Makes (k ∷ ys))) (byte (kind_byte k) ∷ []) (kind_numbers ks) k
+    behind_spells (kind_layout Second) (λ k. behind (repeated (kind_layout Second) (length ks)) (λ ys. Makes (k ∷ ys))) (byte (kind_byte k) ∷ []) (kind_numbers ks) k
     (k ∷ ks) (kind_byte k, [], refl, byte_is_kind k, (refl, kind_back k))
-    (subst (λ z. Spells (behind (repeated kind_layout (length ks)) (λ ys. Makes (k ∷ ys))) z (k ∷ ks)) (append-nil (kind_numbers ks))
-    (behind_spells (repeated kind_layout (length ks)) _ (kind_numbers ks) [] ks (k ∷ ks) (all_kinds_spell ks) (refl, refl)))
+    (subst (λ z. Spells (behind (repeated (kind_layout Second) (length ks)) (λ ys. Makes (k ∷ ys))) z (k ∷ ks)) (append-nil (kind_numbers ks))
+    (behind_spells (repeated (kind_layout Second) (length ks)) _ (kind_numbers ks) [] ks (k ∷ ks) (all_kinds_spell ks) (refl, refl)))
 
 kinds_spell : {A : Type 0} (ks : List Kind) (next : List Kind → Layout A) (rest : List Number) (a : A) → Spells (next ks) rest a
-    → Spells (kinds (length ks) next) (kind_numbers ks ++ rest) a
-kinds_spell ks next rest a s = behind_spells (repeated kind_layout (length ks)) next (kind_numbers ks) rest ks a (all_kinds_spell ks) s
+    → Spells (kinds Second (length ks) next) (kind_numbers ks ++ rest) a
+kinds_spell ks next rest a s = behind_spells (repeated (kind_layout Second) (length ks)) next (kind_numbers ks) rest ks a (all_kinds_spell ks) s
 
 record KindsTold {A : Type 0} (n : ℕ) (next : List Kind → Layout A) (ns : List Number) (a : A) : Type 0 where
   ks : List Kind
@@ -105,11 +125,11 @@ record KindsTold {A : Type 0} (n : ℕ) (next : List Kind → Layout A) (ns : Li
   same : ns ≡ kind_numbers ks ++ rest
   spells : Spells (next ks) rest a
 
-all_kinds_told : (n : ℕ) (ns : List Number) (ks : List Kind) → Spells (repeated kind_layout n) ns ks → (ns ≡ kind_numbers ks) × (length ks ≡ n)
+all_kinds_told : (n : ℕ) (ns : List Number) (ks : List Kind) → Spells (repeated (kind_layout Second) n) ns ks → (ns ≡ kind_numbers ks) × (length ks ≡ n)
 all_kinds_told zero ns ks h = (h.0 ∙ ap (λ z. kind_numbers z) h.1, ap length (sym h.1))
 all_kinds_told (suc n) ns ks h =
     let k = kind_of h.0 in
-    let q = behind_apart (repeated kind_layout n) (λ ys. Makes (k ∷ ys)) h.1 ks h.4 in
+    let q = behind_apart (repeated (kind_layout Second) n) (λ ys. Makes (k ∷ ys)) h.1 ks h.4 in
     let ih = all_kinds_told n q.first q.value q.firsts in
     let e : (k ∷ q.value) ≡ ks = q.seconds.1 in
     let tail : h.1 ≡ kind_numbers q.value = q.apart ∙ ap (λ z. q.first ++ z) q.seconds.0 ∙ append-nil q.first ∙ ih.0 in (
@@ -118,9 +138,9 @@ all_kinds_told (suc n) ns ks h =
           ∙ ap suc ih.1,
     )
 
-kinds_told : {A : Type 0} (n : ℕ) (next : List Kind → Layout A) (ns : List Number) (a : A) → Spells (kinds n next) ns a → KindsTold n next ns a
+kinds_told : {A : Type 0} (n : ℕ) (next : List Kind → Layout A) (ns : List Number) (a : A) → Spells (kinds Second n next) ns a → KindsTold n next ns a
 kinds_told n next ns a h =
-    let r = behind_apart (repeated kind_layout n) next ns a h in
+    let r = behind_apart (repeated (kind_layout Second) n) next ns a h in
     let q = all_kinds_told n r.first r.value r.firsts in
     record { ks = r.value; rest = r.second; long = q.1; same = r.apart ∙ ap (λ z. z ++ r.second) q.0; spells = r.seconds }
 
@@ -129,7 +149,7 @@ kinds_told n next ns a h =
 abbrev head_of : RawFunction → Head
 head_of f = record { parameters = f.parameters; gives = f.gives; registers = f.registers; instructions = length f.body }
 
-head_spells : (f : RawFunction) → Spells head_layout (head_numbers f) (head_of f)
+head_spells : (f : RawFunction) → Spells (head_layout Second) (head_numbers f) (head_of f)
 head_spells f =
     let r = return_back f.gives in (
       _,
@@ -157,7 +177,7 @@ abbrev numbers_of_head : Head → List Number
 numbers_of_head h =
     short h.parameters ∷ byte (return_byte h.gives) ∷ short (length h.registers) ∷ (kind_numbers h.registers ++ short h.instructions ∷ [])
 
-head_told : (ns : List Number) (head : Head) → Spells head_layout ns head → ns ≡ numbers_of_head head
+head_told : (ns : List Number) (head : Head) → Spells (head_layout Second) ns head → ns ≡ numbers_of_head head
 head_told ns head h =
     let p = h.0 in
     let b = h.4.0 in
@@ -173,18 +193,18 @@ head_told ns head h =
     (h.4.4.2 ∙ ap (λ z. short z ∷ h.4.4.1) (sym r.long) ∙ ap (λ z. short (length r.ks) ∷ z) (r.same ∙ ap (λ z. kind_numbers r.ks ++ z) end))) in
     same ∙ ap numbers_of_head s.4.1
 
-heads_spell : (fs : List RawFunction) → Spells (heads_layout (length fs)) (flat_map head_numbers fs) (map head_of fs)
+heads_spell : (fs : List RawFunction) → Spells (heads_layout Second (length fs)) (flat_map head_numbers fs) (map head_of fs)
 heads_spell [] = (refl, refl)
 heads_spell (f ∷ fs) =
-    behind_spells head_layout _ (head_numbers f) (flat_map head_numbers fs) (head_of f) (map head_of (f ∷ fs)) (head_spells f)
-    (subst (λ z. Spells (behind (heads_layout (length fs)) (λ hs. Makes (head_of f ∷ hs))) z (map head_of (f ∷ fs))) (append-nil (flat_map head_numbers fs))
-    (behind_spells (heads_layout (length fs)) _ (flat_map head_numbers fs) [] (map head_of fs) (map head_of (f ∷ fs)) (heads_spell fs) (refl, refl)))
+    behind_spells (head_layout Second) _ (head_numbers f) (flat_map head_numbers fs) (head_of f) (map head_of (f ∷ fs)) (head_spells f)
+    (subst (λ z. Spells (behind (heads_layout Second (length fs)) (λ hs. Makes (head_of f ∷ hs))) z (map head_of (f ∷ fs))) (append-nil (flat_map head_numbers fs))
+    (behind_spells (heads_layout Second (length fs)) _ (flat_map head_numbers fs) [] (map head_of fs) (map head_of (f ∷ fs)) (heads_spell fs) (refl, refl)))
 
-heads_told : (n : ℕ) (ns : List Number) (hs : List Head) → Spells (heads_layout n) ns hs → (ns ≡ flat_map numbers_of_head hs) × (length hs ≡ n)
+heads_told : (n : ℕ) (ns : List Number) (hs : List Head) → Spells (heads_layout Second n) ns hs → (ns ≡ flat_map numbers_of_head hs) × (length hs ≡ n)
 heads_told zero ns hs h = (h.0 ∙ ap (λ z. flat_map numbers_of_head z) h.1, ap length (sym h.1))
 heads_told (suc n) ns hs h =
-    let r = behind_apart head_layout (λ h. behind (heads_layout n) (λ hs. Makes (h ∷ hs))) ns hs h in
-    let q = behind_apart (heads_layout n) (λ hs. Makes (r.value ∷ hs)) r.second hs r.seconds in
+    let r = behind_apart (head_layout Second) (λ h. behind (heads_layout Second n) (λ hs. Makes (h ∷ hs))) ns hs h in
+    let q = behind_apart (heads_layout Second n) (λ hs. Makes (r.value ∷ hs)) r.second hs r.seconds in
     let ih = heads_told n q.first q.value q.firsts in
     let e : (r.value ∷ q.value) ≡ hs = q.seconds.1 in
     let tail : r.second ≡ flat_map numbers_of_head q.value = q.apart ∙ ap (λ z. q.first ++ z) q.seconds.0 ∙ append-nil q.first ∙ ih.0 in (
@@ -288,13 +308,13 @@ functions_numbers fs = flat_map head_numbers fs ++ flat_map body_numbers fs
 
 functions_spell : (fs : List RawFunction) → AreProper fs → Spells (functions_layout Second (length fs)) (functions_numbers fs) fs
 functions_spell fs h =
-    behind_spells (heads_layout (length fs)) (bodies_layout Counted) (flat_map head_numbers fs)
+    behind_spells (heads_layout Second (length fs)) (bodies_layout Counted) (flat_map head_numbers fs)
     (flat_map body_numbers fs) (map head_of fs) fs (heads_spell fs) (bodies_spell fs h)
 
 functions_told : (n : ℕ) (ns : List Number) (fs : List RawFunction) → Spells (functions_layout Second n) ns fs
     → (ns ≡ functions_numbers fs) × (length fs ≡ n) × AreProper fs
 functions_told n ns fs h =
-    let r = behind_apart (heads_layout n) (bodies_layout Counted) ns fs h in
+    let r = behind_apart (heads_layout Second n) (bodies_layout Counted) ns fs h in
     let heads = heads_told n r.first r.value r.firsts in
     let b = bodies_told r.value r.second fs r.seconds in (
       r.apart ∙ ap (λ z. z ++ r.second) (heads.0 ∙ b.heads) ∙ ap (λ z. flat_map head_numbers fs ++ z) b.numbers,

@@ -1,13 +1,14 @@
 -- Instructions are spelled by the numbers that are written of them, and by no others.
 use Rattle.std.proofs.Common.{append-nil, sym, ◌≡◌, ℕ, zero, suc, ◌<◌, List, [], ◌∷◌, ◌++◌, length, map, refl, ap, ◌∙◌, subst, arith, IsTrue}
 use Rattle.std.proofs.lemmas.Bool.{lt-ltb, ltb-true, and_parts}
-use Rattle.bytecode.specs.Raw.{Raw, Literal, Move, Store, Binary, Not, Cast, Classify, Fill, At, Put, Size, Cat, Sum, Bits, Declassify, Argument}
+use Rattle.bytecode.specs.Raw.{Raw, Literal, Move, Store, Binary, Not, Cast, Classify, Fill, At, Put, Size, Cat, Sum, Bits, Lookup, Declassify, Argument}
 use Rattle.bytecode.specs.Raw.{Publish, Assert, Branch, Jump, Call, Return, ReturnNone}
-use Rattle.bytecode.specs.Versions.{Counted}
+use Rattle.bytecode.specs.declared.version.CodeVersion.TheVariants.{Second}
+use Rattle.bytecode.specs.Versions.{is_tag, Counted}
 use Rattle.bytecode.specs.Written.{Number, byte, short, source_line, word, instruction_numbers}
 use Rattle.bytecode.specs.Writable.{IsProper}
 use Rattle.bytecode.specs.Layouts.{behind, Layout, Makes}
-use Rattle.bytecode.specs.Decoded.{repeated, short_layout, line_field, shorts, pair_layout, triple_layout, is_tag, operands, instruction_layout}
+use Rattle.bytecode.specs.Decoded.{repeated, short_layout, line_field, shorts, pair_layout, triple_layout, operands, instruction_layout}
 use Rattle.bytecode.proofs.Layouts.{Spells, behind_spells, behind_apart}
 
 -- ---- what is written spells
@@ -39,6 +40,7 @@ instruction_spells (Size d r) h = (_, _, refl, refl, (_, _, refl, refl, (_, _, r
 instruction_spells (Cat a b c line) h = (_, _, refl, refl, (_, _, refl, refl, (_, _, refl, refl, (_, _, refl, refl, (_, _, refl, refl, (refl, refl))))))
 instruction_spells (Sum d r) h = (_, _, refl, refl, (_, _, refl, refl, (_, _, refl, refl, (refl, refl))))
 instruction_spells (Bits d r line) h = (_, _, refl, refl, (_, _, refl, refl, (_, _, refl, refl, (_, _, refl, refl, (refl, refl)))))
+instruction_spells (Lookup a b c line) h = (_, _, refl, refl, (_, _, refl, refl, (_, _, refl, refl, (_, _, refl, refl, (_, _, refl, refl, (refl, refl))))))
 instruction_spells (Declassify d r) h = (_, _, refl, refl, (_, _, refl, refl, (_, _, refl, refl, (refl, refl))))
 instruction_spells (Argument d name line) h = (_, _, refl, refl, (_, _, refl, refl, (_, _, refl, refl, (_, _, refl, refl, (refl, refl)))))
 instruction_spells (Publish d r) h = (_, _, refl, refl, (_, _, refl, refl, (_, _, refl, refl, (refl, refl))))
@@ -179,10 +181,10 @@ call_told ns i h =
 abbrev Tells : ℕ → Type 0
 Tells tag = (ns : List Number) (i : Raw) → Spells (operands Counted tag) ns i → Told tag ns i
 
-no_tag : {X : Type 0} (tag : ℕ) → 25 < suc tag → IsTrue (is_tag tag) → X
-no_tag tag l h = absurd (omega (arith, l, ltb-true tag 25 (and_parts _ _ (and_parts _ _ h).0).1))
+no_tag : {X : Type 0} (tag : ℕ) → 26 < suc tag → IsTrue (is_tag Second tag) → X
+no_tag tag l h = absurd (omega (arith, l, ltb-true tag 26 (and_parts _ _ (and_parts _ _ h).0).1))
 
-by_tag : (tag : ℕ) → IsTrue (is_tag tag) → Tells tag
+by_tag : (tag : ℕ) → IsTrue (is_tag Second tag) → Tells tag
 by_tag zero h = λ ns i s. cc
 by_tag (suc zero) h = literal_told
 by_tag (suc (suc zero)) h = λ ns i. pair_told 0x02 Move ns i (λ d r. (refl, tt))
@@ -213,9 +215,12 @@ by_tag (suc (suc (suc (suc (suc (suc (suc (suc (suc (suc (suc (suc (suc (suc (su
 by_tag (suc (suc (suc (suc (suc
     (suc (suc (suc (suc (suc (suc (suc (suc (suc (suc (suc (suc (suc (suc (suc (suc (suc (suc (suc zero)))))))))))))))))))))))) h = returnnone_told
 by_tag (suc (suc (suc (suc (suc
-    (suc (suc (suc (suc (suc (suc (suc (suc (suc (suc (suc (suc (suc (suc (suc (suc (suc (suc (suc (suc tag))))))))))))))))))))))))) h =
-    no_tag (suc (suc (suc (suc
-    (suc (suc (suc (suc (suc (suc (suc (suc (suc (suc (suc (suc (suc (suc (suc (suc (suc (suc (suc (suc (suc tag))))))))))))))))))))))))) (omega arith) h
+    (suc (suc (suc (suc (suc (suc (suc (suc (suc (suc (suc (suc (suc (suc (suc (suc (suc (suc (suc (suc zero))))))))))))))))))))))))) h =
+    λ ns i. triple_told 0x19 Lookup ns i (λ a b c line. (refl, tt))
+by_tag (suc (suc (suc (suc (suc (suc
+    (suc (suc (suc (suc (suc (suc (suc (suc (suc (suc (suc (suc (suc (suc (suc (suc (suc (suc (suc (suc tag)))))))))))))))))))))))))) h =
+    no_tag (suc (suc (suc (suc (suc
+    (suc (suc (suc (suc (suc (suc (suc (suc (suc (suc (suc (suc (suc (suc (suc (suc (suc (suc (suc (suc (suc tag)))))))))))))))))))))))))) (omega arith) h
 
 pub instruction_told : (ns : List Number) (i : Raw) → Spells (instruction_layout Counted) ns i → (ns ≡ instruction_numbers i) × IsProper i
 instruction_told ns i h = let t = by_tag h.0 h.3 h.1 i h.4 in (h.2 ∙ t.0, t.1)

@@ -1,14 +1,16 @@
 -- The operands of a tag, one after the other, are what the layout has after it.
-use Rattle.std.proofs.Common.{◌≡◌, ℕ, List, Bool, Ok, refl, sym, ap, ◌∙◌, subst}
+use Rattle.std.proofs.Common.{◌≡◌, ℕ, List, Bool, Result, Ok, refl, sym, ap, ◌∙◌, subst}
 use Rattle.bytecode.specs.declared.tag.Tag.{Tag}
 use Rattle.bytecode.specs.declared.tag.Tag.TheVariants as tags
 use Rattle.bytecode.specs.Raw.{Raw, Call}
 use Rattle.bytecode.specs.Layouts.{behind, Layout, Makes, Field, BadTag, read}
-use Rattle.bytecode.specs.Versions.{Counting}
-use Rattle.bytecode.specs.Decoded.{argument_count, operands, short_layout, repeated, any, is_operator, is_truth}
+use Rattle.bytecode.specs.declared.version.CodeVersion.{CodeVersion}
+use Rattle.bytecode.specs.declared.version.CodeVersion.TheVariants.{First, Second}
+use Rattle.bytecode.specs.Versions.{Counting, ByHeads, Counted, counting, is_tag}
+use Rattle.bytecode.specs.Decoded.{argument_count, instruction_layout, operands, short_layout, repeated, any, is_operator, is_truth}
 use Rattle.bytecode.specs.declared.fault.Stopped.{Stopped}
-use Rattle.bytecode.specs.inner.Reading.{optional, Stops}
-use Rattle.bytecode.proofs.Reading.{step_ok, step_stops, seven, seven_ok, seven_stops-3, seven_stops-4, seven_stops-5, seven_stops-6}
+use Rattle.bytecode.specs.inner.Reading.{optional, Reads, Stops}
+use Rattle.bytecode.proofs.Reading.{reads_behind, step_ok, step_stops, seven, seven_ok, seven_stops-3, seven_stops-4, seven_stops-5, seven_stops-6}
 use Rattle.bytecode.specs.inner.Tags.{tag_byte, operands_of, made, has_operator, has_first, has_truth, has_second, has_third, has_line, has_word}
 
 -- a tag with plain operands
@@ -27,6 +29,7 @@ IsPlain tags.Size = Unit {0}
 IsPlain tags.Cat = Unit {0}
 IsPlain tags.Sum = Unit {0}
 IsPlain tags.Bits = Unit {0}
+IsPlain tags.Lookup = Unit {0}
 IsPlain tags.Declassify = Unit {0}
 IsPlain tags.Argument = Unit {0}
 IsPlain tags.Publish = Unit {0}
@@ -52,6 +55,7 @@ same_operands rule tags.Size h = refl
 same_operands rule tags.Cat h = refl
 same_operands rule tags.Sum h = refl
 same_operands rule tags.Bits h = refl
+same_operands rule tags.Lookup h = refl
 same_operands rule tags.Declassify h = refl
 same_operands rule tags.Argument h = refl
 same_operands rule tags.Publish h = refl
@@ -158,6 +162,7 @@ plain_unless_call tags.Size h = tt
 plain_unless_call tags.Cat h = tt
 plain_unless_call tags.Sum h = tt
 plain_unless_call tags.Bits h = tt
+plain_unless_call tags.Lookup h = tt
 plain_unless_call tags.Declassify h = tt
 plain_unless_call tags.Argument h = tt
 plain_unless_call tags.Publish h = tt
@@ -219,3 +224,17 @@ pub call_stops_at_line : (rule : Counting) (f d n : ℕ) (xs : List ℕ) (t0 t1 
 call_stops_at_line rule f d n xs t0 t1 t2 t3 t4 e e0 e1 e2 e3 s =
     subst (λ r. Stops r e) (sym (to_arguments rule f d n t0 t1 t2 t3 e0 e1 e2 ∙ step_ok (repeated short_layout n) (last f d) t3 xs t4 e3))
     (step_stops line_layout (λ line. Makes (Call f d xs line)) t4 e s)
+
+-- ---- a tag and its operands
+
+pub reads_operands : {T : Type 0} (view : T → Raw) (version : CodeVersion) (ps : List ℕ) (text : List ℕ) (byte : ℕ) (left : List ℕ)
+    (answer : Result T Stopped) (new : List ℕ) → read (Field BadTag 1 (is_tag version) Makes) text ≡ Ok (byte, left)
+    → Reads view (read (operands (counting version ps) byte) left) answer new
+    → Reads view (read (instruction_layout (counting version ps)) text) answer new
+reads_operands view First ps = reads_behind view (Field BadTag 1 (is_tag First) Makes) (operands (ByHeads ps))
+reads_operands view Second ps = reads_behind view (Field BadTag 1 (is_tag Second) Makes) (operands Counted)
+
+pub stops_at_tag : (version : CodeVersion) (ps : List ℕ) (text : List ℕ) (e : Stopped) → Stops (read (Field BadTag 1 (is_tag version) Makes) text) e
+    → Stops (read (instruction_layout (counting version ps)) text) e
+stops_at_tag First ps = step_stops (Field BadTag 1 (is_tag First) Makes) (operands (ByHeads ps))
+stops_at_tag Second ps = step_stops (Field BadTag 1 (is_tag Second) Makes) (operands Counted)

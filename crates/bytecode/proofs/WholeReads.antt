@@ -51,18 +51,18 @@ abbrev of_heads : CodeVersion → List Head → Layout (List RawFunction)
 of_heads version hs = bodies_layout (counting version (map (λ h. h.parameters) hs)) hs
 
 pub functions_stop_at_heads : (version : CodeVersion) (n : ℕ) (t0 t1 : List ℕ) (e : Stopped) → read count_layout t0 ≡ Ok (n, t1)
-    → Stops (read (heads_layout n) t1) e → Stops (read (some_functions_layout version) t0) e
+    → Stops (read (heads_layout version n) t1) e → Stops (read (some_functions_layout version) t0) e
 functions_stop_at_heads version n t0 t1 e e0 s = subst (λ r. Stops r e) (sym (step_ok count_layout (functions_layout version) t0 n t1 e0))
-    (step_stops (heads_layout n) (of_heads version) t1 e s)
+    (step_stops (heads_layout version n) (of_heads version) t1 e s)
 
 pub functions_read : {T : Type 0} (view : T → List RawFunction) (version : CodeVersion) (n : ℕ) (hs : List heads.Head) (ps : List ℕ)
     (t0 t1 t2 : List ℕ) (answer : Result T Stopped) (new : List ℕ) → read count_layout t0 ≡ Ok (n, t1)
-    → read (heads_layout n) t1 ≡ Ok (map raw_head hs, t2) → ps ≡ map (λ h. h.parameters) hs
+    → read (heads_layout version n) t1 ≡ Ok (map raw_head hs, t2) → ps ≡ map (λ h. h.parameters) hs
     → Reads view (read (bodies_layout (counting version ps) (map raw_head hs)) t2) answer new
     → Reads view (read (some_functions_layout version) t0) answer new
 functions_read view version n hs ps t0 t1 t2 answer new e0 e1 p h =
     reads_behind view count_layout (functions_layout version) t0 n t1 answer new e0
-    (reads_behind view (heads_layout n) (of_heads version) t1 (map raw_head hs) t2 answer new e1
+    (reads_behind view (heads_layout version n) (of_heads version) t1 (map raw_head hs) t2 answer new e1
     (subst (λ ps. Reads view (read (bodies_layout (counting version ps) (map raw_head hs)) t2) answer new) (p ∙ counts_of hs) h))
 
 -- ---- the code

@@ -2,10 +2,10 @@
 use Rattle.std.specs.Prelude.{ℕ, zero, suc, ◌-◌, ◌==◌, ◌&&◌, not, nat_lt, List, [], ◌∷◌, length, map, Bool, true, Option, Result, Ok, Err, if◌then◌else◌}
 use Rattle.bytecode.specs.declared.kind.Kind.{Kind}
 use Rattle.bytecode.specs.Kinds.{is_kind, kind_of, is_return, return_of}
-use Rattle.bytecode.specs.Raw.{Raw, Literal, Move, Store, Binary, Not, Cast, Classify, Fill, At, Put, Size, Cat, Sum, Bits, Declassify, Argument}
+use Rattle.bytecode.specs.Raw.{Raw, Literal, Move, Store, Binary, Not, Cast, Classify, Fill, At, Put, Size, Cat, Sum, Bits, Lookup, Declassify, Argument}
 use Rattle.bytecode.specs.Raw.{Publish, Assert, Branch, Jump, Call, Return, ReturnNone, RawFunction, RawCode}
 use Rattle.bytecode.specs.Writable.{is_new_name}
-use Rattle.bytecode.specs.Versions.{arguments_at, version_byte, Counting, ByHeads, Counted, counting}
+use Rattle.bytecode.specs.Versions.{arguments_at, is_tag, version_byte, version_of, Counting, ByHeads, Counted, counting}
 use Rattle.bytecode.specs.declared.version.CodeVersion.{CodeVersion}
 use Rattle.bytecode.specs.declared.version.CodeVersion.TheVariants.{First, Second}
 use Rattle.bytecode.specs.declared.fault.DecodeFault.{DecodeFault}
@@ -38,9 +38,6 @@ short_layout = Field BadTag 2 any Makes
 
 abbrev pub shorts : {A : Type 0} → ℕ → (List ℕ → Layout A) → Layout A
 shorts n = behind (repeated short_layout n)
-
-abbrev pub is_tag : ℕ → Bool
-is_tag tag = nat_lt 0 tag && nat_lt tag 25 && not (tag == 0x15)
 
 abbrev pub is_operator : ℕ → Bool
 is_operator o = nat_lt o 14
@@ -78,10 +75,11 @@ operands rule tag =
     else if tag == 0x14 then short_field (λ target. Makes (Jump target))
     else if tag == 0x16 then short_field (λ f. short_field (λ d. behind (argument_count rule f) (λ n. shorts n (λ xs. line_field (λ line. Makes (Call f d xs line))))))
     else if tag == 0x17 then short_field (λ r. Makes (Return r))
-    else Makes ReturnNone
+    else if tag == 0x18 then Makes ReturnNone
+    else triple_layout Lookup
 
 abbrev pub instruction_layout : Counting → Layout Raw
-instruction_layout rule = Field BadTag 1 is_tag (operands rule)
+instruction_layout rule = Field BadTag 1 (is_tag (version_of rule)) (operands rule)
 
 abbrev pub body_layout : Counting → ℕ → Layout (List Raw)
 body_layout rule = repeated (instruction_layout rule)
@@ -95,19 +93,19 @@ pub record Head : Type 0 where
   pub registers : List Kind
   pub instructions : ℕ
 
-abbrev pub kind_layout : Layout Kind
-kind_layout = Field BadTag 1 is_kind (λ b. Makes (kind_of b))
+abbrev pub kind_layout : CodeVersion → Layout Kind
+kind_layout version = Field BadTag 1 (is_kind version) (λ b. Makes (kind_of b))
 
-abbrev pub kinds : {A : Type 0} → ℕ → (List Kind → Layout A) → Layout A
-kinds n = behind (repeated kind_layout n)
+abbrev pub kinds : {A : Type 0} → CodeVersion → ℕ → (List Kind → Layout A) → Layout A
+kinds version n = behind (repeated (kind_layout version) n)
 
-abbrev pub head_layout : Layout Head
-head_layout =
-    short_field (λ p. Field BadTag 1 is_return (λ b. short_field (λ n. kinds n (λ ks. short_field (λ count.
+abbrev pub head_layout : CodeVersion → Layout Head
+head_layout version =
+    short_field (λ p. Field BadTag 1 (is_return version) (λ b. short_field (λ n. kinds version n (λ ks. short_field (λ count.
     Makes (record { parameters = p; gives = return_of b; registers = ks; instructions = count }))))))
 
-abbrev pub heads_layout : ℕ → Layout (List Head)
-heads_layout = repeated head_layout
+abbrev pub heads_layout : CodeVersion → ℕ → Layout (List Head)
+heads_layout version = repeated (head_layout version)
 
 abbrev pub names_layout : List (List ℕ) → ℕ → Layout (List (List ℕ))
 names_layout earlier zero = Makes []
@@ -123,7 +121,7 @@ bodies_layout rule [] = Makes []
 bodies_layout rule (h ∷ hs) = behind (body_layout rule h.instructions) (λ is. behind (bodies_layout rule hs) (λ fs. Makes (function_of h is ∷ fs)))
 
 abbrev pub functions_layout : CodeVersion → ℕ → Layout (List RawFunction)
-functions_layout version n = behind (heads_layout n) (λ hs. bodies_layout (counting version (map (λ h. h.parameters) hs)) hs)
+functions_layout version n = behind (heads_layout version n) (λ hs. bodies_layout (counting version (map (λ h. h.parameters) hs)) hs)
 
 abbrev pub is_some_count : ℕ → Bool
 is_some_count n = nat_lt 0 n

@@ -9,7 +9,7 @@ use Rattle.bytecode.specs.declared.code.CodeFunction.{CodeFunction}
 use Rattle.bytecode.specs.declared.code.Code.{Code}
 use Rattle.bytecode.specs.declared.head.Head as heads
 use Rattle.bytecode.specs.Decoded.{Head}
-use Rattle.bytecode.specs.Raw.{Raw, Literal, Move, Store, Binary, Not, Cast, Classify, Fill, At, Put, Size, Cat, Sum, Bits, Declassify, Argument}
+use Rattle.bytecode.specs.Raw.{Raw, Literal, Move, Store, Binary, Not, Cast, Classify, Fill, At, Put, Size, Cat, Sum, Bits, Lookup, Declassify, Argument}
 use Rattle.bytecode.specs.Raw.{Publish, Assert, Branch, Jump, Call, Return, ReturnNone, RawFunction, RawCode}
 
 -- the byte of an operator's sign
@@ -52,6 +52,7 @@ raw_instruction (instructions.Size d r) = Size d.0 r.0
 raw_instruction (instructions.Cat d a b line) = Cat d.0 a.0 b.0 line
 raw_instruction (instructions.Sum d r) = Sum d.0 r.0
 raw_instruction (instructions.Bits d r line) = Bits d.0 r.0 line
+raw_instruction (instructions.Lookup d a i line) = Lookup d.0 a.0 i.0 line
 raw_instruction (instructions.Declassify d r) = Declassify d.0 r.0
 raw_instruction (instructions.Argument d name line) = Argument d.0 name.0 line
 raw_instruction (instructions.Publish name r) = Publish name.0 r.0

@@ -12,6 +12,7 @@ pub data Raw : Type 0 where
   Put : (array index value line : ℕ) → Raw
   Cat : (to left right line : ℕ) → Raw
   Bits : (to source line : ℕ) → Raw
+  Lookup : (to array index line : ℕ) → Raw
   Argument : (to name line : ℕ) → Raw
   Publish : (name source : ℕ) → Raw
   Assert : (condition line : ℕ) → Raw

@@ -3,7 +3,7 @@ use Rattle.std.specs.Prelude.{ℕ, ◌<◌, ◌^◌, List, [], ◌∷◌, length
 use Rattle.std.specs.List.{AllByRecursion as Each, list_any}
 use Rattle.std.specs.Str.{bytes_eq}
 use Rattle.sc_text.specs.Name.{is_name}
-use Rattle.bytecode.specs.Raw.{Raw, Literal, Move, Store, Binary, Not, Cast, Classify, Fill, At, Put, Size, Cat, Sum, Bits, Declassify, Argument}
+use Rattle.bytecode.specs.Raw.{Raw, Literal, Move, Store, Binary, Not, Cast, Classify, Fill, At, Put, Size, Cat, Sum, Bits, Lookup, Declassify, Argument}
 use Rattle.bytecode.specs.Raw.{Publish, Assert, Branch, Jump, Call, Return, ReturnNone, RawFunction, RawCode}
 use Rattle.bytecode.specs.Written.{Number, sized, code_numbers}
 
@@ -27,6 +27,7 @@ IsProper (Size d r) = Unit {0}
 IsProper (Cat d a b line) = Unit {0}
 IsProper (Sum d r) = Unit {0}
 IsProper (Bits d r line) = Unit {0}
+IsProper (Lookup d a i line) = Unit {0}
 IsProper (Declassify d r) = Unit {0}
 IsProper (Argument d name line) = Unit {0}
 IsProper (Publish name r) = Unit {0}

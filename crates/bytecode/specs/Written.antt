@@ -2,7 +2,7 @@
 use Rattle.std.specs.Prelude.{ℕ, zero, suc, ◌/◌, ◌%◌, List, [], ◌∷◌, ◌++◌, length, map}
 use Rattle.std.specs.List.{flat_map}
 use Rattle.bytecode.specs.Kinds.{kind_byte, return_byte}
-use Rattle.bytecode.specs.Raw.{Raw, Literal, Move, Store, Binary, Not, Cast, Classify, Fill, At, Put, Size, Cat, Sum, Bits, Declassify, Argument}
+use Rattle.bytecode.specs.Raw.{Raw, Literal, Move, Store, Binary, Not, Cast, Classify, Fill, At, Put, Size, Cat, Sum, Bits, Lookup, Declassify, Argument}
 use Rattle.bytecode.specs.Raw.{Publish, Assert, Branch, Jump, Call, Return, ReturnNone, RawFunction, RawCode}
 
 -- a number in so many bytes
@@ -47,6 +47,7 @@ instruction_numbers (Size d r) = byte 0x0b ∷ short d ∷ short r ∷ []
 instruction_numbers (Cat d a b line) = byte 0x0c ∷ short d ∷ short a ∷ short b ∷ source_line line ∷ []
 instruction_numbers (Sum d r) = byte 0x0d ∷ short d ∷ short r ∷ []
 instruction_numbers (Bits d r line) = byte 0x0e ∷ short d ∷ short r ∷ source_line line ∷ []
+instruction_numbers (Lookup d a i line) = byte 0x19 ∷ short d ∷ short a ∷ short i ∷ source_line line ∷ []
 instruction_numbers (Declassify d r) = byte 0x0f ∷ short d ∷ short r ∷ []
 instruction_numbers (Argument d name line) = byte 0x10 ∷ short d ∷ short name ∷ source_line line ∷ []
 instruction_numbers (Publish name r) = byte 0x11 ∷ short name ∷ short r ∷ []

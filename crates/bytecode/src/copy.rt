@@ -89,6 +89,17 @@ impl Instruction {
             }),
             Instruction::Sum { to, source } => Ok(Instruction::Sum { to, source }),
             Instruction::Bits { to, source, line } => Ok(Instruction::Bits { to, source, line }),
+            Instruction::Lookup {
+                to,
+                array,
+                index,
+                line,
+            } => Ok(Instruction::Lookup {
+                to,
+                array,
+                index,
+                line,
+            }),
             Instruction::Declassify { to, source } => Ok(Instruction::Declassify { to, source }),
             Instruction::Argument { to, name, line } => Ok(Instruction::Argument {
                 to,

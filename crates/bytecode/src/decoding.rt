@@ -90,7 +90,7 @@ fn functions(
     ensures { Reads (λ v. map raw_function v.items) (read (some_functions_layout version) reader.old) result reader.new }
 {
     let count = reader.count()?;
-    let heads = all_heads(alloc, reader, count as usize)?;
+    let heads = all_heads(alloc, reader, version, count as usize)?;
     let parameters = parameters_of(alloc, &heads)?;
     bodies(alloc, reader, version, &parameters, heads)
 }
@@ -143,7 +143,8 @@ pub fn decode(alloc: Global, bytes: &[u8]) -> Result<Code, DecodeErr>
 }
 
 /// Reads code of the first version, or tells the first fault of the text. There the number of a call's arguments doesn't stand before
-/// them: it is that of the called function's parameters, and 0 where there is no such function.
+/// them: it is that of the called function's parameters, and 0 where there is no such function. It has no numbers with a sign and no
+/// look-ups.
 pub fn decode_v1(alloc: Global, bytes: &[u8]) -> Result<Code, DecodeErr>
     ensures { IsDecoded (decoded_v1 bytes.now) result }
 {

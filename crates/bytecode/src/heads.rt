@@ -11,34 +11,44 @@ use crate::kind::{Kind, kind_of, return_of};
 use crate::lists::push;
 use crate::reader::Reader;
 use crate::test::Test;
+use crate::version::CodeVersion;
 use std::alloc::Global;
 
-fn next_kind(reader: &mut Reader<'_>) -> Result<Kind, Stopped>
-    ensures { Reads (λ k. k) (read kind_layout reader.old) result reader.new }
+fn next_kind(reader: &mut Reader<'_>, version: CodeVersion) -> Result<Kind, Stopped>
+    ensures { Reads (λ k. k) (read (kind_layout version) reader.old) result reader.new }
 {
-    let byte = reader.tested(Test::Kind)?;
+    let byte = reader.tested(Test::Kind(version))?;
     Ok(kind_of(byte))
 }
 
-fn kinds(alloc: Global, reader: &mut Reader<'_>, count: usize) -> Result<Vec<Kind>, Stopped>
-    ensures reads { Reads (λ v. v.items) (read (repeated kind_layout count) reader.old) result reader.new }
+fn kinds(
+    alloc: Global,
+    reader: &mut Reader<'_>,
+    version: CodeVersion,
+    count: usize,
+) -> Result<Vec<Kind>, Stopped>
+    ensures reads { Reads (λ v. v.items) (read (repeated (kind_layout version) count) reader.old) result reader.new }
     ensures exact { IfOk result (λ v. length v.items ≡ count) }
 {
     let mut found = Vec::new(alloc);
     for place in 0..count {
-        let next = next_kind(reader)?;
+        let next = next_kind(reader, version)?;
         push(&mut found, next)?;
     }
     Ok(found)
 }
 
-fn next_head(alloc: Global, reader: &mut Reader<'_>) -> Result<Head, Stopped>
-    ensures { Reads raw_head (read head_layout reader.old) result reader.new }
+fn next_head(
+    alloc: Global,
+    reader: &mut Reader<'_>,
+    version: CodeVersion,
+) -> Result<Head, Stopped>
+    ensures { Reads raw_head (read (head_layout version) reader.old) result reader.new }
 {
     let parameters = reader.short()?;
-    let gives = reader.tested(Test::Return)?;
+    let gives = reader.tested(Test::Return(version))?;
     let count = reader.short()?;
-    let registers = kinds(alloc, reader, count as usize)?;
+    let registers = kinds(alloc, reader, version, count as usize)?;
     let instructions = reader.short()?;
     Ok(Head {
         parameters,
@@ -52,13 +62,14 @@ fn next_head(alloc: Global, reader: &mut Reader<'_>) -> Result<Head, Stopped>
 pub(crate) fn all_heads(
     alloc: Global,
     reader: &mut Reader<'_>,
+    version: CodeVersion,
     count: usize,
 ) -> Result<Vec<Head>, Stopped>
-    ensures { Reads (λ v. map raw_head v.items) (read (heads_layout count) reader.old) result reader.new }
+    ensures { Reads (λ v. map raw_head v.items) (read (heads_layout version count) reader.old) result reader.new }
 {
     let mut found = Vec::new(alloc);
     for place in 0..count {
-        let next = next_head(alloc, reader)?;
+        let next = next_head(alloc, reader, version)?;
         push(&mut found, next)?;
     }
     Ok(found)

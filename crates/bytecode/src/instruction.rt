@@ -97,6 +97,13 @@ pub enum Instruction {
         source: Register,
         line: u32,
     },
+    /// The elements of a private array at private indices, 0 where there is none: at one index, or at each of an array of them.
+    Lookup {
+        to: Register,
+        array: Register,
+        index: Register,
+        line: u32,
+    },
     Declassify {
         to: Register,
         source: Register,
@@ -184,6 +191,12 @@ impl Drop for Instruction {
             | Instruction::Bits {
                 to: _,
                 source: _,
+                line: _,
+            }
+            | Instruction::Lookup {
+                to: _,
+                array: _,
+                index: _,
                 line: _,
             }
             | Instruction::Declassify { to: _, source: _ }

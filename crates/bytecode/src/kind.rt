@@ -20,10 +20,11 @@ fn bit_where(is_set: bool, bit: u8) -> u8
 
 fn element_bit(element: DataType) -> u8
     ensures bit { result ≡ element_bit element }
-    ensures within { result ≤ 2 }
+    ensures within { result ≤ 8 }
 {
     match element {
         DataType::Uint64 => 0,
+        DataType::Int64 => 8,
         DataType::Bool => 2,
     }
 }
@@ -53,13 +54,15 @@ pub(crate) fn kind_of(byte: u8) -> Kind
 {
     let element = if byte / 2 % 2 == 1 {
         DataType::Bool
+    } else if byte / 8 == 1 {
+        DataType::Int64
     } else {
         DataType::Uint64
     };
     Kind {
         secret: byte % 2 == 1,
         element,
-        array: byte / 4 == 1,
+        array: byte / 4 % 2 == 1,
     }
 }
 

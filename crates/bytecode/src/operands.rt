@@ -104,6 +104,12 @@ fn made(tag: Tag, o: Operands) -> Instruction
             source: Register(o.second),
             line: o.line,
         },
+        Tag::Lookup => Instruction::Lookup {
+            to: Register(o.first),
+            array: Register(o.second),
+            index: Register(o.third),
+            line: o.line,
+        },
         Tag::Declassify => Instruction::Declassify {
             to: Register(o.first),
             source: Register(o.second),
@@ -239,7 +245,7 @@ pub(crate) fn instruction(
 ) -> Result<Instruction, Stopped>
     ensures { Reads raw_instruction (read (instruction_layout (counting version parameters.now)) reader.old) result reader.new }
 {
-    let tag = tag_of(reader.tested(Test::Tag)?);
+    let tag = tag_of(version, reader.tested(Test::Tag(version))?);
     match tag {
         Tag::Call => call(alloc, reader, version, parameters),
         _ => plain(reader, tag),

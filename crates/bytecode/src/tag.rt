@@ -1,6 +1,8 @@
 ghost use Rattle.std.specs.Prelude.{◌≡◌, IsTrue};
-ghost use Rattle.bytecode.specs.Decoded.{is_tag};
+ghost use Rattle.bytecode.specs.Versions.{is_tag};
 ghost use Rattle.bytecode.specs.inner.Tags.{has_first, has_line, has_operator, has_second, has_third, has_truth, has_word, tag_byte};
+
+use crate::version::CodeVersion;
 
 /// Which instruction it is.
 #[derive(Clone, Copy)]
@@ -28,11 +30,12 @@ pub(crate) enum Tag {
     Call,
     Return,
     ReturnNone,
+    Lookup,
 }
 
 /// The tag of a byte that is one.
-pub(crate) fn tag_of(byte: u8) -> Tag
-    requires { IsTrue (is_tag byte) }
+pub(crate) fn tag_of(version: CodeVersion, byte: u8) -> Tag
+    requires { IsTrue (is_tag version byte) }
     ensures { tag_byte result ≡ byte }
 {
     match byte {
@@ -58,7 +61,8 @@ pub(crate) fn tag_of(byte: u8) -> Tag
         0x14 => Tag::Jump,
         0x16 => Tag::Call,
         0x17 => Tag::Return,
-        _ => Tag::ReturnNone,
+        0x18 => Tag::ReturnNone,
+        _ => Tag::Lookup,
     }
 }
 
@@ -105,6 +109,7 @@ impl Tag {
                 | Tag::Cat
                 | Tag::Binary
                 | Tag::Bits
+                | Tag::Lookup
                 | Tag::Argument
                 | Tag::Branch
         )
@@ -116,7 +121,7 @@ impl Tag {
     {
         matches!(
             self,
-            Tag::Fill | Tag::At | Tag::Put | Tag::Cat | Tag::Binary
+            Tag::Fill | Tag::At | Tag::Put | Tag::Cat | Tag::Binary | Tag::Lookup
         )
     }
 
@@ -132,6 +137,7 @@ impl Tag {
                 | Tag::Cat
                 | Tag::Binary
                 | Tag::Bits
+                | Tag::Lookup
                 | Tag::Argument
                 | Tag::Assert
         )

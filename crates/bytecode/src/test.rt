@@ -1,15 +1,17 @@
 ghost use Rattle.std.specs.Prelude.{◌≡◌};
 ghost use Rattle.bytecode.specs.inner.Tests.{passes};
 
+use crate::version::CodeVersion;
+
 /// What a number that is read has to be.
 #[derive(Clone, Copy)]
 pub(crate) enum Test {
     Any,
-    Tag,
+    Tag(CodeVersion),
     Operator,
     Truth,
-    Kind,
-    Return,
+    Kind(CodeVersion),
+    Return(CodeVersion),
     Count,
     NameLength,
 }
@@ -21,11 +23,11 @@ impl Test {
     {
         match self {
             Test::Any => true,
-            Test::Tag => 0 < value && value < 25 && value != 0x15,
+            Test::Tag(version) => version.is_tag(value),
             Test::Operator => value < 14,
             Test::Truth => value < 2,
-            Test::Kind => value < 8,
-            Test::Return => value < 8 || value == 255,
+            Test::Kind(version) => version.is_kind(value),
+            Test::Return(version) => version.is_kind(value) || value == 255,
             Test::Count => 0 < value,
             Test::NameLength => 1 <= value && value <= 64,
         }

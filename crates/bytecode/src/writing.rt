@@ -184,6 +184,12 @@ pub(crate) fn push_instruction(
         Instruction::Bits { to, source, line } => push_pair_with_line(
             text, 0x0e, to.0, source.0, line,
         ),
+        Instruction::Lookup {
+            to,
+            array,
+            index,
+            line,
+        } => push_triple(text, 0x19, to.0, array.0, index.0, line),
         Instruction::Declassify { to, source } => push_pair(text, 0x0f, to.0, source.0),
         Instruction::Argument { to, name, line } => push_pair_with_line(
             text, 0x10, to.0, name.0, line,

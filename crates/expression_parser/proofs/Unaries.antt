@@ -7,6 +7,7 @@ use Rattle.sc_text.specs.declared.span.Span.{Span}
 use Rattle.secrec_lexer.specs.Tokens.{is_sign, IsEnded}
 use Rattle.secrec_lexer.specs.declared.sign.Sign.{Sign}
 use Rattle.secrec_lexer.specs.declared.sign.Sign.TheVariants as signs
+use Rattle.secrec_lexer.specs.declared.token.TokenKind.{TokenKind}
 use Rattle.secrec_lexer.specs.declared.token.TokenKind.TheVariants as kinds
 use Rattle.secrec_lexer.specs.declared.token.Token.{Token}
 use Rattle.program_trees.specs.declared.expression.DataType.{DataType}
@@ -123,22 +124,35 @@ same_free c d (x ∷ m) st = st
 type_token : (t : DataType) (s : List Token) → IsDataType t s → (q : Span) × (k : Sign) × (s ≡ token q (kinds.Sign k) ∷ []) × (least (kinds.Sign k) ≡ None)
 type_token types.Uint64 s (inl v) = (v.0, signs.Uint64, v.1, refl)
 type_token types.Uint64 s (inr v) = (v.0, signs.Uint, v.1, refl)
+type_token types.Int64 s (inl v) = (v.0, signs.Int64, v.1, refl)
+type_token types.Int64 s (inr v) = (v.0, signs.Int, v.1, refl)
 type_token types.Bool s v = (v.0, signs.Bool, v.1, refl)
 
 sign_kind : (k : Sign) (x : Token) → sign k (x ∷ []) → x.kind ≡ kinds.Sign k
 sign_kind k x v = ap (λ (t : Token). t.kind) (cons_head v.1)
 
+-- the type that a token names
+abbrev type_of_sign : Sign → Option DataType
+type_of_sign signs.Uint64 = Some types.Uint64
+type_of_sign signs.Uint = Some types.Uint64
+type_of_sign signs.Int64 = Some types.Int64
+type_of_sign signs.Int = Some types.Int64
+type_of_sign signs.Bool = Some types.Bool
+type_of_sign k = None
+
+abbrev type_of_kind : TokenKind → Option DataType
+type_of_kind (kinds.Sign k) = type_of_sign k
+type_of_kind k = None
+
+type_named : (t : DataType) (x : Token) → IsDataType t (x ∷ []) → type_of_kind x.kind ≡ Some t
+type_named types.Uint64 x (inl v) = ap type_of_kind (sign_kind signs.Uint64 x v)
+type_named types.Uint64 x (inr v) = ap type_of_kind (sign_kind signs.Uint x v)
+type_named types.Int64 x (inl v) = ap type_of_kind (sign_kind signs.Int64 x v)
+type_named types.Int64 x (inr v) = ap type_of_kind (sign_kind signs.Int x v)
+type_named types.Bool x v = ap type_of_kind (sign_kind signs.Bool x v)
+
 one_type : (t u : DataType) (x : Token) → IsDataType t (x ∷ []) → IsDataType u (x ∷ []) → t ≡ u
-one_type types.Uint64 types.Uint64 x v w = refl
-one_type types.Bool types.Bool x v w = refl
-one_type types.Uint64 types.Bool x (inl v) w =
-    let f : kinds.Sign signs.Uint64 ≡ kinds.Sign signs.Bool = sym (sign_kind signs.Uint64 x v) ∙ sign_kind signs.Bool x w in cc
-one_type types.Uint64 types.Bool x (inr v) w =
-    let f : kinds.Sign signs.Uint ≡ kinds.Sign signs.Bool = sym (sign_kind signs.Uint x v) ∙ sign_kind signs.Bool x w in cc
-one_type types.Bool types.Uint64 x v (inl w) =
-    let f : kinds.Sign signs.Uint64 ≡ kinds.Sign signs.Bool = sym (sign_kind signs.Uint64 x w) ∙ sign_kind signs.Bool x v in cc
-one_type types.Bool types.Uint64 x v (inr w) =
-    let f : kinds.Sign signs.Uint ≡ kinds.Sign signs.Bool = sym (sign_kind signs.Uint x w) ∙ sign_kind signs.Bool x v in cc
+one_type t u x v w = let e : Some t ≡ Some u = sym (type_named t x v) ∙ type_named u x w in cc
 
 -- a token that spells a type
 type_good : (t : DataType) (x : Token) (m : List Token) (k : Sign) → x.kind ≡ kinds.Sign k → IsDataType t (x ∷ []) → IsEnded (x ∷ m)
@@ -163,36 +177,48 @@ type_good t x m k e here en =
 sign_here : (k : Sign) (x : Token) → x.kind ≡ kinds.Sign k → sign k (x ∷ [])
 sign_here k x e = (x.place, ap (λ z. token x.place z ∷ []) e)
 
+abbrev begins_type : TokenKind → Bool
+begins_type k = begins_data_type (token origin k ∷ [])
+
 -- what begins a type is told by the test of it
 type_told : (t : DataType) (s m m2 : List Token) (x : Token) → IsDataType t s → s ++ m ≡ x ∷ m2 → begins_data_type (x ∷ m2) ≡ true
-type_told types.Uint64 s m m2 x (inl v) eq =
-    let e = head_kind s [] m m2 v.0 (kinds.Sign signs.Uint64) x v.1 eq in
-    ap (λ k. is_sign signs.Uint64 (token origin k) || is_sign signs.Uint (token origin k) || is_sign signs.Bool (token origin k)) (sym e)
-type_told types.Uint64 s m m2 x (inr v) eq =
-    let e = head_kind s [] m m2 v.0 (kinds.Sign signs.Uint) x v.1 eq in
-    ap (λ k. is_sign signs.Uint64 (token origin k) || is_sign signs.Uint (token origin k) || is_sign signs.Bool (token origin k)) (sym e)
-type_told types.Bool s m m2 x v eq =
-    let e = head_kind s [] m m2 v.0 (kinds.Sign signs.Bool) x v.1 eq in
-    ap (λ k. is_sign signs.Uint64 (token origin k) || is_sign signs.Uint (token origin k) || is_sign signs.Bool (token origin k)) (sym e)
+type_told types.Uint64 s m m2 x (inl v) eq = ap begins_type (sym (head_kind s [] m m2 v.0 (kinds.Sign signs.Uint64) x v.1 eq))
+type_told types.Uint64 s m m2 x (inr v) eq = ap begins_type (sym (head_kind s [] m m2 v.0 (kinds.Sign signs.Uint) x v.1 eq))
+type_told types.Int64 s m m2 x (inl v) eq = ap begins_type (sym (head_kind s [] m m2 v.0 (kinds.Sign signs.Int64) x v.1 eq))
+type_told types.Int64 s m m2 x (inr v) eq = ap begins_type (sym (head_kind s [] m m2 v.0 (kinds.Sign signs.Int) x v.1 eq))
+type_told types.Bool s m m2 x v eq = ap begins_type (sym (head_kind s [] m m2 v.0 (kinds.Sign signs.Bool) x v.1 eq))
 
 pub data_type_reads : (w : List Token) → IsEnded w → Reads IsDataType All Any w (data_type w)
 data_type_reads [] en = cc
-data_type_reads (x ∷ m) en = one_of (is_sign signs.Uint64 x) (is_sign signs.Uint x) (is_sign signs.Bool x) refl refl refl
+data_type_reads (x ∷ m) en =
+    one_of (is_sign signs.Uint64 x) (is_sign signs.Uint x) (is_sign signs.Int64 x) (is_sign signs.Int x) (is_sign signs.Bool x) refl refl refl refl refl
   where
-    one_of : (a b c : Bool) → is_sign signs.Uint64 x ≡ a → is_sign signs.Uint x ≡ b → is_sign signs.Bool x ≡ c
-        → Reads IsDataType All Any (x ∷ m) (data_type_at (cond a (Some types.Uint64) (cond b (Some types.Uint64) (cond c (Some types.Bool) None))) x m)
-    one_of true b c f g i =
+    one_of : (a b c d e : Bool) → is_sign signs.Uint64 x ≡ a → is_sign signs.Uint x ≡ b → is_sign signs.Int64 x ≡ c → is_sign signs.Int x ≡ d
+        → is_sign signs.Bool x ≡ e
+        → Reads IsDataType All Any (x ∷ m)
+        (data_type_at (cond (a || b) (Some types.Uint64) (cond (c || d) (Some types.Int64) (cond e (Some types.Bool) None))) x m)
+    one_of true b c d e f g h i j =
         let k = is_sign-true signs.Uint64 x f in
         type_good types.Uint64 x m signs.Uint64 k (inl (sign_here signs.Uint64 x k)) en
-    one_of false true c f g i =
+    one_of false true c d e f g h i j =
         let k = is_sign-true signs.Uint x g in
         type_good types.Uint64 x m signs.Uint k (inr (sign_here signs.Uint x k)) en
-    one_of false false true f g i =
-        let k = is_sign-true signs.Bool x i in
+    one_of false false true d e f g h i j =
+        let k = is_sign-true signs.Int64 x h in
+        type_good types.Int64 x m signs.Int64 k (inl (sign_here signs.Int64 x k)) en
+    one_of false false false true e f g h i j =
+        let k = is_sign-true signs.Int x i in
+        type_good types.Int64 x m signs.Int k (inr (sign_here signs.Int x k)) en
+    one_of false false false false true f g h i j =
+        let k = is_sign-true signs.Bool x j in
         type_good types.Bool x m signs.Bool k (sign_here signs.Bool x k) en
-    one_of false false false f g i =
-        let untyped : begins_data_type (x ∷ m) ≡ false = ap (λ a. a || is_sign signs.Uint x || is_sign signs.Bool x) f
-        ∙ ap (λ b. b || is_sign signs.Bool x) g ∙ i in
+    one_of false false false false false f g h i j =
+        let untyped : begins_data_type (x ∷ m) ≡ false =
+        ap (λ t. t || is_sign signs.Uint x || is_sign signs.Int64 x || is_sign signs.Int x || is_sign signs.Bool x) f
+        ∙ ap (λ t. t || is_sign signs.Int64 x || is_sign signs.Int x || is_sign signs.Bool x) g
+        ∙ ap (λ t. t || is_sign signs.Int x || is_sign signs.Bool x) h
+        ∙ ap (λ t. t || is_sign signs.Bool x) i
+        ∙ j in
         record {
           s = [];
           x = x;
@@ -294,16 +320,26 @@ postfix_no_type c s m m2 x y v eq k unstarted =
 
 -- what begins a type begins no expression
 type_least : (y : Token) (n : List Token) → begins_data_type (y ∷ n) ≡ true → least y.kind ≡ None
-type_least y n e = one_of (is_sign signs.Uint64 y) (is_sign signs.Uint y) (is_sign signs.Bool y) refl refl refl (e)
+type_least y n e =
+    one_of (is_sign signs.Uint64 y) (is_sign signs.Uint y) (is_sign signs.Int64 y) (is_sign signs.Int y) (is_sign signs.Bool y) refl refl refl refl refl e
   where
-    one_of : (a b c : Bool) → is_sign signs.Uint64 y ≡ a → is_sign signs.Uint y ≡ b → is_sign signs.Bool y ≡ c
-        → (is_sign signs.Uint64 y || is_sign signs.Uint y || is_sign signs.Bool y) ≡ true → least y.kind ≡ None
-    one_of true b c f g i t = ap least (is_sign-true signs.Uint64 y f)
-    one_of false true c f g i t = ap least (is_sign-true signs.Uint y g)
-    one_of false false true f g i t = ap least (is_sign-true signs.Bool y i)
-    one_of false false false f g i t =
-        let untyped = ap (λ a. a || is_sign signs.Uint y || is_sign signs.Bool y) f ∙ ap (λ b. b || is_sign signs.Bool y) g ∙ i in
-        let h = sym t ∙ untyped in cc
+    one_of : (a b c d e : Bool) → is_sign signs.Uint64 y ≡ a → is_sign signs.Uint y ≡ b → is_sign signs.Int64 y ≡ c → is_sign signs.Int y ≡ d
+        → is_sign signs.Bool y ≡ e
+        → (is_sign signs.Uint64 y || is_sign signs.Uint y || is_sign signs.Int64 y || is_sign signs.Int y || is_sign signs.Bool y) ≡ true
+        → least y.kind ≡ None
+    one_of true b c d e f g h i j t = ap least (is_sign-true signs.Uint64 y f)
+    one_of false true c d e f g h i j t = ap least (is_sign-true signs.Uint y g)
+    one_of false false true d e f g h i j t = ap least (is_sign-true signs.Int64 y h)
+    one_of false false false true e f g h i j t = ap least (is_sign-true signs.Int y i)
+    one_of false false false false true f g h i j t = ap least (is_sign-true signs.Bool y j)
+    one_of false false false false false f g h i j t =
+        let untyped =
+        ap (λ t. t || is_sign signs.Uint y || is_sign signs.Int64 y || is_sign signs.Int y || is_sign signs.Bool y) f
+        ∙ ap (λ t. t || is_sign signs.Int64 y || is_sign signs.Int y || is_sign signs.Bool y) g
+        ∙ ap (λ t. t || is_sign signs.Int y || is_sign signs.Bool y) h
+        ∙ ap (λ t. t || is_sign signs.Bool y) i
+        ∙ j in
+        let l = sym t ∙ untyped in cc
 
 -- after the parenthesis of a cast stands a type
 cast_second : (c : Tree) (s m m2 : List Token) (x y : Token) → CastPhrase c s → s ++ m ≡ x ∷ y ∷ m2 → begins_data_type (y ∷ m2) ≡ true

@@ -85,9 +85,10 @@ IsPrimary (cast p t e) = ⊥
 IsPrimary (binary p op a b) = ⊥
 IsPrimary _ = Unit {0}
 
--- the type of an element: `uint` is `uint64`
+-- the type of an element: `uint` is `uint64`, and `int` is `int64`
 abbrev pub IsDataType : DataType → Phrase
 IsDataType types.Uint64 ts = sign signs.Uint64 ts ⊎ sign signs.Uint ts
+IsDataType types.Int64 ts = sign signs.Int64 ts ⊎ sign signs.Int ts
 IsDataType types.Bool ts = sign signs.Bool ts
 
 -- The tokens spell the tree as an expression whose operators outside brackets bind at this level or tighter.

@@ -60,8 +60,8 @@ identifier (x ∷ m) = identifier_of x.kind x m
 -- the type of an element
 abbrev pub data_type_of : Token → Option DataType
 data_type_of x =
-    if is_sign signs.Uint64 x then Some types.Uint64
-    else if is_sign signs.Uint x then Some types.Uint64
+    if is_sign signs.Uint64 x || is_sign signs.Uint x then Some types.Uint64
+    else if is_sign signs.Int64 x || is_sign signs.Int x then Some types.Int64
     else if is_sign signs.Bool x then Some types.Bool
     else None
 
@@ -76,7 +76,8 @@ data_type (x ∷ m) = data_type_at (data_type_of x) x m
 -- whether a type of an element begins so
 abbrev pub begins_data_type : List Token → Bool
 begins_data_type [] = false
-begins_data_type (x ∷ m) = is_sign signs.Uint64 x || is_sign signs.Uint x || is_sign signs.Bool x
+begins_data_type (x ∷ m) =
+    is_sign signs.Uint64 x || is_sign signs.Uint x || is_sign signs.Int64 x || is_sign signs.Int x || is_sign signs.Bool x
 
 -- the least height of an expression that begins with such a token, where one does
 abbrev pub least_of_sign : Sign → Option ℕ

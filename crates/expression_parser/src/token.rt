@@ -61,10 +61,10 @@ pub fn text<'a>(alloc: Global, tokens: &'a [Token]) -> Read<'a, Name>
 fn data_type_of(token: &Token) -> Option<DataType>
     ensures { result ≡ data_type_of token.now }
 {
-    if token.is(Sign::Uint64) {
+    if token.is(Sign::Uint64) || token.is(Sign::Uint) {
         Some(DataType::Uint64)
-    } else if token.is(Sign::Uint) {
-        Some(DataType::Uint64)
+    } else if token.is(Sign::Int64) || token.is(Sign::Int) {
+        Some(DataType::Int64)
     } else if token.is(Sign::Bool) {
         Some(DataType::Bool)
     } else {
@@ -72,7 +72,7 @@ fn data_type_of(token: &Token) -> Option<DataType>
     }
 }
 
-/// The type of an element: `uint64`, `uint`, which is the same, or `bool`.
+/// The type of an element: `uint64` or `uint`, which are one, `int64` or `int`, which are one too, or `bool`.
 pub fn data_type<'a>(tokens: &'a [Token]) -> Read<'a, DataType>
     ensures step { Gives (λ x. (x.0, x.1.now)) result (data_type tokens.now) }
     ensures shorter { IfOk result (λ x. length x.1.now < length tokens.now) }
@@ -91,7 +91,13 @@ pub fn begins_data_type(tokens: &[Token]) -> bool
     ensures { result ≡ begins_data_type tokens.now }
 {
     match tokens.first() {
-        Some(token) => token.is(Sign::Uint64) || token.is(Sign::Uint) || token.is(Sign::Bool),
+        Some(token) => {
+            token.is(Sign::Uint64)
+                || token.is(Sign::Uint)
+                || token.is(Sign::Int64)
+                || token.is(Sign::Int)
+                || token.is(Sign::Bool)
+        }
         None => false,
     }
 }

@@ -1,5 +1,5 @@
 -- A relation between two runs that each step of a run keeps, and that passes on from step to step, holds of whole programs.
-use Rattle.std.proofs.Common.{◌≡◌, ℕ, zero, suc, ◌+◌, ◌-◌, List, [], ◌∷◌, Option, Some, None, Bool, true, false, subst}
+use Rattle.std.proofs.Common.{◌≡◌, ℕ, zero, suc, ◌+◌, ◌-◌, ◌*◌, List, [], ◌∷◌, Option, Some, None, Bool, true, false, subst}
 use Rattle.std.specs.Prelude.{length, map, sum}
 use Rattle.std.specs.List.{slice_get, flat_map}
 use Rattle.sc_text.specs.declared.end.Ending.{Ending}
@@ -13,7 +13,10 @@ use Rattle.plans.specs.Clear.{bits_of}
 use Rattle.plans.specs.Equality.{eq_plan}
 use Rattle.plans.specs.BitExtract.{bits_plan}
 use Rattle.plans.specs.Compare.{less_plan}
+use Rattle.plans.specs.Signed.{signed_less_plan}
+use Rattle.oblivious_index.specs.Lookup.{looked, lookup_plan}
 use Rattle.program_trees.specs.declared.expression.DataType.{DataType}
+use Rattle.program_trees.specs.declared.expression.DataType.TheVariants.{Uint64, Int64}
 use Rattle.program_trees.specs.declared.expression.DataType.TheVariants as datatype
 use Rattle.reached_instances.specs.Shape.{Shape}
 use Rattle.reached_instances.specs.Slot.{Slot}
@@ -26,10 +29,9 @@ use Rattle.reached_instances.specs.BinaryOperator.TheVariants as binary
 use Rattle.reached_instances.specs.Operands.{Operands}
 use Rattle.reached_instances.specs.Operands.TheVariants.{Scalars}
 use Rattle.reached_instances.specs.Cast.{Cast}
-use Rattle.reached_instances.specs.Cast.TheVariants.{WordToWord, WordToBool, BoolToWord, BoolToBool}
 use Rattle.reached_instances.specs.Connective.{Connective}
 use Rattle.reached_instances.specs.TypedTree.{TypedTree, TypedTrees, word_node, truth_node, slot_node, call_node, size_node, cat_node, sum_node, bits_node}
-use Rattle.reached_instances.specs.TypedTree.{element_node, not_node, cast_node, binary_node, cut_node, declassify_node}
+use Rattle.reached_instances.specs.TypedTree.{lookup_node, element_node, not_node, cast_node, binary_node, cut_node, declassify_node}
 use Rattle.reached_instances.specs.TypedTree as Tree'
 use Rattle.reached_instances.specs.TypedStatements.{TypedStatementTree, TypedStatementTrees, empty_statement, block_statement, if_statement, loop_statement}
 use Rattle.reached_instances.specs.TypedStatements.{do_statement}
@@ -45,10 +47,10 @@ use Rattle.language_model.specs.Effects.{put_gates, planned, emit, next_answers,
 use Rattle.language_model.specs.Values.{Secrecy, Plain, Private, Value, plain, hidden, size, visible_words, default_words, gate_words, elements_of}
 use Rattle.language_model.specs.Words.{flipped, result_size, result_words, are_alike, may_divide}
 use Rattle.language_model.specs.Operations.{charged, is_classified, words_of_operator, is_scalar_left, is_scalar_right, result_shape, made_private, read_answer}
-use Rattle.language_model.specs.Operations.{words_for_bits, number_from, number_of, classified_from, wanted, revealed, opened_from, declassified, stretched}
-use Rattle.language_model.specs.Operations.{flip, zero_gates, equal_gates, less_gates, operator_gates, private_result, product_with, combined_from}
-use Rattle.language_model.specs.Operations.{operator_traps, operated, operation, negated_from, negated, cast_gates, changed, cast_from, cast_to, size_told}
-use Rattle.language_model.specs.Operations.{summed_from, summed, bits_from, bits_extracted, concatenated_from, concatenated, element_from, element_of_array}
+use Rattle.language_model.specs.Operations.{words_for_bits, words_for_lookup, number_from, number_of, classified_from, wanted, revealed, opened_from, declassified, stretched}
+use Rattle.language_model.specs.Operations.{flip, zero_gates, equal_gates, less_gates, signed_less_gates, number_gates, operator_gates, private_result, product_with, combined_from}
+use Rattle.language_model.specs.Operations.{operator_traps, operated, operation, negated_from, negated, truth_gates, conversion_gates, gates_between, changed, converted}
+use Rattle.language_model.specs.Operations.{cast_from, cast_to, size_told, summed_from, summed, bits_from, bits_extracted, looked_up, lookup, concatenated_from, concatenated, element_from, element_of_array}
 use Rattle.language_model.specs.Operations.{with_element_from, with_element, filled_from, filled, handed_over, publication, published, tested, asserted}
 use Rattle.language_model.specs.Evaluation.{Frame, put, Calls, gives_private, slot_is_private, slots_of, bound_at, next_is_private, behind_next}
 use Rattle.language_model.specs.Evaluation.{connective, decides, truth_value, slot_shape, entered, result_of, place_in, array_elements, given_value}
@@ -153,17 +155,22 @@ module _ (w w' : World) (P : (A : Type 0) → Effect A → Effect A → Type 0) 
   pub less_holds : (n u v : ℕ) → P _ (less_gates n u v) (less_gates n u v)
   less_holds n u v = law.bind (planned_holds (λ first. less_plan first u v n)) (λ z. law.on_gate (Pack z))
 
-  pub word_gates_hold : (op : OperatorSign) (n u v : ℕ) → P _ (operator_gates (binary.Words op) n u v) (operator_gates (binary.Words op) n u v)
-  word_gates_hold word.Add n u v = law.on_gate _
-  word_gates_hold word.Subtract n u v = law.on_gate _
-  word_gates_hold word.Multiply n u v = law.on_gate _
-  word_gates_hold word.Equal n u v = equal_holds u v
-  word_gates_hold word.NotEqual n u v = law.bind (equal_holds u v) (flip_holds n)
-  word_gates_hold word.Less n u v = less_holds n u v
-  word_gates_hold word.Greater n u v = less_holds n v u
-  word_gates_hold word.GreaterOrEqual n u v = law.bind (less_holds n u v) (flip_holds n)
-  word_gates_hold word.LessOrEqual n u v = law.bind (less_holds n v u) (flip_holds n)
-  word_gates_hold op n u v = law.on_number
+  pub signed_less_holds : (n u v : ℕ) → P _ (signed_less_gates n u v) (signed_less_gates n u v)
+  signed_less_holds n u v = law.bind (planned_holds (λ first. signed_less_plan first u v n)) (λ z. law.on_gate (Pack z))
+
+  -- by what the gates do that tell which number is less
+  pub number_gates_hold : (less : ℕ → ℕ → ℕ → Effect ℕ) → ((n u v : ℕ) → P _ (less n u v) (less n u v)) → (op : OperatorSign) (n u v : ℕ)
+      → P _ (number_gates less op n u v) (number_gates less op n u v)
+  number_gates_hold less h word.Add n u v = law.on_gate _
+  number_gates_hold less h word.Subtract n u v = law.on_gate _
+  number_gates_hold less h word.Multiply n u v = law.on_gate _
+  number_gates_hold less h word.Equal n u v = equal_holds u v
+  number_gates_hold less h word.NotEqual n u v = law.bind (equal_holds u v) (flip_holds n)
+  number_gates_hold less h word.Less n u v = h n u v
+  number_gates_hold less h word.Greater n u v = h n v u
+  number_gates_hold less h word.GreaterOrEqual n u v = law.bind (h n u v) (flip_holds n)
+  number_gates_hold less h word.LessOrEqual n u v = law.bind (h n v u) (flip_holds n)
+  number_gates_hold less h op n u v = law.on_number
 
   pub bool_gates_hold : (op : BoolOperator) (n u v : ℕ) → P _ (operator_gates (binary.Bools op) n u v) (operator_gates (binary.Bools op) n u v)
   bool_gates_hold truth.Xor n u v = law.on_gate _
@@ -173,7 +180,8 @@ module _ (w w' : World) (P : (A : Type 0) → Effect A → Effect A → Type 0) 
   bool_gates_hold truth.Equal n u v = law.bind (law.on_gate _) (flip_holds n)
 
   pub operator_gates_hold : (op : BinaryOperator) (n u v : ℕ) → P _ (operator_gates op n u v) (operator_gates op n u v)
-  operator_gates_hold (binary.Words op) n u v = word_gates_hold op n u v
+  operator_gates_hold (binary.Words op) n u v = number_gates_hold less_gates less_holds op n u v
+  operator_gates_hold (binary.Ints op) n u v = number_gates_hold signed_less_gates signed_less_holds op n u v
   operator_gates_hold (binary.Bools op) n u v = bool_gates_hold op n u v
 
   pub private_result_holds : (op : BinaryOperator) (ds : Operands) (x y : Value) → P _ (private_result w op ds x y) (private_result w' op ds x y)
@@ -212,25 +220,44 @@ module _ (w w' : World) (P : (A : Type 0) → Effect A → Effect A → Type 0) 
   pub negated_holds : (v : Value) → P _ (negated v) (negated v)
   negated_holds v = law.bind (untrapped_holds (size v)) (λ _. negated_from_holds v.secrecy v)
 
-  pub cast_gates_hold : (c : Cast) (n u : ℕ) → P _ (cast_gates c n u) (cast_gates c n u)
-  cast_gates_hold WordToBool n u = law.bind (zero_holds u) (flip_holds n)
-  cast_gates_hold BoolToWord n u = law.bind (law.on_gate (Unpack u n)) (λ z. law.on_gate (Conv z))
-  cast_gates_hold WordToWord n u = law.on_done u
-  cast_gates_hold BoolToBool n u = law.on_done u
+  pub truth_holds : (n u : ℕ) → P _ (truth_gates n u) (truth_gates n u)
+  truth_holds n u = law.bind (zero_holds u) (flip_holds n)
+
+  pub conversion_holds : (n u : ℕ) → P _ (conversion_gates n u) (conversion_gates n u)
+  conversion_holds n u = law.bind (law.on_gate (Unpack u n)) (λ z. law.on_gate (Conv z))
+
+  pub gates_between_hold : (given wanted : DataType) (n u : ℕ) → P _ (gates_between given wanted n u) (gates_between given wanted n u)
+  gates_between_hold Uint64 Uint64 n u = law.on_done u
+  gates_between_hold Uint64 Int64 n u = law.on_done u
+  gates_between_hold Uint64 datatype.Bool n u = truth_holds n u
+  gates_between_hold Int64 Uint64 n u = law.on_done u
+  gates_between_hold Int64 Int64 n u = law.on_done u
+  gates_between_hold Int64 datatype.Bool n u = truth_holds n u
+  gates_between_hold datatype.Bool Uint64 n u = conversion_holds n u
+  gates_between_hold datatype.Bool Int64 n u = conversion_holds n u
+  gates_between_hold datatype.Bool datatype.Bool n u = law.on_done u
 
   pub changed_holds : (c : Cast) (v : Value) → P _ (changed w c v) (changed w' c v)
-  changed_holds c v = law.bind (law.on_draw _) (λ _. law.bind (number_holds v) (λ u. law.bind (cast_gates_hold c _ u) (λ r. law.on_done _)))
+  changed_holds c v =
+      law.bind (law.on_draw _) (λ _. law.bind (number_holds v) (λ u. law.bind (gates_between_hold c.given c.wanted _ u) (λ r. law.on_done _)))
 
-  pub cast_from_holds : (x : Secrecy) (c : Cast) (v : Value) → P _ (cast_from w x c v) (cast_from w' x c v)
-  cast_from_holds x WordToWord v = law.on_done v
-  cast_from_holds x BoolToBool v = law.on_done v
-  cast_from_holds Plain WordToBool v = law.on_done _
-  cast_from_holds Plain BoolToWord v = law.on_done _
-  cast_from_holds (Private k) WordToBool v = changed_holds WordToBool v
-  cast_from_holds (Private k) BoolToWord v = changed_holds BoolToWord v
+  pub converted_holds : (x : Secrecy) (c : Cast) (v : Value) → P _ (converted w x c v) (converted w' x c v)
+  converted_holds Plain c v = law.on_done _
+  converted_holds (Private k) c v = changed_holds c v
+
+  pub cast_from_holds : (given wanted : DataType) (c : Cast) (v : Value) → P _ (cast_from given wanted w c v) (cast_from given wanted w' c v)
+  cast_from_holds Uint64 Uint64 c v = law.on_done v
+  cast_from_holds Uint64 Int64 c v = law.on_done _
+  cast_from_holds Uint64 datatype.Bool c v = converted_holds v.secrecy c v
+  cast_from_holds Int64 Uint64 c v = law.on_done _
+  cast_from_holds Int64 Int64 c v = law.on_done v
+  cast_from_holds Int64 datatype.Bool c v = converted_holds v.secrecy c v
+  cast_from_holds datatype.Bool Uint64 c v = converted_holds v.secrecy c v
+  cast_from_holds datatype.Bool Int64 c v = converted_holds v.secrecy c v
+  cast_from_holds datatype.Bool datatype.Bool c v = law.on_done v
 
   pub cast_holds : (c : Cast) (v : Value) → P _ (cast_to w c v) (cast_to w' c v)
-  cast_holds c v = law.bind (untrapped_holds (size v)) (λ _. cast_from_holds v.secrecy c v)
+  cast_holds c v = law.bind (untrapped_holds (size v)) (λ _. cast_from_holds c.given c.wanted c v)
 
   pub size_holds : (v : Value) → P _ (size_told v) (size_told v)
   size_holds v = law.bind (law.on_charge 1) (λ _. law.on_done _)
@@ -252,6 +279,19 @@ module _ (w w' : World) (P : (A : Type 0) → Effect A → Effect A → Type 0) 
 
   pub bits_holds : (line : ℕ) (v : Value) → P _ (bits_extracted w line v) (bits_extracted w' line v)
   bits_holds line v = law.bind (charged_holds _ _ (law.on_test _ _ _)) (λ _. bits_from_holds v.secrecy v)
+
+  pub looked_up_holds : (line : ℕ) (a i : Value) → P _ (looked_up w line a i) (looked_up w' line a i)
+  looked_up_holds line a i =
+      law.bind (charged_holds _ _ (law.on_test _ _ _))
+      (λ _. law.bind (law.on_draw (words_for_lookup (size a * size i)))
+      (λ _. law.bind (number_holds a)
+      (λ u. law.bind (number_holds i)
+      (λ v. law.bind (planned_holds (λ first. lookup_plan first u v (size a) (size i)))
+      (λ r. made_holds (shape_of a.shape.element i.shape.array) (looked a.words i.words) r)))))
+
+  pub lookup_holds : (line : ℕ) (a i : Value) → P _ (lookup w line a i) (lookup w' line a i)
+  lookup_holds line a i =
+      law.bind (classified_holds a.secrecy a) (λ x. law.bind (classified_holds i.secrecy i) (λ k. looked_up_holds line x k))
 
   pub catenated_holds : (x y : Value) → P _ (concatenated_from (Private None) Plain x y) (concatenated_from (Private None) Plain x y)
   catenated_holds x y = law.bind (number_holds x) (λ u. law.bind (number_holds y) (λ v. law.bind (law.on_gate _) (λ r. law.on_done _)))
@@ -350,6 +390,7 @@ module _ (w w' : World) (P : (A : Type 0) → Effect A → Effect A → Type 0) 
           (λ u. law.bind (value_holds here b fr) (λ y. law.bind (wanted_holds secret y) (λ v. concatenated_holds line u v))))
       value_holds here (sum_node e) fr = law.bind (value_holds here e fr) summed_holds
       value_holds here (bits_node line e) fr = law.bind (value_holds here e fr) (bits_holds line)
+      value_holds here (lookup_node line a i) fr = law.bind (value_holds here a fr) (λ x. law.bind (value_holds here i fr) (λ k. lookup_holds line x k))
       value_holds here (element_node line a i) fr = law.bind (value_holds here a fr) (λ x. law.bind (value_holds here i fr) (λ j. element_holds line x j))
       value_holds here (not_node e) fr = law.bind (value_holds here e fr) negated_holds
       value_holds here (cast_node c e) fr = law.bind (value_holds here e fr) (cast_holds c)

@@ -5,7 +5,7 @@ use Rattle.std.specs.List.{slice_get}
 use Rattle.sc_text.specs.declared.end.Ending.TheVariants as ending
 use Rattle.sc_text.specs.declared.end.TrapKind.TheVariants as trap
 use Rattle.program_trees.specs.declared.expression.DataType.{DataType}
-use Rattle.program_trees.specs.declared.expression.DataType.TheVariants.{Uint64}
+use Rattle.program_trees.specs.declared.expression.DataType.TheVariants.{Uint64, Int64}
 use Rattle.program_trees.specs.declared.expression.DataType.TheVariants as datatype
 use Rattle.reached_instances.specs.Shape.{Shape}
 use Rattle.reached_instances.specs.Slot.{Slot}
@@ -13,7 +13,7 @@ use Rattle.reached_instances.specs.BinaryOperator.TheVariants as binary
 use Rattle.reached_instances.specs.Operands.TheVariants.{Scalars}
 use Rattle.reached_instances.specs.Connective.{Connective}
 use Rattle.reached_instances.specs.Connective.TheVariants.{AndAlso, OrElse}
-use Rattle.reached_instances.specs.TypedTree.{TypedTree, TypedTrees, word_node, truth_node, slot_node, call_node, size_node, cat_node, sum_node, bits_node}
+use Rattle.reached_instances.specs.TypedTree.{TypedTree, TypedTrees, word_node, truth_node, slot_node, call_node, size_node, cat_node, sum_node, bits_node, lookup_node}
 use Rattle.reached_instances.specs.TypedTree.{element_node, not_node, cast_node, binary_node, cut_node, declassify_node}
 use Rattle.reached_instances.specs.TypedTree as Tree'
 use Rattle.reached_instances.specs.TypedStatements.{TypedStatementTree, TypedStatementTrees, empty_statement, block_statement, if_statement, loop_statement}
@@ -32,7 +32,7 @@ use Rattle.language_model.specs.Effects.{World, GivenInput, Effect, ◌>>=◌, d
 use Rattle.language_model.specs.Values.{Value, plain, never_stored, size, default_words}
 use Rattle.language_model.specs.Words.{truth_word}
 use Rattle.language_model.specs.Operations.{charged, no_traps, made_private, wanted, declassified, operation, negated, cast_to, size_told, summed}
-use Rattle.language_model.specs.Operations.{bits_extracted, concatenated, element_of_array, with_element, filled, published, tested, asserted}
+use Rattle.language_model.specs.Operations.{bits_extracted, lookup, concatenated, element_of_array, with_element, filled, published, tested, asserted}
 
 -- the values in a function's slots
 abbrev pub Frame : Type 0
@@ -59,9 +59,9 @@ gives_private here e = is_private (domain here e)
 
 abbrev pub same_type : DataType → DataType → Bool
 same_type Uint64 Uint64 = true
-same_type Uint64 datatype.Bool = false
-same_type datatype.Bool Uint64 = false
+same_type Int64 Int64 = true
 same_type datatype.Bool datatype.Bool = true
+same_type given declared = false
 
 abbrev pub same_truth : Bool → Bool → Bool
 same_truth true b = b
@@ -155,6 +155,10 @@ unfoldable mutual
     concatenated line u v
   value w calls here (sum_node e) fr = value w calls here e fr >>= summed
   value w calls here (bits_node line e) fr = value w calls here e fr >>= bits_extracted w line
+  value w calls here (lookup_node line a i) fr = do
+    x ← value w calls here a fr
+    k ← value w calls here i fr
+    lookup w line x k
   value w calls here (element_node line a i) fr = do
     x ← value w calls here a fr
     j ← value w calls here i fr

@@ -9,6 +9,8 @@ pub mod Vectors
 pub mod Beginnings
 pub mod Tapes
 pub use Rattle.plans.specs.Compare
+pub use Rattle.plans.specs.Signed
+pub use Rattle.oblivious_index.specs.Lookup
 pub use Rattle.reached_instances.specs.Domains
 pub use Rattle.reached_instances.specs.declared.instance.BoundDomain
 pub use Rattle.plans.specs.BitExtract

@@ -10,7 +10,7 @@ use Rattle.sc_text.specs.declared.elements.Element.{Element}
 use Rattle.sc_text.specs.declared.event.Event.{Event}
 use Rattle.sc_text.specs.declared.event.Event.TheVariants as event
 use Rattle.program_trees.specs.declared.expression.DataType.{DataType}
-use Rattle.program_trees.specs.declared.expression.DataType.TheVariants.{Uint64}
+use Rattle.program_trees.specs.declared.expression.DataType.TheVariants.{Uint64, Int64}
 use Rattle.program_trees.specs.declared.expression.DataType.TheVariants as datatype
 use Rattle.plans.specs.Gate.{Gate}
 use Rattle.plans.specs.Gate.TheVariants.{Const, Add, Sub, MulPub, Mul, Xor, And, Cat, Part, Put, Rep, Sum, Conv, Open, Result}
@@ -19,7 +19,10 @@ use Rattle.plans.specs.Clear.{bits_of, first_word}
 use Rattle.plans.specs.Equality.{eq_plan}
 use Rattle.plans.specs.BitExtract.{bits_plan}
 use Rattle.plans.specs.Compare.{less_plan}
+use Rattle.plans.specs.Signed.{signed_less_plan}
+use Rattle.oblivious_index.specs.Lookup.{looked, lookup_plan}
 use Rattle.reached_instances.specs.Shape.{Shape}
+use Rattle.reached_instances.specs.OperatorSign.{OperatorSign}
 use Rattle.reached_instances.specs.OperatorSign.TheVariants as word
 use Rattle.reached_instances.specs.BoolOperator.TheVariants as truth
 use Rattle.reached_instances.specs.BinaryOperator.{BinaryOperator}
@@ -27,7 +30,6 @@ use Rattle.reached_instances.specs.BinaryOperator.TheVariants as binary
 use Rattle.reached_instances.specs.Operands.{Operands}
 use Rattle.reached_instances.specs.Operands.TheVariants.{ArrayAndScalar, ScalarAndArray}
 use Rattle.reached_instances.specs.Cast.{Cast}
-use Rattle.reached_instances.specs.Cast.TheVariants.{WordToWord, WordToBool, BoolToWord, BoolToBool}
 pub use Rattle.reached_instances.specs.Operators.{cast_shape, is_product, result_shape}
 use Rattle.reached_instances.specs.Shapes.{shape_of}
 use Rattle.language_model.specs.Effects.{Words, World, Effect, ◌>>=◌, done, charge, test, words_each, draw, gate, planned, next_number, emit, answer, show}
@@ -86,6 +88,7 @@ wanted false v = done v
 -- an answer of a truth value is read from bit 0
 abbrev pub read_answer : DataType → List ℕ → List ℕ
 read_answer Uint64 words = words
+read_answer Int64 words = words
 read_answer datatype.Bool words = map (λ x. x % 2) words
 
 -- an opened value is known to all from then on
@@ -114,18 +117,22 @@ declassified w v = do
 -- the gates of arrays, by what their elements are
 abbrev pub repeated_gate : DataType → (u n : ℕ) → Gate
 repeated_gate Uint64 u n = Rep u n
+repeated_gate Int64 u n = Rep u n
 repeated_gate datatype.Bool u n = RepBit u n
 
 abbrev pub element_gate : DataType → (u i : ℕ) → Gate
 element_gate Uint64 u i = Part u i 1
+element_gate Int64 u i = Part u i 1
 element_gate datatype.Bool u i = PartBit u i
 
 abbrev pub stored_gate : DataType → (u i v : ℕ) → Gate
 stored_gate Uint64 u i v = Put u i v
+stored_gate Int64 u i v = Put u i v
 stored_gate datatype.Bool u i v = PutBit u i v
 
 abbrev pub joined_gate : DataType → (u n v m : ℕ) → Gate
 joined_gate Uint64 u n v m = Cat u v
+joined_gate Int64 u n v m = Cat u v
 joined_gate datatype.Bool u n v m = CatBit u n v m
 
 -- a private scalar beside an array of n elements is first made one of as many
@@ -159,15 +166,23 @@ words_for_order n = record { first = 119 * n; second = 117 * n; third = 117 * n 
 abbrev pub words_for_conversion : ℕ → Words
 words_for_conversion n = record { first = 4 * n; second = n; third = n }
 
--- the random words of an operator on private words; the operators that are left out have no private operands
+abbrev pub words_for_lookup : ℕ → Words
+words_for_lookup n = record { first = 26 * n; second = 22 * n; third = 22 * n }
+
+-- the random words of an operator on private numbers, with or without a sign; the operators that are left out have none
+abbrev pub words_on_numbers : OperatorSign → ℕ → Words
+words_on_numbers word.Multiply n = words_each (3 * n)
+words_on_numbers word.Equal n = words_for_equality n
+words_on_numbers word.NotEqual n = words_for_equality n
+words_on_numbers word.Less n = words_for_order n
+words_on_numbers word.LessOrEqual n = words_for_order n
+words_on_numbers word.Greater n = words_for_order n
+words_on_numbers word.GreaterOrEqual n = words_for_order n
+words_on_numbers op n = words_each 0
+
 abbrev pub words_of_operator : BinaryOperator → ℕ → Words
-words_of_operator (binary.Words word.Multiply) n = words_each (3 * n)
-words_of_operator (binary.Words word.Equal) n = words_for_equality n
-words_of_operator (binary.Words word.NotEqual) n = words_for_equality n
-words_of_operator (binary.Words word.Less) n = words_for_order n
-words_of_operator (binary.Words word.LessOrEqual) n = words_for_order n
-words_of_operator (binary.Words word.Greater) n = words_for_order n
-words_of_operator (binary.Words word.GreaterOrEqual) n = words_for_order n
+words_of_operator (binary.Words op) n = words_on_numbers op n
+words_of_operator (binary.Ints op) n = words_on_numbers op n
 words_of_operator (binary.Bools truth.And) n = words_each (3 * gate_size datatype.Bool n)
 words_of_operator (binary.Bools truth.Or) n = words_each (3 * gate_size datatype.Bool n)
 words_of_operator op n = words_each 0
@@ -189,6 +204,12 @@ less_gates n u v = do
   z ← planned (λ first. less_plan first u v n)
   gate (Pack z)
 
+-- numbers with a sign stand in the order of their words with half of all words added
+abbrev pub signed_less_gates : ℕ → ℕ → ℕ → Effect ℕ
+signed_less_gates n u v = do
+  z ← planned (λ first. signed_less_plan first u v n)
+  gate (Pack z)
+
 -- either is true: one of them is, or both are
 abbrev pub or_gates : (u v : ℕ) → Effect ℕ
 or_gates u v = do
@@ -196,22 +217,27 @@ or_gates u v = do
   one ← gate (Xor u v)
   gate (Xor one both)
 
+-- of two numbers, by the gates that tell whether the first of two is less
+abbrev pub number_gates : (less : ℕ → ℕ → ℕ → Effect ℕ) → OperatorSign → ℕ → (u v : ℕ) → Effect ℕ
+number_gates less word.Add n u v = gate (Add u v)
+number_gates less word.Subtract n u v = gate (Sub u v)
+number_gates less word.Multiply n u v = gate (Mul u v)
+number_gates less word.Equal n u v = equal_gates u v
+number_gates less word.NotEqual n u v = equal_gates u v >>= flip n
+number_gates less word.Less n u v = less n u v
+number_gates less word.Greater n u v = less n v u
+number_gates less word.GreaterOrEqual n u v = less n u v >>= flip n
+number_gates less word.LessOrEqual n u v = less n v u >>= flip n
+number_gates less op n u v = next_number
+
 abbrev pub operator_gates : BinaryOperator → ℕ → (u v : ℕ) → Effect ℕ
-operator_gates (binary.Words word.Add) n u v = gate (Add u v)
-operator_gates (binary.Words word.Subtract) n u v = gate (Sub u v)
-operator_gates (binary.Words word.Multiply) n u v = gate (Mul u v)
-operator_gates (binary.Words word.Equal) n u v = equal_gates u v
-operator_gates (binary.Words word.NotEqual) n u v = equal_gates u v >>= flip n
-operator_gates (binary.Words word.Less) n u v = less_gates n u v
-operator_gates (binary.Words word.Greater) n u v = less_gates n v u
-operator_gates (binary.Words word.GreaterOrEqual) n u v = less_gates n u v >>= flip n
-operator_gates (binary.Words word.LessOrEqual) n u v = less_gates n v u >>= flip n
+operator_gates (binary.Words op) n u v = number_gates less_gates op n u v
+operator_gates (binary.Ints op) n u v = number_gates signed_less_gates op n u v
 operator_gates (binary.Bools truth.Xor) n u v = gate (Xor u v)
 operator_gates (binary.Bools truth.And) n u v = gate (And u v)
 operator_gates (binary.Bools truth.Or) n u v = or_gates u v
 operator_gates (binary.Bools truth.NotEqual) n u v = gate (Xor u v)
 operator_gates (binary.Bools truth.Equal) n u v = gate (Xor u v) >>= flip n
-operator_gates op n u v = next_number
 
 -- between two private operands
 abbrev pub private_result : World → BinaryOperator → Operands → Value → Value → Effect Value
@@ -270,18 +296,35 @@ negated v = do
   _ ← charged no_traps (size v)
   negated_from v.secrecy v
 
+abbrev pub words_between : (given wanted : DataType) → ℕ → Words
+words_between Uint64 datatype.Bool n = words_for_equality n
+words_between Int64 datatype.Bool n = words_for_equality n
+words_between datatype.Bool Uint64 n = words_for_conversion n
+words_between datatype.Bool Int64 n = words_for_conversion n
+words_between given wanted n = words_each 0
+
 abbrev pub words_of_cast : Cast → ℕ → Words
-words_of_cast WordToBool n = words_for_equality n
-words_of_cast BoolToWord n = words_for_conversion n
-words_of_cast c n = words_each 0
+words_of_cast c n = words_between c.given c.wanted n
 
 -- a number is true where it isn't 0
-abbrev pub cast_gates : Cast → ℕ → ℕ → Effect ℕ
-cast_gates WordToBool n u = zero_gates u >>= flip n
-cast_gates BoolToWord n u = do
+abbrev pub truth_gates : ℕ → ℕ → Effect ℕ
+truth_gates n u = zero_gates u >>= flip n
+
+-- a truth value as a number
+abbrev pub conversion_gates : ℕ → ℕ → Effect ℕ
+conversion_gates n u = do
   z ← gate (Unpack u n)
   gate (Conv z)
-cast_gates c n u = done u
+
+abbrev pub gates_between : (given wanted : DataType) → ℕ → ℕ → Effect ℕ
+gates_between Uint64 datatype.Bool n u = truth_gates n u
+gates_between Int64 datatype.Bool n u = truth_gates n u
+gates_between datatype.Bool Uint64 n u = conversion_gates n u
+gates_between datatype.Bool Int64 n u = conversion_gates n u
+gates_between given wanted n u = done u
+
+abbrev pub cast_gates : Cast → ℕ → ℕ → Effect ℕ
+cast_gates c n u = gates_between c.given c.wanted n u
 
 abbrev pub changed : World → Cast → Value → Effect Value
 changed w c v = do
@@ -289,17 +332,28 @@ changed w c v = do
   u ← number_of v
   cast_gates c (size v) u >>= made_private (cast_shape c v.shape.array) (map (W.cast_word c) v.words)
 
--- a cast to the same type gives the value as it is
-abbrev pub cast_from : World → Secrecy → Cast → Value → Effect Value
-cast_from w secrecy WordToWord v = done v
-cast_from w secrecy BoolToBool v = done v
-cast_from w Plain c v = done (plain (cast_shape c v.shape.array) (map (W.cast_word c) v.words))
-cast_from w (Private k) c v = changed w c v
+-- between numbers and truth values
+abbrev pub converted : World → Secrecy → Cast → Value → Effect Value
+converted w Plain c v = done (plain (cast_shape c v.shape.array) (map (W.cast_word c) v.words))
+converted w (Private k) c v = changed w c v
+
+-- the same words, and the same number of a value, as numbers of another type
+abbrev pub relabelled : Cast → Value → Value
+relabelled c v = record { secrecy = v.secrecy; shape = cast_shape c v.shape.array; words = v.words }
+
+-- a cast to the same type gives the value as it is, and one between numbers its words
+abbrev pub cast_from : (given wanted : DataType) → World → Cast → Value → Effect Value
+cast_from Uint64 Uint64 w c v = done v
+cast_from Int64 Int64 w c v = done v
+cast_from datatype.Bool datatype.Bool w c v = done v
+cast_from Uint64 Int64 w c v = done (relabelled c v)
+cast_from Int64 Uint64 w c v = done (relabelled c v)
+cast_from given wanted w c v = converted w v.secrecy c v
 
 abbrev pub cast_to : World → Cast → Value → Effect Value
 cast_to w c v = do
   _ ← charged no_traps (size v)
-  cast_from w v.secrecy c v
+  cast_from c.given c.wanted w c v
 
 abbrev pub scalar_word : ℕ → Value
 scalar_word n = plain (shape_of Uint64 false) (n ∷ [])
@@ -310,11 +364,12 @@ size_told v = do
   done (scalar_word (size v))
 
 abbrev pub summed_from : Secrecy → Value → Effect Value
-summed_from Plain v = done (scalar_word (sum v.words % 2 ^ 64))
+summed_from Plain v = done (plain (shape_of v.shape.element false) (sum v.words % 2 ^ 64 ∷ []))
 summed_from (Private k) v = do
   u ← number_of v
-  gate (Sum u) >>= made_private (shape_of Uint64 false) (sum v.words % 2 ^ 64 ∷ [])
+  gate (Sum u) >>= made_private (shape_of v.shape.element false) (sum v.words % 2 ^ 64 ∷ [])
 
+-- of numbers, with or without a sign
 abbrev pub summed : Value → Effect Value
 summed v = do
   _ ← charge 1
@@ -347,6 +402,23 @@ abbrev pub concatenated : ℕ → Value → Value → Effect Value
 concatenated line x y = do
   _ ← charged (not_too_large line (size x + size y)) (size x + size y)
   concatenated_from x.secrecy y.secrecy x y
+
+-- the elements of a private array at private indices, 0 where an index is not below its size; nobody learns which they are
+abbrev pub looked_up : World → ℕ → Value → Value → Effect Value
+looked_up w line a i = do
+  _ ← charged (not_too_large line (size a * size i)) (size a * size i)
+  _ ← draw w (words_for_lookup (size a * size i))
+  u ← number_of a
+  v ← number_of i
+  r ← planned (λ first. lookup_plan first u v (size a) (size i))
+  made_private (shape_of a.shape.element i.shape.array) (looked a.words i.words) r
+
+-- a public array or a public index is classified, the array first
+abbrev pub lookup : World → ℕ → Value → Value → Effect Value
+lookup w line a i = do
+  x ← classified a
+  k ← classified i
+  looked_up w line x k
 
 abbrev pub position : Value → ℕ
 position i = first_word (visible_words i)

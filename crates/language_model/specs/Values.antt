@@ -1,9 +1,9 @@
 -- What a run computes with.
-use Rattle.std.specs.Prelude.{ℕ, Bool, true, false, not, ◌==◌, List, [], ◌∷◌, Option, Some, None, length, map}
+use Rattle.std.specs.Prelude.{ℕ, Bool, true, false, not, ◌==◌, ◌-◌, ◌^◌, nat_lt, if◌then◌else◌, List, [], ◌∷◌, Option, Some, None, length, map}
 use Rattle.sc_text.specs.declared.elements.Element.{Element}
-use Rattle.sc_text.specs.declared.elements.Element.TheVariants.{Word, Truth}
+use Rattle.sc_text.specs.declared.elements.Element.TheVariants.{Word, Negative, Truth}
 use Rattle.program_trees.specs.declared.expression.DataType.{DataType}
-use Rattle.program_trees.specs.declared.expression.DataType.TheVariants.{Uint64}
+use Rattle.program_trees.specs.declared.expression.DataType.TheVariants.{Uint64, Int64}
 use Rattle.program_trees.specs.declared.expression.DataType.TheVariants as datatype
 use Rattle.reached_instances.specs.Shape.{Shape}
 use Rattle.plans.specs.RingKind.{RingKind}
@@ -17,7 +17,7 @@ pub data Secrecy : Type 0 where
   Plain : Secrecy
   Private : Option ℕ → Secrecy
 
--- the elements are words, a truth value 1 or 0; a scalar has one
+-- the elements are words, a number with a sign by its two's complement and a truth value 1 or 0; a scalar has one
 pub record Value : Type 0 where
   pub secrecy : Secrecy
   pub shape : Shape
@@ -61,20 +61,28 @@ never_stored true shape = record { secrecy = Private None; shape = shape; words 
 -- the ring in which values of a data type are shared
 abbrev pub ring_for : DataType → RingKind
 ring_for Uint64 = Arithmetic
+ring_for Int64 = Arithmetic
 ring_for datatype.Bool = Boolean
 
 -- the words of a value in the gates, by its elements, and how many they are
 abbrev pub gate_words : DataType → List ℕ → List ℕ
 gate_words Uint64 words = words
+gate_words Int64 words = words
 gate_words datatype.Bool words = packed words
 
 abbrev pub gate_size : DataType → ℕ → ℕ
 gate_size Uint64 n = n
+gate_size Int64 n = n
 gate_size datatype.Bool n = words_for n
+
+-- a number with a sign, by its word, as it is printed
+abbrev pub signed_element : ℕ → Element
+signed_element x = if nat_lt x (2 ^ 63) then Word x else Negative (2 ^ 64 - x)
 
 -- as it is printed
 abbrev pub element_of : DataType → ℕ → Element
 element_of Uint64 x = Word x
+element_of Int64 x = signed_element x
 element_of datatype.Bool x = Truth (not (x == 0))
 
 abbrev pub elements_of : Value → List Element

@@ -1,12 +1,13 @@
 -- Small programs and what evaluation gives for them, worked out by hand from the rules.
 use Rattle.std.specs.Prelude.{ℕ, ◌≡◌, Bool, true, false, List, [], ◌∷◌, Some, codes, replicate, refl}
-use Rattle.sc_text.specs.declared.elements.Element.TheVariants.{Word, Truth}
+use Rattle.sc_text.specs.declared.elements.Element.TheVariants.{Word, Negative, Truth}
 use Rattle.sc_text.specs.declared.end.Ending.TheVariants as ending
 use Rattle.sc_text.specs.declared.end.TrapKind.TheVariants as trap
 use Rattle.sc_text.specs.declared.end.TapeOwner.TheVariants as owner
+use Rattle.sc_text.specs.declared.event.Event.{Event}
 use Rattle.sc_text.specs.declared.event.Event.TheVariants.{Open, Publish, Hand}
 use Rattle.program_trees.specs.declared.expression.DataType.{DataType}
-use Rattle.program_trees.specs.declared.expression.DataType.TheVariants.{Uint64}
+use Rattle.program_trees.specs.declared.expression.DataType.TheVariants.{Uint64, Int64}
 use Rattle.program_trees.specs.declared.expression.DataType.TheVariants as datatype
 use Rattle.plans.specs.Gate.TheVariants as gate
 use Rattle.plans.specs.Clear.{bits_of}
@@ -23,8 +24,8 @@ use Rattle.reached_instances.specs.BoolOperator.TheVariants as truth
 use Rattle.reached_instances.specs.BinaryOperator.TheVariants as operator
 use Rattle.reached_instances.specs.Operands.TheVariants.{Scalars, Arrays}
 use Rattle.reached_instances.specs.Connective.TheVariants.{AndAlso}
-use Rattle.reached_instances.specs.Cast.TheVariants.{WordToBool, BoolToWord}
-use Rattle.reached_instances.specs.TypedTree.{TypedTree, word_node, truth_node, slot_node, call_node, bits_node, element_node, cast_node, binary_node, cut_node}
+use Rattle.reached_instances.specs.Operators.{cast_between}
+use Rattle.reached_instances.specs.TypedTree.{TypedTree, word_node, truth_node, slot_node, call_node, bits_node, lookup_node, element_node, cast_node, binary_node, cut_node}
 use Rattle.reached_instances.specs.TypedTree.{cat_node, not_node, declassify_node, typed_trees_of}
 use Rattle.reached_instances.specs.TypedStatements.{TypedStatementTree, typed_statements_of, empty_statement, block_statement, if_statement, loop_statement}
 use Rattle.reached_instances.specs.TypedStatements.{do_statement}
@@ -257,7 +258,7 @@ abbrev one : ℕ → Offered
 one a = offered (secret_word (codes "a") a ∷ [])
 
 abbrev to_bool : TypedProgramTree
-to_bool = about_one (tell (codes "z") (declassify_node (cast_node WordToBool (slot_node 0))))
+to_bool = about_one (tell (codes "z") (declassify_node (cast_node (cast_between Uint64 datatype.Bool) (slot_node 0))))
 
 zero_is_false : (eval to_bool (one 0) 1000000).opened ≡ 0 ∷ []
 unfolding value arguments turns repeats execute execute_all call_at
@@ -273,7 +274,7 @@ to_bool_need = refl
 
 -- p bool b = argument("b"); publish("n", declassify((uint64) b));
 abbrev to_number : TypedProgramTree
-to_number = program (bool_in private ∷ []) (ask 0 (codes "b") ∷ tell (codes "n") (declassify_node (cast_node BoolToWord (slot_node 0))) ∷ [])
+to_number = program (bool_in private ∷ []) (ask 0 (codes "b") ∷ tell (codes "n") (declassify_node (cast_node (cast_between datatype.Bool Uint64) (slot_node 0))) ∷ [])
 
 true_is_one : eval to_number (offered (secret_bool (codes "b") 1 ∷ [])) 1000000
     ≡ record {
@@ -288,6 +289,155 @@ true_is_one : eval to_number (offered (secret_bool (codes "b") 1 ∷ [])) 100000
     }
 unfolding value arguments turns repeats execute execute_all call_at
 true_is_one = refl
+
+-- ---- NUMBERS WITH A SIGN
+
+abbrev int_in : SlotDomain → Slot
+int_in d = slot d Int64 false
+
+abbrev ints : OperatorSign → TypedTree → TypedTree → TypedTree
+ints op a b = binary_node 2 (operator.Ints op) Scalars a b
+
+-- by its word
+abbrev secret_int : List ℕ → ℕ → GivenInput
+secret_int text n = record { text = text; secret = true; shape = shape_of Int64 false; words = n ∷ [] }
+
+abbrev two_ints : ℕ → ℕ → Offered
+two_ints a b = offered (secret_int (codes "a") a ∷ secret_int (codes "b") b ∷ [])
+
+-- p int64 a = argument("a"); p int64 b = argument("b"); and a line about them
+abbrev about_two_ints : TypedStatementTree → TypedProgramTree
+about_two_ints c = program (int_in private ∷ int_in private ∷ []) (ask 0 (codes "a") ∷ ask 1 (codes "b") ∷ c ∷ [])
+
+-- publish("r", declassify(a < b)); of -1 and 0
+abbrev signed_order : TypedProgramTree
+signed_order = about_two_ints (tell (codes "r") (declassify_node (ints word.Less (slot_node 0) (slot_node 1))))
+
+below_zero : (eval signed_order (two_ints 18446744073709551615 0) 1000000).events ≡ Open (Truth true ∷ []) ∷ Publish (codes "r") (Truth true ∷ []) ∷ []
+unfolding value arguments turns repeats execute execute_all call_at
+below_zero = refl
+
+not_above : (eval signed_order (two_ints 0 18446744073709551615) 1000000).opened ≡ 0 ∷ []
+unfolding value arguments turns repeats execute execute_all call_at
+not_above = refl
+
+signed_order_cost : (eval signed_order (two_ints 1 2) 1000000).cost ≡ 7
+unfolding value arguments turns repeats execute execute_all call_at
+signed_order_cost = refl
+
+signed_order_need : (eval signed_order (two_ints 1 2) 1000000).drawn ≡ three_words 120 118 118
+unfolding value arguments turns repeats execute execute_all call_at
+signed_order_need = refl
+
+-- publish("s", declassify(a + b)); of -9223372036854775808 and -1
+signed_sum : eval (about_two_ints (tell (codes "s") (declassify_node (ints word.Add (slot_node 0) (slot_node 1)))))
+    (two_ints 9223372036854775808 18446744073709551615) 1000000
+    ≡ record {
+      stop = Ended ending.Done;
+      cost = 7;
+      dealt = 4;
+      drawn = words_each 1;
+      events =
+          Open (Word 9223372036854775807 ∷ []) ∷ Publish (codes "s") (Word 9223372036854775807 ∷ []) ∷ [];
+      opened = 9223372036854775807 ∷ [];
+      gates = gate.Input 0 ∷ gate.Input 1 ∷ gate.Add 0 1 ∷ gate.Open Arithmetic 2 ∷ [];
+    }
+unfolding value arguments turns repeats execute execute_all call_at
+signed_sum = refl
+
+-- int64 x = (int64) 7; int64 y = (int64) 0 - (int64) 2; publish("q", x / y); publish("m", x % y);
+abbrev signed_division : TypedProgramTree
+signed_division =
+    program (int_in domain.Public ∷ int_in domain.Public ∷ [])
+    (store_statement 0 (cast_node (cast_between Uint64 Int64) (word_node 7))
+    ∷ store_statement 1 (ints word.Subtract (cast_node (cast_between Uint64 Int64) (word_node 0)) (cast_node (cast_between Uint64 Int64) (word_node 2)))
+    ∷ tell (codes "q") (ints word.Divide (slot_node 0) (slot_node 1)) ∷ tell (codes "m") (ints word.Remainder (slot_node 0) (slot_node 1)) ∷ [])
+
+signed_division_told : eval signed_division (offered []) 1000000
+    ≡ record {
+      stop = Ended ending.Done;
+      cost = 10;
+      dealt = 0;
+      drawn = words_each 0;
+      events =
+          Publish (codes "q") (Negative 3 ∷ []) ∷ Publish (codes "m") (Word 1 ∷ []) ∷ [];
+      opened = [];
+      gates = [];
+    }
+unfolding value arguments turns repeats execute execute_all call_at
+signed_division_told = refl
+
+-- publish("w", declassify((uint64) a)); of -2: the cast makes no gate
+abbrev to_word : TypedProgramTree
+to_word = program (int_in private ∷ []) (ask 0 (codes "a") ∷ tell (codes "w") (declassify_node (cast_node (cast_between Int64 Uint64) (slot_node 0))) ∷ [])
+
+to_word_told : eval to_word (offered (secret_int (codes "a") 18446744073709551614 ∷ [])) 1000000
+    ≡ record {
+      stop = Ended ending.Done;
+      cost = 5;
+      dealt = 2;
+      drawn = words_each 1;
+      events =
+          Open (Word 18446744073709551614 ∷ []) ∷ Publish (codes "w") (Word 18446744073709551614 ∷ []) ∷ [];
+      opened = 18446744073709551614 ∷ [];
+      gates = gate.Input 0 ∷ gate.Open Arithmetic 0 ∷ [];
+    }
+unfolding value arguments turns repeats execute execute_all call_at
+to_word_told = refl
+
+-- ---- LOOK-UPS
+
+-- p uint64[[1]] a = argument("a"); p uint64 i = argument("i"); publish("v", declassify(lookup(a, i)));
+abbrev looking_up : TypedProgramTree
+looking_up =
+    program (words_in private ∷ word_in private ∷ [])
+    (ask 0 (codes "a") ∷ ask 1 (codes "i") ∷ tell (codes "v") (declassify_node (lookup_node 2 (slot_node 0) (slot_node 1))) ∷ [])
+
+abbrev among : List ℕ → ℕ → Offered
+among xs i = offered (secret_words (codes "a") xs ∷ secret_word (codes "i") i ∷ [])
+
+abbrev found_and_cost : Report → List Event × Words × ℕ
+found_and_cost r = (r.events, r.drawn, r.cost)
+
+looked_up_second : found_and_cost (eval looking_up (among (10 ∷ 20 ∷ 30 ∷ []) 1) 1000000)
+    ≡ (Open (Word 20 ∷ []) ∷ Publish (codes "v") (Word 20 ∷ []) ∷ [], three_words 79 67 67, 13)
+unfolding value arguments turns repeats execute execute_all call_at
+looked_up_second = refl
+
+-- nothing stands there
+looked_up_past : (eval looking_up (among (10 ∷ 20 ∷ 30 ∷ []) 3) 1000000).opened ≡ 0 ∷ []
+unfolding value arguments turns repeats execute execute_all call_at
+looked_up_past = refl
+
+looked_up_in_none : found_and_cost (eval looking_up (among [] 5) 1000000)
+    ≡ (Open (Word 0 ∷ []) ∷ Publish (codes "v") (Word 0 ∷ []) ∷ [], three_words 1 1 1, 7)
+unfolding value arguments turns repeats execute execute_all call_at
+looked_up_in_none = refl
+
+-- p int64[[1]] a; p uint64[[1]] i; publish("v", declassify(lookup(a, i))); of -1, 5 and 1, 0, 2
+abbrev looking_ints_up : TypedProgramTree
+looking_ints_up =
+    program (slot private Int64 true ∷ words_in private ∷ [])
+    (ask 0 (codes "a") ∷ ask 1 (codes "i") ∷ tell (codes "v") (declassify_node (lookup_node 2 (slot_node 0) (slot_node 1))) ∷ [])
+
+looked_ints_up :
+    (eval looking_ints_up
+    (offered (record { text = codes "a"; secret = true; shape = shape_of Int64 true; words = 18446744073709551615 ∷ 5 ∷ [] }
+    ∷ secret_words (codes "i") (1 ∷ 0 ∷ 2 ∷ []) ∷ []))
+    1000000).events
+    ≡ Open (Word 5 ∷ Negative 1 ∷ Word 0 ∷ []) ∷ Publish (codes "v") (Word 5 ∷ Negative 1 ∷ Word 0 ∷ []) ∷ []
+unfolding value arguments turns repeats execute execute_all call_at
+looked_ints_up = refl
+
+-- a public array is classified, and so is a public index: publish("v", declassify(lookup(k, i))); of the array k, three times 7
+abbrev looking_up_beside : TypedProgramTree
+looking_up_beside =
+    program (words_in domain.Public ∷ word_in private ∷ [])
+    (ask 1 (codes "i") ∷ fill_statement 2 0 (word_node 3) (word_node 7) ∷ tell (codes "v") (declassify_node (lookup_node 2 (slot_node 0) (slot_node 1))) ∷ [])
+
+looked_up_beside : (eval looking_up_beside (offered (secret_word (codes "i") 2 ∷ [])) 1000000).cost ≡ 13
+unfolding value arguments turns repeats execute execute_all call_at
+looked_up_beside = refl
 
 -- publish("b", declassify(bitExtract(a)));
 abbrev bits : TypedProgramTree

@@ -8,7 +8,7 @@ use Rattle.program_trees.specs.Tree.{Tree, Trees, number, truth, variable, call,
 use Rattle.program_trees.specs.Tree as Tree'
 use Rattle.program_trees.specs.Programs.{FunctionTree}
 use Rattle.declarations.specs.declared.built_in.BuiltIn.{BuiltIn}
-use Rattle.declarations.specs.declared.built_in.BuiltIn.TheVariants.{Size, Cat, Sum, BitExtract}
+use Rattle.declarations.specs.declared.built_in.BuiltIn.TheVariants.{Size, Cat, Sum, BitExtract, Lookup}
 use Rattle.declarations.specs.Declarations.{Declared, Callee, built_in, defined, built_in_named, function_named, callee_or_function, callee}
 use Rattle.program_trees.specs.declared.operators.BinaryOperator.{BinaryOperator}
 use Rattle.program_trees.specs.declared.operators.Connective.{Connective}
@@ -150,6 +150,10 @@ sound_built_in n d line Sum (a ∷ b ∷ vs) v s e = cc
 sound_built_in n d line BitExtract [] v s e = cc
 sound_built_in n d line BitExtract (a ∷ []) v s e = as_value n d _ v s.0 (some_is _ v e)
 sound_built_in n d line BitExtract (a ∷ b ∷ vs) v s e = cc
+sound_built_in n d line Lookup [] v s e = cc
+sound_built_in n d line Lookup (a ∷ []) v s e = cc
+sound_built_in n d line Lookup (a ∷ i ∷ []) v s e = as_value n d _ v (s.0, s.1.0) (some_is _ v e)
+sound_built_in n d line Lookup (a ∷ i ∷ c ∷ vs) v s e = cc
 
 pub sound_called : (n : ℕ) (d : Declared) (line : ℕ) (x : List ℕ) (k : Callee) (vs : List TypedValue) (c : TypedCall) → callee d x ≡ Some k
     → SoundValues n d vs → called line k vs ≡ Some c → IsSoundTree n (arities d) c.tree

@@ -10,13 +10,13 @@ use Rattle.program_trees.specs.declared.function.ResultType.TheVariants as retur
 use Rattle.program_trees.specs.Tree.{Tree, Trees, number, truth, variable, call, index, parentheses, negation, cast, binary, declassify}
 use Rattle.program_trees.specs.Tree as Tree'
 use Rattle.declarations.specs.declared.built_in.BuiltIn.{BuiltIn}
-use Rattle.declarations.specs.declared.built_in.BuiltIn.TheVariants.{Size, Cat, Sum, BitExtract}
+use Rattle.declarations.specs.declared.built_in.BuiltIn.TheVariants.{Size, Cat, Sum, BitExtract, Lookup}
 use Rattle.declarations.specs.Declarations.{Declared, Callee, built_in, defined, callee}
 use Rattle.program_trees.specs.declared.kinds.Shape.{Shape}
 use Rattle.program_trees.specs.Shapes.{shape_of}
 use Rattle.program_trees.specs.declared.operators.BinaryOperator.{BinaryOperator}
 use Rattle.program_trees.specs.declared.operators.Connective.{Connective}
-use Rattle.program_trees.specs.TypedTree.{TypedTree, word_node, truth_node, slot_node, call_node, size_node, cat_node, sum_node, bits_node, element_node}
+use Rattle.program_trees.specs.TypedTree.{TypedTree, word_node, truth_node, slot_node, call_node, size_node, cat_node, sum_node, bits_node, lookup_node, element_node}
 use Rattle.program_trees.specs.TypedTree.{not_node, cast_node, binary_node, cut_node, declassify_node, typed_trees_of}
 use Rattle.program_trees.specs.Operators.{operator_on, element_made, operands_of, may_cut_short, cast_between}
 use Rattle.name_resolution.specs.Scopes.{Variable, Scope, variable_named, shape_written}
@@ -107,11 +107,16 @@ shape_returned (returned.Value t) = Some (shape_written t)
 abbrev pub tree_of_value : TypedValue → TypedTree
 tree_of_value v = v.tree
 
+-- the elements of an array at an index, or at each of an array of indices
+abbrev pub looked_up : ℕ → TypedValue → TypedValue → TypedValue
+looked_up line a i = made (lookup_node line a.tree i.tree) a.shape.element i.shape.array
+
 abbrev pub built_in_value : ℕ → BuiltIn → List TypedValue → Option TypedValue
 built_in_value line Size (a ∷ []) = Some (made (size_node a.tree) Uint64 false)
 built_in_value line Cat (a ∷ b ∷ []) = Some (made (cat_node line a.tree b.tree) a.shape.element true)
-built_in_value line Sum (a ∷ []) = Some (made (sum_node a.tree) Uint64 false)
+built_in_value line Sum (a ∷ []) = Some (made (sum_node a.tree) a.shape.element false)
 built_in_value line BitExtract (a ∷ []) = Some (made (bits_node line a.tree) datatype.Bool true)
+built_in_value line Lookup (a ∷ i ∷ []) = Some (looked_up line a i)
 built_in_value line _ _ = None
 
 -- a function of the program is called by its number

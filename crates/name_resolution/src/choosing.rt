@@ -1,6 +1,6 @@
 // Which operator a sign means on operands of one data type.
 ghost use Rattle.std.specs.Prelude.{◌≡◌};
-ghost use Rattle.program_trees.specs.Operators.{word_operator, bool_operator, operator_on, may_cut_short};
+ghost use Rattle.program_trees.specs.Operators.{word_operator, on_ints, int_operator, bool_operator, operator_on, may_cut_short};
 
 use program_trees::{
     BinaryOperator, BoolOperator, Connective, DataType, Operands, Operator, OperatorSign,
@@ -28,6 +28,25 @@ fn word_operator(sign: Operator) -> Option<OperatorSign>
     }
 }
 
+// The sign on numbers that have one, which aren't worked on bit by bit.
+fn on_ints(operator: OperatorSign) -> Option<OperatorSign>
+    ensures { result ≡ on_ints operator }
+{
+    match operator {
+        OperatorSign::And | OperatorSign::Or | OperatorSign::Xor => None,
+        _ => Some(operator),
+    }
+}
+
+fn int_operator(sign: Operator) -> Option<OperatorSign>
+    ensures { result ≡ int_operator sign }
+{
+    match word_operator(sign) {
+        Some(operator) => on_ints(operator),
+        None => None,
+    }
+}
+
 fn bool_operator(sign: Operator) -> Option<BoolOperator>
     ensures { result ≡ bool_operator sign }
 {
@@ -48,6 +67,10 @@ pub fn operator_on(sign: Operator, left: DataType, right: DataType) -> Option<Bi
     match (left, right) {
         (DataType::Uint64, DataType::Uint64) => match word_operator(sign) {
             Some(operator) => Some(BinaryOperator::Words(operator)),
+            None => None,
+        },
+        (DataType::Int64, DataType::Int64) => match int_operator(sign) {
+            Some(operator) => Some(BinaryOperator::Ints(operator)),
             None => None,
         },
         (DataType::Bool, DataType::Bool) => match bool_operator(sign) {

@@ -84,6 +84,7 @@ fn default_of(element: DataType) -> TypedExpression
 {
     match element {
         DataType::Uint64 => TypedExpression::Word(0),
+        DataType::Int64 => TypedExpression::Zero,
         DataType::Bool => TypedExpression::Truth(false),
     }
 }

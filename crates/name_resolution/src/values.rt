@@ -8,7 +8,7 @@ ghost use Rattle.program_trees.specs.TypedTree.{typed_tree};
 ghost use Rattle.name_resolution.specs.Scopes.{variable_named, shape_written};
 ghost use Rattle.program_trees.specs.Operators.{operands_of, may_cut_short};
 ghost use Rattle.name_resolution.specs.Values.{made, of_both, only, pair, variable_value, element_value, negated, cast_value, declassified_value};
-ghost use Rattle.name_resolution.specs.Values.{operation_node, operation, shape_returned, tree_of_value, built_in_value, called, value, values};
+ghost use Rattle.name_resolution.specs.Values.{operation_node, operation, shape_returned, tree_of_value, looked_up, built_in_value, called, value, values};
 ghost use Rattle.name_resolution.specs.Values.{call_made};
 ghost use Rattle.name_resolution.specs.Answer.{Answers};
 ghost use Rattle.name_resolution.specs.inner.Views.{valued, operand_seen, values_seen, pair_seen, call_seen};
@@ -206,6 +206,20 @@ fn pair(alloc: Global, values: Vec<Valued>) -> Result<(OperandMade, OperandMade)
     }
 }
 
+// The elements of an array at an index, or at each of an array of indices.
+fn looked_up(line: u32, array: OperandMade, index: OperandMade) -> Valued
+    ensures { valued result ≡ looked_up line (operand_seen array) (operand_seen index) }
+{
+    let shape = Shape {
+        element: array.shape.element,
+        array: index.shape.array,
+    };
+    Valued {
+        tree: TypedExpression::Lookup(line, array.tree, index.tree),
+        shape,
+    }
+}
+
 fn built_in(
     alloc: Global,
     line: u32,
@@ -226,7 +240,8 @@ fn built_in(
         }
         BuiltIn::Sum => {
             let array = only(alloc, arguments)?;
-            Ok(scalar(TypedExpression::Sum(array.tree), DataType::Uint64))
+            let element = array.shape.element;
+            Ok(scalar(TypedExpression::Sum(array.tree), element))
         }
         BuiltIn::BitExtract => {
             let words = only(alloc, arguments)?;
@@ -234,6 +249,10 @@ fn built_in(
                 TypedExpression::BitExtract(line, words.tree),
                 DataType::Bool,
             ))
+        }
+        BuiltIn::Lookup => {
+            let (array, index) = pair(alloc, arguments)?;
+            Ok(looked_up(line, array, index))
         }
     }
 }

@@ -18,13 +18,13 @@ use Rattle.plans.proofs.CompareLaws as comparison_laws
 
 -- ---- a list of gates, and one more that packs its last value
 
-packs_last : (inputs values : Values) (first count last : ℕ) (gates : List Gate) (xs : List ℕ) → made_by_all gates ≡ count
+pub packs_last : (inputs values : Values) (first count last : ℕ) (gates : List Gate) (xs : List ℕ) → made_by_all gates ≡ count
     → FitFrom inputs values first (gates ++ Pack last ∷ []) → slice_get values last ≡ Some xs → slice_get values (first + count) ≡ Some (packed xs)
 packs_last inputs values first count last gates xs made fit is =
     let parts = FitFrom-append inputs values first gates (Pack last ∷ []) fit in
     ap (λ n. slice_get values (first + n)) (sym made) ∙ parts.1.1 ∙ ap (λ ys. Some (packed ys)) (stands values last is)
 
-takes_no_more : (sizes : List ℕ) (miner : Miner) (last taken : ℕ) (gates : List Gate) → words_of_all sizes miner gates ≡ taken
+pub takes_no_more : (sizes : List ℕ) (miner : Miner) (last taken : ℕ) (gates : List Gate) → words_of_all sizes miner gates ≡ taken
     → words_of_all sizes miner (gates ++ Pack last ∷ []) ≡ taken
 takes_no_more sizes miner last taken gates is = words_of_all-append sizes miner gates (Pack last ∷ []) ∙ omega (arith, is)
 

@@ -9,6 +9,8 @@ pub mod CompareLaw
 pub mod CompareVectors
 pub mod Packed
 pub mod PackedVectors
+pub mod Signed
+pub mod SignedVectors
 pub use Rattle.gates.specs.Clear
 pub use Rattle.gates.specs.Counts
 pub use Rattle.gates.specs.Rings

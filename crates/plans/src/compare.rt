@@ -3,13 +3,17 @@ ghost use Rattle.std.specs.Prelude.{◌≡◌, ◌+◌, ◌≤◌, ◌^◌, ◌+
 ghost use Rattle.plans.specs.Compare.{less_plan, order_start, order_step};
 ghost use Rattle.plans.specs.CompareLaw.{TellsLess, TakesWords};
 ghost use Rattle.plans.specs.Packed.{packed_less_plan, PacksLess};
+ghost use Rattle.plans.specs.Signed.{signed_less_plan, packed_signed_less_plan, TellsSignedLess, PacksSignedLess};
 
 use crate::bit_extract;
-use gates::Gate;
+use gates::{Gate, Words};
 use std::alloc::{AllocError, Global};
 
 /// How many bits a block has before it is joined with the one above it.
 const WIDTHS: [u64; 6] = [1, 2, 4, 8, 16, 32];
+
+/// Half of all words: in what is raised by it, numbers with a sign stand in their order.
+const HALF: u64 = 1 << 63;
 
 /// The gates that tell of each single bit whether it is less in the first word, and whether it is the same in both. They make
 /// the values `first + 55` to `first + 60`, of the bits of all words, which stand in the value `first + 54`.
@@ -167,6 +171,75 @@ pub fn packed_plan(
     let mut gates = gates_of(alloc, first, left, right, n)?;
     gates.push(Gate::Pack {
         operand: first + 109,
+    })?;
+    Ok(gates)
+}
+
+/// The gates of the plan for numbers with a sign.
+#[tactic(auto, using(crate::proofs::CompareLaws::pushes))]
+fn signed_gates_of(
+    alloc: Global,
+    first: u64,
+    left: u64,
+    right: u64,
+    n: u64,
+) -> Result<Vec<Gate>, AllocError>
+    requires numbers { first + 113 ≤ 2 ^ 64 }
+    requires elements { n ≤ 1048576 }
+    ensures { IfOk result (λ gates. gates.items ≡ signed_less_plan first left right n) }
+{
+    let list = Words::new(vec![in alloc; HALF; n as usize]?);
+    let mut gates = Vec::new(alloc);
+    gates.push(Gate::Const { list })?;
+    gates.push(Gate::Add { left, right: first })?;
+    gates.push(Gate::Add {
+        left: right,
+        right: first,
+    })?;
+    let mut comparison = gates_of(alloc, first + 3, first + 1, first + 2, n)?;
+    gates.append(&mut comparison)?;
+    Ok(gates)
+}
+
+/// The gates that tell of each two of `n` shared numbers with a sign whether the first is less. `left` and `right` are the numbers of the
+/// values with the first and the second ones; the gates make the values from number `first` on.
+///
+/// The last value, of number `first + 112`, has 1 exactly where the first number is less than the second, as numbers from -2^63 to 2^63 - 1,
+/// else 0: both are raised by 2^63, and then compared as `plan` does. Memory is the only error.
+pub fn plan_signed(
+    alloc: Global,
+    first: u64,
+    left: u64,
+    right: u64,
+    n: u64,
+) -> Result<Vec<Gate>, AllocError>
+    requires numbers { first + 113 ≤ 2 ^ 64 }
+    requires elements { n ≤ 1048576 }
+    ensures gates { IfOk result (λ gates. gates.items ≡ signed_less_plan first left right n) }
+    ensures less { IfOk result (λ gates. TellsSignedLess first left right n gates.items) }
+    ensures words { IfOk result (λ gates. TakesWords first left right n gates.items) }
+{
+    signed_gates_of(alloc, first, left, right, n)
+}
+
+/// The same gates, and one more that packs what they make: the last value, of number `first + 113`, has a bit for each two numbers, which is
+/// 1 exactly where the first is less than the second. They draw the same words. Memory is the only error.
+pub fn packed_plan_signed(
+    alloc: Global,
+    first: u64,
+    left: u64,
+    right: u64,
+    n: u64,
+) -> Result<Vec<Gate>, AllocError>
+    requires numbers { first + 114 ≤ 2 ^ 64 }
+    requires elements { n ≤ 1048576 }
+    ensures gates { IfOk result (λ gates. gates.items ≡ packed_signed_less_plan first left right n) }
+    ensures less { IfOk result (λ gates. PacksSignedLess first left right n gates.items) }
+    ensures words { IfOk result (λ gates. TakesWords first left right n gates.items) }
+{
+    let mut gates = signed_gates_of(alloc, first, left, right, n)?;
+    gates.push(Gate::Pack {
+        operand: first + 112,
     })?;
     Ok(gates)
 }

@@ -1,7 +1,7 @@
 -- The instances that a piece of a function calls, in the order in which it is read.
 use Rattle.std.specs.Prelude.{ℕ, List, [], ◌∷◌, ◌++◌, Option, Some, None}
 use Rattle.std.specs.List.{slice_get}
-use Rattle.program_trees.specs.TypedTree.{TypedTree, TypedTrees, call_node, size_node, cat_node, sum_node, bits_node}
+use Rattle.program_trees.specs.TypedTree.{TypedTree, TypedTrees, call_node, size_node, cat_node, sum_node, bits_node, lookup_node}
 use Rattle.program_trees.specs.TypedTree.{element_node, not_node, cast_node, binary_node, cut_node, declassify_node}
 use Rattle.program_trees.specs.TypedTree as Tree'
 use Rattle.program_trees.specs.TypedStatements.{TypedStatementTree, TypedStatementTrees, block_statement, if_statement, loop_statement, do_statement}
@@ -26,6 +26,7 @@ abbrev mutual
   calls w (cat_node line a b) = calls w a ++ calls w b
   calls w (sum_node e) = calls w e
   calls w (bits_node line e) = calls w e
+  calls w (lookup_node line a i) = calls w a ++ calls w i
   calls w (element_node line a i) = calls w a ++ calls w i
   calls w (not_node e) = calls w e
   calls w (cast_node c e) = calls w e

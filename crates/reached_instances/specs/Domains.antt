@@ -8,7 +8,7 @@ use Rattle.program_trees.specs.declared.kinds.SlotDomain.TheVariants as slot
 use Rattle.program_trees.specs.declared.kinds.Slot.{Slot}
 use Rattle.program_trees.specs.declared.typed_function.Returned.{Returned}
 use Rattle.program_trees.specs.declared.typed_function.Returned.TheVariants.{Nothing, Value}
-use Rattle.program_trees.specs.TypedTree.{TypedTree, TypedTrees, slot_node, call_node, cat_node, sum_node, bits_node}
+use Rattle.program_trees.specs.TypedTree.{TypedTree, TypedTrees, slot_node, call_node, cat_node, sum_node, bits_node, lookup_node}
 use Rattle.program_trees.specs.TypedTree.{element_node, not_node, cast_node, binary_node, cut_node}
 use Rattle.program_trees.specs.TypedTree as Tree'
 use Rattle.program_trees.specs.TypedPrograms.{TypedFunctionTree}
@@ -96,6 +96,7 @@ abbrev mutual
   domain w (cat_node line a b) = joined_domain (domain w a) (domain w b)
   domain w (sum_node e) = domain w e
   domain w (bits_node line e) = domain w e
+  domain w (lookup_node line a i) = joined_domain (domain w a) (domain w i)
   domain w (element_node line a i) = domain w a
   domain w (not_node e) = domain w e
   domain w (cast_node c e) = domain w e

@@ -118,6 +118,13 @@ sizes_are_public = refl
 of_the_array : domain here (element_node 2 (slot_node 1) (slot_node 0)) ≡ Private 0
 of_the_array = refl
 
+-- one of the two private operands of a look-up is enough
+of_the_looked_at : domain here (lookup_node 2 (slot_node 1) (slot_node 0)) ≡ Private 0
+of_the_looked_at = refl
+
+of_the_index : domain here (lookup_node 2 (slot_node 0) (slot_node 1)) ≡ Private 0
+of_the_index = refl
+
 -- a call gives back what its own argument binds, and not what is bound here
 given_by_call : domain here (calling 0 (slot_node 1 ∷ [])) ≡ Private 0
 given_by_call = refl

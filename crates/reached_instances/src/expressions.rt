@@ -48,7 +48,9 @@ pub fn expression(
         instances_seen found.old.items ++ calls (setting here.now) (typed_tree e.now)) }
 {
     match e {
-        TypedExpression::Word(_) | TypedExpression::Truth(_) => Ok(BoundDomain::Public),
+        TypedExpression::Word(_) | TypedExpression::Truth(_) | TypedExpression::Zero => {
+            Ok(BoundDomain::Public)
+        }
         TypedExpression::Variable(slot) => Ok(slot_domain(here, *slot)),
         TypedExpression::Call(_, function, arguments) => {
             let domains = expressions(alloc, found, here, arguments)?;
@@ -68,6 +70,7 @@ pub fn expression(
             Ok(domain)
         }
         TypedExpression::Cat(_, left, right)
+        | TypedExpression::Lookup(_, left, right)
         | TypedExpression::Binary(_, _, _, left, right)
         | TypedExpression::CutShort(_, left, right) => {
             let left = expression(alloc, found, here, left)?;

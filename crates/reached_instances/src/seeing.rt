@@ -45,6 +45,7 @@ pub fn domain(
     match e {
         TypedExpression::Word(_)
         | TypedExpression::Truth(_)
+        | TypedExpression::Zero
         | TypedExpression::Size(_)
         | TypedExpression::Declassify(_) => Ok(BoundDomain::Public),
         TypedExpression::Variable(slot) => Ok(slot_domain(here, *slot)),
@@ -58,6 +59,7 @@ pub fn domain(
         | TypedExpression::Cast(_, operand)
         | TypedExpression::Element(_, operand, _) => domain(alloc, here, operand),
         TypedExpression::Cat(_, left, right)
+        | TypedExpression::Lookup(_, left, right)
         | TypedExpression::Binary(_, _, _, left, right)
         | TypedExpression::CutShort(_, left, right) => {
             let left = domain(alloc, here, left)?;

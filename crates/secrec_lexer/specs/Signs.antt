@@ -59,7 +59,8 @@ unfoldable pub keyword : List ℕ → Option Sign
 keyword word = sign_spelled word
     ((codes "import", signs.Import) ∷ (codes "kind", signs.Kind) ∷ (codes "domain", signs.Domain) ∷ (codes "template", signs.Template)
     ∷ (codes "public", signs.Public) ∷ (codes "void", signs.Void) ∷ (codes "uint64", signs.Uint64) ∷ (codes "uint", signs.Uint)
-    ∷ (codes "bool", signs.Bool) ∷ (codes "if", signs.If) ∷ (codes "else", signs.Else) ∷ (codes "while", signs.While)
-    ∷ (codes "do", signs.Do) ∷ (codes "for", signs.For) ∷ (codes "break", signs.Break) ∷ (codes "continue", signs.Continue)
-    ∷ (codes "return", signs.Return) ∷ (codes "assert", signs.Assert) ∷ (codes "true", signs.True) ∷ (codes "false", signs.False)
-    ∷ (codes "argument", signs.Argument) ∷ (codes "publish", signs.Publish) ∷ (codes "declassify", signs.Declassify) ∷ [])
+    ∷ (codes "int64", signs.Int64) ∷ (codes "int", signs.Int) ∷ (codes "bool", signs.Bool) ∷ (codes "if", signs.If)
+    ∷ (codes "else", signs.Else) ∷ (codes "while", signs.While) ∷ (codes "do", signs.Do) ∷ (codes "for", signs.For)
+    ∷ (codes "break", signs.Break) ∷ (codes "continue", signs.Continue) ∷ (codes "return", signs.Return) ∷ (codes "assert", signs.Assert)
+    ∷ (codes "true", signs.True) ∷ (codes "false", signs.False) ∷ (codes "argument", signs.Argument) ∷ (codes "publish", signs.Publish)
+    ∷ (codes "declassify", signs.Declassify) ∷ [])

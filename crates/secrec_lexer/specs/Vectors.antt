@@ -36,16 +36,18 @@ signs_spelled = refl
 -- every keyword, with a sign after it
 keywords_spelled : map first
     (codes "import;" ∷ codes "kind;" ∷ codes "domain;" ∷ codes "template;" ∷ codes "public;" ∷ codes "void;" ∷ codes "uint64;" ∷ codes "uint;" ∷
-    codes "bool;" ∷ codes "if;" ∷ codes "else;" ∷ codes "while;" ∷ codes "do;" ∷ codes "for;" ∷ codes "break;" ∷ codes "continue;" ∷
-    codes "return;" ∷ codes "assert;" ∷ codes "true;" ∷ codes "false;" ∷ codes "argument;" ∷ codes "publish;" ∷ codes "declassify;" ∷ [])
+    codes "int64;" ∷ codes "int;" ∷ codes "bool;" ∷ codes "if;" ∷ codes "else;" ∷ codes "while;" ∷ codes "do;" ∷ codes "for;" ∷
+    codes "break;" ∷ codes "continue;" ∷ codes "return;" ∷ codes "assert;" ∷ codes "true;" ∷ codes "false;" ∷ codes "argument;" ∷ codes "publish;" ∷
+    codes "declassify;" ∷ [])
     ≡ (Lexeme (kinds.Sign signs.Import) 6 ∷ Lexeme (kinds.Sign signs.Kind) 4 ∷ Lexeme (kinds.Sign signs.Domain) 6 ∷
     Lexeme (kinds.Sign signs.Template) 8 ∷ Lexeme (kinds.Sign signs.Public) 6 ∷ Lexeme (kinds.Sign signs.Void) 4 ∷
-    Lexeme (kinds.Sign signs.Uint64) 6 ∷ Lexeme (kinds.Sign signs.Uint) 4 ∷ Lexeme (kinds.Sign signs.Bool) 4 ∷
-    Lexeme (kinds.Sign signs.If) 2 ∷ Lexeme (kinds.Sign signs.Else) 4 ∷ Lexeme (kinds.Sign signs.While) 5 ∷
-    Lexeme (kinds.Sign signs.Do) 2 ∷ Lexeme (kinds.Sign signs.For) 3 ∷ Lexeme (kinds.Sign signs.Break) 5 ∷
-    Lexeme (kinds.Sign signs.Continue) 8 ∷ Lexeme (kinds.Sign signs.Return) 6 ∷ Lexeme (kinds.Sign signs.Assert) 6 ∷
-    Lexeme (kinds.Sign signs.True) 4 ∷ Lexeme (kinds.Sign signs.False) 5 ∷ Lexeme (kinds.Sign signs.Argument) 8 ∷
-    Lexeme (kinds.Sign signs.Publish) 7 ∷ Lexeme (kinds.Sign signs.Declassify) 10 ∷ [])
+    Lexeme (kinds.Sign signs.Uint64) 6 ∷ Lexeme (kinds.Sign signs.Uint) 4 ∷ Lexeme (kinds.Sign signs.Int64) 5 ∷
+    Lexeme (kinds.Sign signs.Int) 3 ∷ Lexeme (kinds.Sign signs.Bool) 4 ∷ Lexeme (kinds.Sign signs.If) 2 ∷
+    Lexeme (kinds.Sign signs.Else) 4 ∷ Lexeme (kinds.Sign signs.While) 5 ∷ Lexeme (kinds.Sign signs.Do) 2 ∷
+    Lexeme (kinds.Sign signs.For) 3 ∷ Lexeme (kinds.Sign signs.Break) 5 ∷ Lexeme (kinds.Sign signs.Continue) 8 ∷
+    Lexeme (kinds.Sign signs.Return) 6 ∷ Lexeme (kinds.Sign signs.Assert) 6 ∷ Lexeme (kinds.Sign signs.True) 4 ∷
+    Lexeme (kinds.Sign signs.False) 5 ∷ Lexeme (kinds.Sign signs.Argument) 8 ∷ Lexeme (kinds.Sign signs.Publish) 7 ∷
+    Lexeme (kinds.Sign signs.Declassify) 10 ∷ [])
 unfolding single_sign keyword is_name
 keywords_spelled = refl
 
@@ -56,6 +58,15 @@ sign_before_word = refl
 two_of_three : first (codes "===") ≡ Lexeme (kinds.Sign signs.Equal) 2
 unfolding single_sign keyword is_name
 two_of_three = refl
+
+-- a keyword by itself, and a name with more
+type_with_a_sign : first (codes "int64[[1]]") ≡ Lexeme (kinds.Sign signs.Int64) 5
+unfolding single_sign keyword is_name
+type_with_a_sign = refl
+
+another_width : first (codes "int32 ") ≡ Lexeme (kinds.Name (codes "int32")) 5
+unfolding single_sign keyword is_name
+another_width = refl
 
 keyword_with_more : first (codes "uint64_") ≡ Lexeme (kinds.Name (codes "uint64_")) 7
 unfolding single_sign keyword is_name

@@ -87,6 +87,10 @@ pub enum Sign {
     Uint64,
     /// `uint`
     Uint,
+    /// `int64`
+    Int64,
+    /// `int`
+    Int,
     /// `bool`
     Bool,
     /// `if`

@@ -95,6 +95,8 @@ pub fn keyword(word: &str) -> Option<Sign>
         "void" => Some(Sign::Void),
         "uint64" => Some(Sign::Uint64),
         "uint" => Some(Sign::Uint),
+        "int64" => Some(Sign::Int64),
+        "int" => Some(Sign::Int),
         "bool" => Some(Sign::Bool),
         "if" => Some(Sign::If),
         "else" => Some(Sign::Else),

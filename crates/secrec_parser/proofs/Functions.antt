@@ -523,6 +523,8 @@ type_no_template (kinds.Name b) p e = refl
 type_no_template (kinds.Sign signs.Public) p e = refl
 type_no_template (kinds.Sign signs.Uint64) p e = refl
 type_no_template (kinds.Sign signs.Uint) p e = refl
+type_no_template (kinds.Sign signs.Int64) p e = refl
+type_no_template (kinds.Sign signs.Int) p e = refl
 type_no_template (kinds.Sign signs.Bool) p e = refl
 type_no_template k p e = cc
 

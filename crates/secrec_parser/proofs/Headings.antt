@@ -92,6 +92,8 @@ test_reads h w en =
 update_no_type : (k : TokenKind) (p : Span) (u : Update) → update_of (token p k) ≡ Some u → is_type (token p k) ≡ false
 update_no_type (kinds.Sign signs.Uint64) p u e = cc
 update_no_type (kinds.Sign signs.Uint) p u e = cc
+update_no_type (kinds.Sign signs.Int64) p u e = cc
+update_no_type (kinds.Sign signs.Int) p u e = cc
 update_no_type (kinds.Sign signs.Bool) p u e = cc
 update_no_type k p u e = refl
 
@@ -340,6 +342,8 @@ type_declares : (s : Sign) (p : Span) (m : List Token) → begins_type (kinds.Si
 type_declares signs.Public p m e = refl
 type_declares signs.Uint64 p m e = refl
 type_declares signs.Uint p m e = refl
+type_declares signs.Int64 p m e = refl
+type_declares signs.Int p m e = refl
 type_declares signs.Bool p m e = refl
 type_declares s p m e = absurd (false_true e)
 

@@ -72,12 +72,16 @@ begins_type (kinds.Name bytes) = true
 begins_type (kinds.Sign signs.Public) = true
 begins_type (kinds.Sign signs.Uint64) = true
 begins_type (kinds.Sign signs.Uint) = true
+begins_type (kinds.Sign signs.Int64) = true
+begins_type (kinds.Sign signs.Int) = true
 begins_type (kinds.Sign signs.Bool) = true
 begins_type other = false
 
 type_kind : (e : DataType) (s m m2 : List Token) (x : Token) → IsDataType e s → s ++ m ≡ x ∷ m2 → begins_type x.kind ≡ true
 type_kind types.Uint64 s m m2 x (inl v) eq = ap begins_type (sym (head_kind s [] m m2 v.0 (kinds.Sign signs.Uint64) x v.1 eq))
 type_kind types.Uint64 s m m2 x (inr v) eq = ap begins_type (sym (head_kind s [] m m2 v.0 (kinds.Sign signs.Uint) x v.1 eq))
+type_kind types.Int64 s m m2 x (inl v) eq = ap begins_type (sym (head_kind s [] m m2 v.0 (kinds.Sign signs.Int64) x v.1 eq))
+type_kind types.Int64 s m m2 x (inr v) eq = ap begins_type (sym (head_kind s [] m m2 v.0 (kinds.Sign signs.Int) x v.1 eq))
 type_kind types.Bool s m m2 x v eq = ap begins_type (sym (head_kind s [] m m2 v.0 (kinds.Sign signs.Bool) x v.1 eq))
 
 pub declared_kind : (t : DeclaredType) (s m m2 : List Token) (x : Token) → IsType t s → s ++ m ≡ x ∷ m2 → begins_type x.kind ≡ true
@@ -99,6 +103,8 @@ type_family in_loop (kinds.Name bytes) p e = refl
 type_family in_loop (kinds.Sign signs.Public) p e = refl
 type_family in_loop (kinds.Sign signs.Uint64) p e = refl
 type_family in_loop (kinds.Sign signs.Uint) p e = refl
+type_family in_loop (kinds.Sign signs.Int64) p e = refl
+type_family in_loop (kinds.Sign signs.Int) p e = refl
 type_family in_loop (kinds.Sign signs.Bool) p e = refl
 type_family in_loop k p e = absurd (false_true e)
 

@@ -110,6 +110,8 @@ is_type_at x k e = ap (λ z. is_type (token x.place z)) (sym e)
 pub data_type_head : (e : DataType) (s m m2 : List Token) (x : Token) → IsDataType e s → s ++ m ≡ x ∷ m2 → is_type x ≡ true
 data_type_head types.Uint64 s m m2 x (inl v) eq = is_type_at x (kinds.Sign signs.Uint64) (head_kind s [] m m2 v.0 (kinds.Sign signs.Uint64) x v.1 eq)
 data_type_head types.Uint64 s m m2 x (inr v) eq = is_type_at x (kinds.Sign signs.Uint) (head_kind s [] m m2 v.0 (kinds.Sign signs.Uint) x v.1 eq)
+data_type_head types.Int64 s m m2 x (inl v) eq = is_type_at x (kinds.Sign signs.Int64) (head_kind s [] m m2 v.0 (kinds.Sign signs.Int64) x v.1 eq)
+data_type_head types.Int64 s m m2 x (inr v) eq = is_type_at x (kinds.Sign signs.Int) (head_kind s [] m m2 v.0 (kinds.Sign signs.Int) x v.1 eq)
 data_type_head types.Bool s m m2 x v eq = is_type_at x (kinds.Sign signs.Bool) (head_kind s [] m m2 v.0 (kinds.Sign signs.Bool) x v.1 eq)
 
 pub type_second : (t : DeclaredType) (s m m2 : List Token) (x y : Token) (text : List ℕ) → IsType t s → s ++ m ≡ x ∷ y ∷ m2 → x.kind ≡ kinds.Name text
@@ -142,6 +144,8 @@ declaration_second d s m m2 x y text v eq is = type_second d.declared v.0 (v.1 +
 type_stops : (k : TokenKind) (p : Span) → is_type (token p k) ≡ true → follows_name (token p k) ≡ false
 type_stops (kinds.Sign signs.Uint64) p e = refl
 type_stops (kinds.Sign signs.Uint) p e = refl
+type_stops (kinds.Sign signs.Int64) p e = refl
+type_stops (kinds.Sign signs.Int) p e = refl
 type_stops (kinds.Sign signs.Bool) p e = refl
 type_stops k p e = absurd (false_true e)
 

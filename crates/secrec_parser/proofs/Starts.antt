@@ -7,6 +7,7 @@ use Rattle.secrec_lexer.specs.declared.sign.Sign.TheVariants as signs
 use Rattle.secrec_lexer.specs.declared.token.TokenKind.{TokenKind}
 use Rattle.secrec_lexer.specs.declared.token.TokenKind.TheVariants as kinds
 use Rattle.secrec_lexer.specs.declared.token.Token.{Token}
+use Rattle.program_trees.specs.declared.expression.DataType.{DataType}
 use Rattle.program_trees.specs.declared.expression.DataType.TheVariants as types
 use Rattle.program_trees.specs.declared.statement.Domain.TheVariants as domains
 use Rattle.program_trees.specs.declared.statement.DeclaredType.{DeclaredType}
@@ -15,8 +16,8 @@ use Rattle.program_trees.specs.Statements.{DeclarationTree, StatementTree, State
 use Rattle.program_trees.specs.Statements.{choice, while_loop, do_loop, for_loop, breaks, continues, returns, assertion, declaration, assignment}
 use Rattle.program_trees.specs.Statements.{evaluation}
 use Rattle.program_trees.specs.Statements as statements
-use Rattle.expression_parser.specs.Phrases.{token, sign_at}
-use Rattle.expression_parser.specs.Grammar.{loosest}
+use Rattle.expression_parser.specs.Phrases.{token, sign_at, sign}
+use Rattle.expression_parser.specs.Grammar.{IsDataType, loosest}
 use Rattle.expression_parser.specs.Steps as expressions
 use Rattle.expression_parser.proofs.Tokens.{origin, head_kind}
 use Rattle.expression_parser.proofs.Nodes.{leaf, leaf_token, first_token}
@@ -48,6 +49,8 @@ starter (kinds.Sign signs.Assert) = true
 starter (kinds.Sign signs.Public) = true
 starter (kinds.Sign signs.Uint64) = true
 starter (kinds.Sign signs.Uint) = true
+starter (kinds.Sign signs.Int64) = true
+starter (kinds.Sign signs.Int) = true
 starter (kinds.Sign signs.Bool) = true
 starter (kinds.Sign signs.True) = true
 starter (kinds.Sign signs.False) = true
@@ -63,6 +66,8 @@ type_starter (kinds.Name bytes) e = refl
 type_starter (kinds.Sign signs.Public) e = refl
 type_starter (kinds.Sign signs.Uint64) e = refl
 type_starter (kinds.Sign signs.Uint) e = refl
+type_starter (kinds.Sign signs.Int64) e = refl
+type_starter (kinds.Sign signs.Int) e = refl
 type_starter (kinds.Sign signs.Bool) e = refl
 type_starter k e = absurd (false_true e)
 
@@ -117,6 +122,8 @@ declared_leader in_loop (kinds.Name bytes) p e f = false_true (ap is_expression 
 declared_leader in_loop (kinds.Sign signs.Public) p e f = false_true (ap is_expression f)
 declared_leader in_loop (kinds.Sign signs.Uint64) p e f = false_true (ap is_expression f)
 declared_leader in_loop (kinds.Sign signs.Uint) p e f = false_true (ap is_expression f)
+declared_leader in_loop (kinds.Sign signs.Int64) p e f = false_true (ap is_expression f)
+declared_leader in_loop (kinds.Sign signs.Int) p e f = false_true (ap is_expression f)
 declared_leader in_loop (kinds.Sign signs.Bool) p e f = false_true (ap is_expression f)
 declared_leader in_loop k p e f = false_true e
 
@@ -149,19 +156,22 @@ name_kind in_loop k p e = absurd (false_true (ap is_name e))
 -- what a declaration begins with that begins with no name
 pub data Typed (x : Token) : Type 0 where
   open_type : x.kind ≡ kinds.Sign signs.Public → Typed x
-  uint64_type : x.kind ≡ kinds.Sign signs.Uint64 → Typed x
-  uint_type : x.kind ≡ kinds.Sign signs.Uint → Typed x
-  bool_type : x.kind ≡ kinds.Sign signs.Bool → Typed x
+  element_type : (t : DataType) → IsDataType t (x ∷ []) → Typed x
 
 pub typed : (in_loop : Bool) (x : Token) → leader_of in_loop x ≡ leaders.Declaration → Typed x
 unfolding is_declaration
 typed in_loop x e = go in_loop x.kind refl e
   where
+    spelled : (s : Sign) → x.kind ≡ kinds.Sign s → sign s (x ∷ [])
+    spelled s k = (x.place, ap (λ z. token x.place z ∷ []) k)
+
     go : (in_loop : Bool) (k : TokenKind) → x.kind ≡ k → leader_of in_loop (token x.place k) ≡ leaders.Declaration → Typed x
     go in_loop (kinds.Sign signs.Public) k e = open_type k
-    go in_loop (kinds.Sign signs.Uint64) k e = uint64_type k
-    go in_loop (kinds.Sign signs.Uint) k e = uint_type k
-    go in_loop (kinds.Sign signs.Bool) k e = bool_type k
+    go in_loop (kinds.Sign signs.Uint64) k e = element_type types.Uint64 (inl (spelled signs.Uint64 k))
+    go in_loop (kinds.Sign signs.Uint) k e = element_type types.Uint64 (inr (spelled signs.Uint k))
+    go in_loop (kinds.Sign signs.Int64) k e = element_type types.Int64 (inl (spelled signs.Int64 k))
+    go in_loop (kinds.Sign signs.Int) k e = element_type types.Int64 (inr (spelled signs.Int k))
+    go in_loop (kinds.Sign signs.Bool) k e = element_type types.Bool (spelled signs.Bool k)
     go true (kinds.Sign signs.Break) k e = absurd (false_true (ap is_declaration e))
     go true (kinds.Sign signs.Continue) k e = absurd (false_true (ap is_declaration e))
     go in_loop kind k e = absurd (false_true (ap is_declaration e))
@@ -245,8 +255,8 @@ module _ (in_loop : Bool) (x : Token) where
       (origin, refl),
     ),
   )
-  typed_sample (uint64_type k) = (
-    declaration (declared_as (record { place = x.place; domain = domains.Public; element = types.Uint64; array = false })),
+  typed_sample (element_type t v) = (
+    declaration (declared_as (record { place = x.place; domain = domains.Public; element = t; array = false })),
     name_token ∷ lone signs.Semicolon,
     (
       x ∷ name_token ∷ [],
@@ -256,41 +266,7 @@ module _ (in_loop : Bool) (x : Token) where
         x ∷ [],
         name_token ∷ [],
         refl,
-        (refl, ([], x ∷ [], refl, inl refl, (x ∷ [], [], refl, inl (x.place, here signs.Uint64 k), inl refl))),
-        (name_token ∷ [], [], refl, refl, ([], [], refl, refl, refl)),
-      ),
-      (origin, refl),
-    ),
-  )
-  typed_sample (uint_type k) = (
-    declaration (declared_as (record { place = x.place; domain = domains.Public; element = types.Uint64; array = false })),
-    name_token ∷ lone signs.Semicolon,
-    (
-      x ∷ name_token ∷ [],
-      lone signs.Semicolon,
-      refl,
-      (
-        x ∷ [],
-        name_token ∷ [],
-        refl,
-        (refl, ([], x ∷ [], refl, inl refl, (x ∷ [], [], refl, inr (x.place, here signs.Uint k), inl refl))),
-        (name_token ∷ [], [], refl, refl, ([], [], refl, refl, refl)),
-      ),
-      (origin, refl),
-    ),
-  )
-  typed_sample (bool_type k) = (
-    declaration (declared_as (record { place = x.place; domain = domains.Public; element = types.Bool; array = false })),
-    name_token ∷ lone signs.Semicolon,
-    (
-      x ∷ name_token ∷ [],
-      lone signs.Semicolon,
-      refl,
-      (
-        x ∷ [],
-        name_token ∷ [],
-        refl,
-        (refl, ([], x ∷ [], refl, inl refl, (x ∷ [], [], refl, (x.place, here signs.Bool k), inl refl))),
+        (refl, ([], x ∷ [], refl, inl refl, (x ∷ [], [], refl, v, inl refl))),
         (name_token ∷ [], [], refl, refl, ([], [], refl, refl, refl)),
       ),
       (origin, refl),

@@ -254,6 +254,8 @@ type_starts : (e : DataType) (s : List Token) → IsDataType e s → (q : Span) 
     × (begins_domain (kinds.Sign k) ≡ false)
 type_starts types.Uint64 s (inl v) = (v.0, signs.Uint64, v.1, refl)
 type_starts types.Uint64 s (inr v) = (v.0, signs.Uint, v.1, refl)
+type_starts types.Int64 s (inl v) = (v.0, signs.Int64, v.1, refl)
+type_starts types.Int64 s (inr v) = (v.0, signs.Int, v.1, refl)
 type_starts types.Bool s v = (v.0, signs.Bool, v.1, refl)
 
 abbrev Parts : Domain × (DataType × Bool) → Phrase

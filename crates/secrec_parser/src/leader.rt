@@ -29,7 +29,11 @@ pub enum Leader {
 pub fn is_type(token: &Token) -> bool
     ensures { result ≡ is_type token.now }
 {
-    token.is(Sign::Uint64) || token.is(Sign::Uint) || token.is(Sign::Bool)
+    token.is(Sign::Uint64)
+        || token.is(Sign::Uint)
+        || token.is(Sign::Int64)
+        || token.is(Sign::Int)
+        || token.is(Sign::Bool)
 }
 
 /// What a statement is that begins with a token, inside a loop or not.

@@ -10,7 +10,7 @@ pub fn gate_words(alloc: Global, element: DataType, xs: &[u64]) -> Result<Vec<u6
     ensures { IfOk result (λ words. words.items ≡ V.gate_words element xs.now) }
 {
     match element {
-        DataType::Uint64 => Vec::from_slice(alloc, xs),
+        DataType::Uint64 | DataType::Int64 => Vec::from_slice(alloc, xs),
         DataType::Bool => bit_words::packed(alloc, xs),
     }
 }
@@ -24,7 +24,7 @@ pub fn into_gate_words(
     ensures { IfOk result (λ made. made.items ≡ V.gate_words element words.items) }
 {
     match element {
-        DataType::Uint64 => Ok(words),
+        DataType::Uint64 | DataType::Int64 => Ok(words),
         DataType::Bool => bit_words::packed(alloc, &words),
     }
 }
@@ -35,7 +35,7 @@ pub fn gate_size(element: DataType, n: u64) -> u64
     ensures few { result ≤ n }
 {
     match element {
-        DataType::Uint64 => n,
+        DataType::Uint64 | DataType::Int64 => n,
         DataType::Bool => bit_words::words_for(n),
     }
 }

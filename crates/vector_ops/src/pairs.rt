@@ -59,7 +59,8 @@ pub fn may_divide(op: BinaryOperator, divisors: &[u64]) -> bool
     ensures { result ≡ may_divide op divisors.now }
 {
     match op {
-        BinaryOperator::Words(OperatorSign::Divide | OperatorSign::Remainder) => {
+        BinaryOperator::Words(OperatorSign::Divide | OperatorSign::Remainder)
+        | BinaryOperator::Ints(OperatorSign::Divide | OperatorSign::Remainder) => {
             !has_zero(divisors)
         }
         _ => true,

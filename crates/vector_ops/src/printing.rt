@@ -1,10 +1,24 @@
 // Words as they are printed.
 ghost use Rattle.std.specs.Prelude.{◌≡◌, map, IfOk};
-ghost use Rattle.language_model.specs.Values.{element_of};
+ghost use Rattle.language_model.specs.Values.{element_of, signed_element};
 
 use program_trees::DataType;
 use sc_text::{Element, Elements};
 use std::alloc::{AllocError, Global};
+
+/// How many words there are whose number with a sign isn't below 0.
+const HALF: u64 = 1 << 63;
+
+/// A word as a number with a sign, by its two's complement.
+fn printed_signed(x: u64) -> Element
+    ensures { result ≡ signed_element x }
+{
+    if x < HALF {
+        Element::Word(x)
+    } else {
+        Element::Negative(x.wrapping_neg())
+    }
+}
 
 /// A word as an element of a data type: a truth value is true where the word isn't 0.
 fn printed(element: DataType, x: u64) -> Element
@@ -12,6 +26,7 @@ fn printed(element: DataType, x: u64) -> Element
 {
     match element {
         DataType::Uint64 => Element::Word(x),
+        DataType::Int64 => printed_signed(x),
         DataType::Bool => Element::Truth(x != 0),
     }
 }

@@ -9,11 +9,11 @@ use Rattle.program_trees.specs.declared.operators.OperatorSign.TheVariants as wo
 use Rattle.program_trees.specs.declared.operators.BoolOperator.{BoolOperator}
 use Rattle.program_trees.specs.declared.operators.BoolOperator.TheVariants as truth
 use Rattle.program_trees.specs.declared.operators.BinaryOperator.{BinaryOperator}
-use Rattle.program_trees.specs.declared.operators.BinaryOperator.TheVariants.{Words, Bools}
-use Rattle.program_trees.specs.Operators.{element_made, on_bools}
+use Rattle.program_trees.specs.declared.operators.BinaryOperator.TheVariants.{Words, Ints, Bools}
+use Rattle.program_trees.specs.Operators.{element_made, on_ints, on_bools}
 pub use Rattle.program_trees.specs.Operators.{is_product}
 use Rattle.bytecode.specs.declared.kind.Kind.{Kind}
-use Rattle.bytecode.specs.Raw.{Raw, Literal, Move, Store, Binary, Not, Cast, Classify, Fill, At, Put, Size, Cat, Sum, Bits, Declassify, Argument}
+use Rattle.bytecode.specs.Raw.{Raw, Literal, Move, Store, Binary, Not, Cast, Classify, Fill, At, Put, Size, Cat, Sum, Bits, Lookup, Declassify, Argument}
 use Rattle.bytecode.specs.Raw.{Publish, Assert, Branch, Jump, Call, Return, ReturnNone, RawFunction, RawCode}
 
 -- where an instruction stands
@@ -25,13 +25,28 @@ pub record Here : Type 0 where
 
 -- ---- kinds
 
-abbrev pub is_word : DataType → Bool
-is_word types.Uint64 = true
-is_word types.Bool = false
+abbrev pub is_unsigned : DataType → Bool
+is_unsigned types.Uint64 = true
+is_unsigned types.Int64 = false
+is_unsigned types.Bool = false
+
+abbrev pub is_signed : DataType → Bool
+is_signed types.Uint64 = false
+is_signed types.Int64 = true
+is_signed types.Bool = false
+
+abbrev pub is_truth : DataType → Bool
+is_truth types.Uint64 = false
+is_truth types.Int64 = false
+is_truth types.Bool = true
+
+abbrev pub is_number : DataType → Bool
+is_number e = not (is_truth e)
 
 abbrev pub same_element : DataType → DataType → Bool
-same_element types.Uint64 e = is_word e
-same_element types.Bool e = not (is_word e)
+same_element types.Uint64 e = is_unsigned e
+same_element types.Int64 e = is_signed e
+same_element types.Bool e = is_truth e
 
 abbrev pub same_truth : Bool → Bool → Bool
 same_truth true b = b
@@ -57,6 +72,10 @@ array_of k = record { secret = k.secret; element = k.element; array = true }
 
 abbrev pub bits_of : Kind → Kind
 bits_of k = record { secret = k.secret; element = types.Bool; array = true }
+
+-- what is looked up in an array at indices, one or an array of them
+abbrev pub looked_up_of : (array index : Kind) → Kind
+looked_up_of a i = record { secret = true; element = a.element; array = i.array }
 
 -- a register's kind; where it isn't there, one that no test looks at
 abbrev pub kind_at : List Kind → ℕ → Kind
@@ -86,6 +105,7 @@ names_there h (Size d r) = is_there h.own.registers d && is_there h.own.register
 names_there h (Cat d a b line) = is_there h.own.registers d && is_there h.own.registers a && is_there h.own.registers b
 names_there h (Sum d r) = is_there h.own.registers d && is_there h.own.registers r
 names_there h (Bits d r line) = is_there h.own.registers d && is_there h.own.registers r
+names_there h (Lookup d a i line) = is_there h.own.registers d && is_there h.own.registers a && is_there h.own.registers i
 names_there h (Declassify d r) = is_there h.own.registers d && is_there h.own.registers r
 names_there h (Argument d name line) = is_there h.own.registers d && is_there h.code.names name
 names_there h (Publish name r) = is_there h.code.names name && is_there h.own.registers r
@@ -107,6 +127,10 @@ word_operator_at o =
     else if o == 8 then word.LessOrEqual else if o == 9 then word.Greater else if o == 10 then word.GreaterOrEqual
     else if o == 11 then word.And else if o == 12 then word.Or else word.Xor
 
+-- numbers with a sign have all operators but those that work bit by bit
+abbrev pub has_ints : ℕ → Bool
+has_ints o = nat_lt o 14 && is_some (on_ints (word_operator_at o))
+
 -- only some operators have bool operands
 abbrev pub has_bools : ℕ → Bool
 has_bools o = nat_lt o 14 && is_some (on_bools (word_operator_at o))
@@ -115,19 +139,25 @@ has_bools o = nat_lt o 14 && is_some (on_bools (word_operator_at o))
 abbrev pub bool_operator_at : ℕ → BoolOperator
 bool_operator_at o = unwrap_or (on_bools (word_operator_at o)) truth.Xor
 
--- which operator a byte means on operands of a data type
+-- which operator a byte means on operands of a data type; where they haven't it, one that no test looks at
 abbrev pub operator_at : DataType → ℕ → BinaryOperator
 operator_at types.Uint64 o = Words (word_operator_at o)
+operator_at types.Int64 o = Ints (word_operator_at o)
 operator_at types.Bool o = Bools (bool_operator_at o)
 
--- private words have no division, remainder, and, or, xor
+-- private numbers have no division, remainder, and, or, xor
+abbrev pub is_hidden_sign : OperatorSign → Bool
+is_hidden_sign word.Divide = false
+is_hidden_sign word.Remainder = false
+is_hidden_sign word.And = false
+is_hidden_sign word.Or = false
+is_hidden_sign word.Xor = false
+is_hidden_sign _ = true
+
 abbrev pub may_be_private : BinaryOperator → Bool
-may_be_private (Words word.Divide) = false
-may_be_private (Words word.Remainder) = false
-may_be_private (Words word.And) = false
-may_be_private (Words word.Or) = false
-may_be_private (Words word.Xor) = false
-may_be_private _ = true
+may_be_private (Words op) = is_hidden_sign op
+may_be_private (Ints op) = is_hidden_sign op
+may_be_private (Bools op) = true
 
 -- both private or both public, but in a product
 abbrev pub secrecy_fits : BinaryOperator → (left right : Bool) → Bool
@@ -135,6 +165,7 @@ secrecy_fits op a b = (same_truth a b || is_product op) && (not (a || b) || may_
 
 abbrev pub operator_exists : DataType → ℕ → Bool
 operator_exists types.Uint64 o = nat_lt o 14
+operator_exists types.Int64 o = has_ints o
 operator_exists types.Bool o = has_bools o
 
 -- a private operand makes the result private, an array makes it an array
@@ -146,11 +177,17 @@ binary_fits o d a b =
     same_element a.element b.element && operator_exists a.element o
     && secrecy_fits (operator_at a.element o) a.secret b.secret && same_kind d (result_kind (operator_at a.element o) a b)
 
+-- no number with a sign is written down: it is cast
+abbrev pub may_be_literal : DataType → ℕ → Bool
+may_be_literal types.Uint64 x = true
+may_be_literal types.Int64 x = false
+may_be_literal types.Bool x = nat_lt x 2
+
 abbrev pub literal_fits : Kind → ℕ → Bool
-literal_fits d x = same_kind d (public_scalar d.element) && (is_word d.element || nat_lt x 2)
+literal_fits d x = same_kind d (public_scalar d.element) && may_be_literal d.element x
 
 abbrev pub not_fits : (to source : Kind) → Bool
-not_fits d r = same_kind d r && not (is_word r.element)
+not_fits d r = same_kind d r && is_truth r.element
 
 abbrev pub cast_fits : (to source : Kind) → Bool
 cast_fits d r = same_truth d.secret r.secret && same_truth d.array r.array
@@ -171,10 +208,14 @@ abbrev pub cat_fits : (to left right : Kind) → Bool
 cat_fits d a b = d.array && same_kind a d && same_kind b d
 
 abbrev pub sum_fits : (to source : Kind) → Bool
-sum_fits d r = r.array && is_word r.element && same_kind d (element_of r)
+sum_fits d r = r.array && is_number r.element && same_kind d (element_of r)
 
 abbrev pub bits_fit : (to source : Kind) → Bool
-bits_fit d r = is_word r.element && same_kind d (bits_of r)
+bits_fit d r = is_unsigned r.element && same_kind d (bits_of r)
+
+-- both are private; a public one is classified before
+abbrev pub lookup_fits : (to array index : Kind) → Bool
+lookup_fits d a i = a.secret && a.array && is_number a.element && i.secret && is_unsigned i.element && same_kind d (looked_up_of a i)
 
 abbrev pub is_condition : Kind → Bool
 is_condition r = same_kind r (public_scalar types.Bool)
@@ -216,6 +257,7 @@ operands_fit h (Size d r) = size_fits (kind_at h.own.registers d) (kind_at h.own
 operands_fit h (Cat d a b line) = cat_fits (kind_at h.own.registers d) (kind_at h.own.registers a) (kind_at h.own.registers b)
 operands_fit h (Sum d r) = sum_fits (kind_at h.own.registers d) (kind_at h.own.registers r)
 operands_fit h (Bits d r line) = bits_fit (kind_at h.own.registers d) (kind_at h.own.registers r)
+operands_fit h (Lookup d a i line) = lookup_fits (kind_at h.own.registers d) (kind_at h.own.registers a) (kind_at h.own.registers i)
 operands_fit h (Declassify d r) = same_kind (kind_at h.own.registers d) (public_as (kind_at h.own.registers r))
 operands_fit h (Assert r line) = is_condition (kind_at h.own.registers r)
 operands_fit h (Branch r v target) = is_condition (kind_at h.own.registers r)

@@ -25,6 +25,7 @@ step_in (steps.Size d r) = S.Size d.0 r.0
 step_in (steps.Cat line d a b) = S.Cat line d.0 a.0 b.0
 step_in (steps.Sum d r) = S.Sum d.0 r.0
 step_in (steps.Bits line d r) = S.Bits line d.0 r.0
+step_in (steps.Lookup line d a i) = S.Lookup line d.0 a.0 i.0
 step_in (steps.Declassify d r) = S.Declassify d.0 r.0
 step_in (steps.Argument line kind text d) = S.Argument line kind text.now d.0
 step_in (steps.Publish text r) = S.Publish text.now r.0

@@ -4,7 +4,7 @@ use Rattle.program_trees.specs.Operators.{operands_of, cast_between}
 use Rattle.bytecode.specs.declared.kind.Kind.{Kind}
 use Rattle.bytecode.specs.Raw.{Raw, RawFunction, RawCode}
 use Rattle.bytecode.specs.Raw as raw
-use Rattle.verified_code.specs.Steps.{Step, Function, Literal, Move, Store, Binary, Not, Cast, Classify, Fill, At, Put, Size, Cat, Sum, Bits}
+use Rattle.verified_code.specs.Steps.{Step, Function, Literal, Move, Store, Binary, Not, Cast, Classify, Fill, At, Put, Size, Cat, Sum, Bits, Lookup}
 use Rattle.verified_code.specs.Steps.{Declassify, Argument, Publish, Assert, Branch, Jump, Call, Return, ReturnNone}
 use Rattle.verified_code.specs.Fitting.{kind_at, is_none, operator_at}
 
@@ -33,6 +33,7 @@ settle names kinds (raw.Size d r) = Size d r
 settle names kinds (raw.Cat d a b line) = Cat line d a b
 settle names kinds (raw.Sum d r) = Sum d r
 settle names kinds (raw.Bits d r line) = Bits line d r
+settle names kinds (raw.Lookup d a i line) = Lookup line d a i
 settle names kinds (raw.Declassify d r) = Declassify d r
 settle names kinds (raw.Argument d name line) = Argument line (kind_at kinds d) (name_at names name) d
 settle names kinds (raw.Publish name r) = Publish (name_at names name) r

@@ -2,8 +2,8 @@
 use Rattle.std.specs.Prelude.{◌≡◌, ℕ, ◌<◌, ◌==◌, Some, None, if◌then◌else◌}
 use Rattle.program_trees.specs.declared.expression.Operator.{Operator}
 use Rattle.program_trees.specs.declared.expression.Operator.TheVariants as sign
-use Rattle.program_trees.specs.Operators.{word_operator, bool_operator}
-use Rattle.verified_code.specs.Fitting.{word_operator_at, has_bools, bool_operator_at}
+use Rattle.program_trees.specs.Operators.{word_operator, int_operator, bool_operator}
+use Rattle.verified_code.specs.Fitting.{word_operator_at, has_ints, has_bools, bool_operator_at}
 
 abbrev pub sign_at : ℕ → Operator
 sign_at o =
@@ -14,6 +14,9 @@ sign_at o =
 
 abbrev pub WordsAreSigned : Type 0
 WordsAreSigned = (o : ℕ) → o < 14 → word_operator (sign_at o) ≡ Some (word_operator_at o)
+
+abbrev pub IntsAreSigned : Type 0
+IntsAreSigned = (o : ℕ) → o < 14 → int_operator (sign_at o) ≡ (if has_ints o then Some (word_operator_at o) else None)
 
 abbrev pub BoolsAreSigned : Type 0
 BoolsAreSigned = (o : ℕ) → o < 14 → bool_operator (sign_at o) ≡ (if has_bools o then Some (bool_operator_at o) else None)

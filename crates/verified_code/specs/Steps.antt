@@ -24,6 +24,7 @@ pub data Step : Type 0 where
   Put : (line array index value : ℕ) → Step
   Cat : (line to left right : ℕ) → Step
   Bits : (line to source : ℕ) → Step
+  Lookup : (line to array index : ℕ) → Step
   -- the input of a name, where one of this kind is wanted
   Argument : (line : ℕ) → Kind → (text : List ℕ) → (to : ℕ) → Step
   Publish : (text : List ℕ) → (source : ℕ) → Step

@@ -1,16 +1,28 @@
 // Kinds, and whether one is as wanted.
 ghost use Rattle.std.specs.Prelude.{◌≡◌};
 ghost use Rattle.verified_code.specs.Fitting.{bits_fit, cast_fits, cat_fits, classify_fits, element_fits, fill_fits, gives_fits, gives_none};
-ghost use Rattle.verified_code.specs.Fitting.{array_of, element_of, kind_at, literal_fits, not_fits, public_as, public_scalar, size_fits, sum_fits};
-ghost use Rattle.verified_code.specs.Fitting.{is_condition, is_word, same_element, same_kind};
+ghost use Rattle.verified_code.specs.Fitting.{array_of, element_of, kind_at, literal_fits, lookup_fits, may_be_literal, not_fits, public_as, public_scalar};
+ghost use Rattle.verified_code.specs.Fitting.{is_condition, is_number, is_truth, is_unsigned, same_element, same_kind, size_fits, sum_fits};
 
 use bytecode::{Kind, Register};
 use program_trees::DataType;
 
-pub(crate) fn is_word(element: DataType) -> bool
-    ensures { result ≡ is_word element }
+fn is_unsigned(element: DataType) -> bool
+    ensures { result ≡ is_unsigned element }
 {
     matches!(element, DataType::Uint64)
+}
+
+fn is_truth(element: DataType) -> bool
+    ensures { result ≡ is_truth element }
+{
+    matches!(element, DataType::Bool)
+}
+
+fn is_number(element: DataType) -> bool
+    ensures { result ≡ is_number element }
+{
+    !is_truth(element)
 }
 
 pub(crate) fn same_element(left: DataType, right: DataType) -> bool
@@ -75,11 +87,22 @@ fn array_of(scalar: Kind) -> Kind
     }
 }
 
+/// Whether a word may be written down where an element of this type is wanted: no number with a sign may.
+fn may_be_literal(element: DataType, word: u64) -> bool
+    ensures { result ≡ may_be_literal element word }
+{
+    match element {
+        DataType::Uint64 => true,
+        DataType::Int64 => false,
+        DataType::Bool => word < 2,
+    }
+}
+
 pub(crate) fn literal_fits(kinds: &[Kind], to: Register, word: u64) -> bool
     ensures { result ≡ literal_fits (kind_at kinds.now to.0) word }
 {
     let to = kind_at(kinds, to);
-    same_kind(to, public_scalar(to.element)) && (is_word(to.element) || word < 2)
+    same_kind(to, public_scalar(to.element)) && may_be_literal(to.element, word)
 }
 
 pub(crate) fn not_fits(kinds: &[Kind], to: Register, source: Register) -> bool
@@ -87,7 +110,7 @@ pub(crate) fn not_fits(kinds: &[Kind], to: Register, source: Register) -> bool
 {
     let to = kind_at(kinds, to);
     let source = kind_at(kinds, source);
-    same_kind(to, source) && !is_word(source.element)
+    same_kind(to, source) && is_truth(source.element)
 }
 
 pub(crate) fn cast_fits(kinds: &[Kind], to: Register, source: Register) -> bool
@@ -173,7 +196,7 @@ pub(crate) fn sum_fits(kinds: &[Kind], to: Register, source: Register) -> bool
 {
     let to = kind_at(kinds, to);
     let source = kind_at(kinds, source);
-    source.array && is_word(source.element) && same_kind(to, element_of(source))
+    source.array && is_number(source.element) && same_kind(to, element_of(source))
 }
 
 pub(crate) fn bits_fit(kinds: &[Kind], to: Register, source: Register) -> bool
@@ -186,7 +209,26 @@ pub(crate) fn bits_fit(kinds: &[Kind], to: Register, source: Register) -> bool
         element: DataType::Bool,
         array: true,
     };
-    is_word(source.element) && same_kind(to, bits)
+    is_unsigned(source.element) && same_kind(to, bits)
+}
+
+pub(crate) fn lookup_fits(kinds: &[Kind], to: Register, array: Register, index: Register) -> bool
+    ensures { result ≡ lookup_fits (kind_at kinds.now to.0) (kind_at kinds.now array.0) (kind_at kinds.now index.0) }
+{
+    let to = kind_at(kinds, to);
+    let array = kind_at(kinds, array);
+    let index = kind_at(kinds, index);
+    let looked_up = Kind {
+        secret: true,
+        element: array.element,
+        array: index.array,
+    };
+    array.secret
+        && array.array
+        && is_number(array.element)
+        && index.secret
+        && is_unsigned(index.element)
+        && same_kind(to, looked_up)
 }
 
 pub(crate) fn is_condition(kinds: &[Kind], source: Register) -> bool

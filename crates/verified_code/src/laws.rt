@@ -1,5 +1,5 @@
 ghost use Rattle.bytecode.specs.Raw.{RawCode};
-ghost use Rattle.verified_code.specs.Signs.{BoolsAreSigned, WordsAreSigned};
+ghost use Rattle.verified_code.specs.Signs.{BoolsAreSigned, IntsAreSigned, WordsAreSigned};
 ghost use Rattle.verified_code.specs.Sound.{IsSound};
 ghost use Rattle.verified_code.specs.Verified.{IsVerified};
 
@@ -13,8 +13,9 @@ pub fn sound_code_is_verified()
     ensures { (code : RawCode) → IsSound code → IsVerified code }
 {}
 
-/// Law: the operators of code are those that the language's signs mean, between words and between bools.
+/// Law: the operators of code are those that the language's signs mean, between numbers without a sign, with one, and between bools.
 pub fn operators_are_those_of_signs()
     ensures words { WordsAreSigned }
+    ensures ints { IntsAreSigned }
     ensures bools { BoolsAreSigned }
 {}

@@ -7,8 +7,8 @@ ghost use Rattle.verified_code.specs.inner.Places.{here_in};
 
 use crate::kinds::{
     are_alike, bits_fit, cast_fits, cat_fits, classify_fits, declassify_fits, element_fits,
-    fill_fits, gives_fits, gives_none, is_condition, kind_at, literal_fits, not_fits, same_kind,
-    size_fits, sum_fits,
+    fill_fits, gives_fits, gives_none, is_condition, kind_at, literal_fits, lookup_fits, not_fits,
+    same_kind, size_fits, sum_fits,
 };
 use crate::operators::binary_fits;
 use bytecode::{
@@ -165,6 +165,12 @@ pub(crate) fn names_there(here: Here<'_>, instruction: &Instruction) -> bool
             array,
             index,
             line: _,
+        }
+        | Instruction::Lookup {
+            to,
+            array,
+            index,
+            line: _,
         } => three_there(kinds, *to, *array, *index),
         Instruction::Put {
             array,
@@ -248,6 +254,12 @@ pub(crate) fn operands_fit(here: Here<'_>, instruction: &Instruction) -> bool
             source,
             line: _,
         } => bits_fit(kinds, *to, *source),
+        Instruction::Lookup {
+            to,
+            array,
+            index,
+            line: _,
+        } => lookup_fits(kinds, *to, *array, *index),
         Instruction::Declassify { to, source } => declassify_fits(kinds, *to, *source),
         Instruction::Assert { condition, line: _ } => is_condition(kinds, *condition),
         Instruction::Branch {

@@ -151,6 +151,17 @@ pub(crate) fn settle<'c>(
             to: *to,
             source: *source,
         },
+        Instruction::Lookup {
+            to,
+            array,
+            index,
+            line,
+        } => Step::Lookup {
+            line: *line,
+            to: *to,
+            array: *array,
+            index: *index,
+        },
         Instruction::Declassify { to, source } => Step::Declassify {
             to: *to,
             source: *source,

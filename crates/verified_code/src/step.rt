@@ -76,6 +76,12 @@ pub enum Step<'c> {
         to: Register,
         source: Register,
     },
+    Lookup {
+        line: u32,
+        to: Register,
+        array: Register,
+        index: Register,
+    },
     Declassify {
         to: Register,
         source: Register,

@@ -3,7 +3,7 @@
 use Rattle.std.specs.Prelude.{ℕ, Bool, true, false}
 use Rattle.bytecode.specs.declared.tag.Tag.{Tag}
 use Rattle.bytecode.specs.declared.tag.Tag.TheVariants as tags
-use Rattle.bytecode.specs.Raw.{Raw, Literal, Move, Store, Binary, Not, Cast, Classify, Fill, At, Put, Size, Cat, Sum, Bits, Declassify, Argument}
+use Rattle.bytecode.specs.Raw.{Raw, Literal, Move, Store, Binary, Not, Cast, Classify, Fill, At, Put, Size, Cat, Sum, Bits, Lookup, Declassify, Argument}
 use Rattle.bytecode.specs.Raw.{Publish, Assert, Branch, Jump, Return, ReturnNone}
 use Rattle.bytecode.specs.Layouts.{Layout, Makes, Field, BadTag, behind}
 use Rattle.bytecode.specs.Decoded.{any, is_operator, is_truth}
@@ -33,6 +33,7 @@ tag_byte tags.Jump = 0x14
 tag_byte tags.Call = 0x16
 tag_byte tags.Return = 0x17
 tag_byte tags.ReturnNone = 0x18
+tag_byte tags.Lookup = 0x19
 
 abbrev pub has_operator : Tag → Bool
 has_operator tags.Literal = false
@@ -49,6 +50,7 @@ has_operator tags.Size = false
 has_operator tags.Cat = false
 has_operator tags.Sum = false
 has_operator tags.Bits = false
+has_operator tags.Lookup = false
 has_operator tags.Declassify = false
 has_operator tags.Argument = false
 has_operator tags.Publish = false
@@ -74,6 +76,7 @@ has_first tags.Size = true
 has_first tags.Cat = true
 has_first tags.Sum = true
 has_first tags.Bits = true
+has_first tags.Lookup = true
 has_first tags.Declassify = true
 has_first tags.Argument = true
 has_first tags.Publish = true
@@ -99,6 +102,7 @@ has_truth tags.Size = false
 has_truth tags.Cat = false
 has_truth tags.Sum = false
 has_truth tags.Bits = false
+has_truth tags.Lookup = false
 has_truth tags.Declassify = false
 has_truth tags.Argument = false
 has_truth tags.Publish = false
@@ -124,6 +128,7 @@ has_second tags.Size = true
 has_second tags.Cat = true
 has_second tags.Sum = true
 has_second tags.Bits = true
+has_second tags.Lookup = true
 has_second tags.Declassify = true
 has_second tags.Argument = true
 has_second tags.Publish = true
@@ -149,6 +154,7 @@ has_third tags.Size = false
 has_third tags.Cat = true
 has_third tags.Sum = false
 has_third tags.Bits = false
+has_third tags.Lookup = true
 has_third tags.Declassify = false
 has_third tags.Argument = false
 has_third tags.Publish = false
@@ -174,6 +180,7 @@ has_line tags.Size = false
 has_line tags.Cat = true
 has_line tags.Sum = false
 has_line tags.Bits = true
+has_line tags.Lookup = true
 has_line tags.Declassify = false
 has_line tags.Argument = true
 has_line tags.Publish = false
@@ -199,6 +206,7 @@ has_word tags.Size = false
 has_word tags.Cat = false
 has_word tags.Sum = false
 has_word tags.Bits = false
+has_word tags.Lookup = false
 has_word tags.Declassify = false
 has_word tags.Argument = false
 has_word tags.Publish = false
@@ -225,6 +233,7 @@ made tags.Size o a v b c line x = Size a b
 made tags.Cat o a v b c line x = Cat a b c line
 made tags.Sum o a v b c line x = Sum a b
 made tags.Bits o a v b c line x = Bits a b line
+made tags.Lookup o a v b c line x = Lookup a b c line
 made tags.Declassify o a v b c line x = Declassify a b
 made tags.Argument o a v b c line x = Argument a b line
 made tags.Publish o a v b c line x = Publish a b

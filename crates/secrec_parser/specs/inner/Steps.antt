@@ -225,7 +225,7 @@ name_leader other = leaders.Expression
 
 -- whether a token is the type of elements
 abbrev pub is_type : Token → Bool
-is_type x = is_sign signs.Uint64 x || is_sign signs.Uint x || is_sign signs.Bool x
+is_type x = is_sign signs.Uint64 x || is_sign signs.Uint x || is_sign signs.Int64 x || is_sign signs.Int x || is_sign signs.Bool x
 
 -- what a statement that begins with a token is, as far as the token tells
 abbrev pub leader_of : Bool → Token → Leader

@@ -7,4 +7,4 @@ use Rattle.bytecode.proofs.heads.all_heads.Given as goal
 
 abbrev pub invariant-loop-place : goal.invariant-loop-place
 invariant-loop-place l =
-    read (heads_layout l.fn.count) l.initial.reader ≡ after (map raw_head l.found.items) (read (heads_layout (l.fn.count - l.place)) l.reader)
+    read (heads_layout l.fn.version l.fn.count) l.initial.reader ≡ after (map raw_head l.found.items) (read (heads_layout l.fn.version (l.fn.count - l.place)) l.reader)

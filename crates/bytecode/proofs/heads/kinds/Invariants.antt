@@ -6,5 +6,5 @@ use Rattle.bytecode.proofs.heads.kinds.Given as goal
 
 abbrev pub invariant-loop-place : goal.invariant-loop-place
 invariant-loop-place l =
-    (read (repeated kind_layout l.fn.count) l.initial.reader ≡ after l.found.items (read (repeated kind_layout (l.fn.count - l.place)) l.reader)) ×
+    (read (repeated (kind_layout l.fn.version) l.fn.count) l.initial.reader ≡ after l.found.items (read (repeated (kind_layout l.fn.version) (l.fn.count - l.place)) l.reader)) ×
     (length l.found.items ≡ l.place)

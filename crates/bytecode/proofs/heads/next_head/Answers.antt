@@ -7,14 +7,14 @@ use Rattle.bytecode.proofs.heads.next_head.Goals as goal
 
 pub returns-in_err-registers : goal.returns-in_err-registers
 returns-in_err-registers c =
-    let stop = head_stops_at_registers c.in_ok-parameters.parameters c.in_ok-gives.gives c.in_ok-count.count _ _ _ _ c.in_err-registers.field-0.0
+    let stop = head_stops_at_registers c.args.version c.in_ok-parameters.parameters c.in_ok-gives.gives c.in_ok-count.count _ _ _ _ c.in_err-registers.field-0.0
     c.in_ok-parameters.ensures c.in_ok-gives.ensures.reads c.in_ok-count.ensures c.in_err-registers.ensures.reads in
     let from = c.from_residual-in_err-registers.ensures in
     reads_err raw_head _ _ _ _ (err_from_is_err_and c.from_residual-in_err-registers.result from.1) stop
 
 pub returns-in_err-instructions : goal.returns-in_err-instructions
 returns-in_err-instructions c =
-    let stop = head_stops_at_count c.in_ok-parameters.parameters c.in_ok-gives.gives c.in_ok-count.count c.in_ok-registers.registers.items _ _ _ _ _
+    let stop = head_stops_at_count c.args.version c.in_ok-parameters.parameters c.in_ok-gives.gives c.in_ok-count.count c.in_ok-registers.registers.items _ _ _ _ _
     c.in_err-instructions.field-0.0
     c.in_ok-parameters.ensures c.in_ok-gives.ensures.reads c.in_ok-count.ensures c.in_ok-registers.ensures.reads c.in_err-instructions.ensures in
     let from = c.from_residual-in_err-instructions.ensures in
@@ -22,7 +22,7 @@ returns-in_err-instructions c =
 
 pub returns : goal.returns
 returns c =
-    head_ok c.in_ok-parameters.parameters c.in_ok-gives.gives c.in_ok-count.count c.in_ok-registers.registers.items c.in_ok-instructions.instructions
+    head_ok c.args.version c.in_ok-parameters.parameters c.in_ok-gives.gives c.in_ok-count.count c.in_ok-registers.registers.items c.in_ok-instructions.instructions
     _ _ _ _ _ _
     c.in_ok-parameters.ensures c.in_ok-gives.ensures.reads c.in_ok-count.ensures c.in_ok-registers.ensures.reads c.in_ok-instructions.ensures
     ∙ ap (λ g. Ok (
