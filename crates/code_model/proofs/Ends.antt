@@ -11,7 +11,7 @@ use Rattle.blind_evaluation.specs.Values.{Value, size}
 use Rattle.blind_evaluation.specs.Operations as row
 use Rattle.blind_evaluation.specs.Evaluation.{nothing, array_elements, either, asked_for, input_named}
 use Rattle.blind_evaluation.proofs.Onward.{onward_charge}
-use Rattle.verified_code.specs.Steps.{kind_shape, Step, Literal, Move, Store, Binary, Not, Cast, Classify, Fill, At, Put, Size, Cat, Sum, Bits, Declassify}
+use Rattle.verified_code.specs.Steps.{kind_shape, Step, Literal, Move, Store, Binary, Not, Cast, Classify, Fill, At, Put, Size, Cat, Sum, Bits, Lookup, Declassify}
 use Rattle.verified_code.specs.Steps.{Argument, Publish, Assert, Branch, Jump, Call, Return, ReturnNone, Function}
 use Rattle.code_model.specs.Machine.{Caller, Machine, at, next, values_at, steps_of, entering, limit, resume, same_truth, step, further, exec, start}
 use Rattle.code_model.specs.Meaning.{longest, fuel, stopped_or, IsForward, AreForward}

@@ -6,7 +6,7 @@ use Rattle.program_trees.specs.declared.expression.DataType.TheVariants.{Uint64}
 use Rattle.program_trees.specs.declared.expression.DataType.TheVariants as datatype
 use Rattle.program_trees.specs.declared.kinds.Slot.{Slot}
 use Rattle.program_trees.specs.Shapes.{shape_of}
-use Rattle.program_trees.specs.TypedTree.{TypedTree, TypedTrees, word_node, truth_node, slot_node, call_node, size_node, cat_node, sum_node, bits_node, element_node}
+use Rattle.program_trees.specs.TypedTree.{TypedTree, TypedTrees, word_node, truth_node, slot_node, call_node, size_node, cat_node, sum_node, bits_node, lookup_node, element_node}
 use Rattle.program_trees.specs.TypedTree.{not_node, cast_node, binary_node, cut_node, declassify_node}
 use Rattle.program_trees.specs.TypedTree as Tree'
 use Rattle.program_trees.specs.TypedPrograms.{TypedFunctionTree}
@@ -18,7 +18,7 @@ use Rattle.blind_evaluation.specs.Words.{truth_word}
 use Rattle.blind_evaluation.specs.Operations as row
 use Rattle.blind_evaluation.specs.Evaluation.{Frame, Calls, is_private, gives_private, slots_of, bound_at, next_is_private}
 use Rattle.blind_evaluation.specs.Evaluation.{truth_value, value, arguments}
-use Rattle.verified_code.specs.Steps.{Literal, Not, Cast, Size, Sum, Bits, Declassify, Call, Function}
+use Rattle.verified_code.specs.Steps.{Literal, Not, Cast, Size, Sum, Bits, Lookup, Declassify, Call, Function}
 use Rattle.code_model.specs.Machine.{Machine, next, received, values_at, limit}
 use Rattle.bytecode.specs.declared.kind.Kind.{Kind}
 use Rattle.code_model.specs.Kinds.{kind_in, private_kind_in, in_row}

@@ -15,7 +15,7 @@ use Rattle.program_trees.specs.declared.expression.DataType.TheVariants as datat
 use Rattle.bytecode.specs.declared.kind.Kind.{Kind}
 use Rattle.verified_code.specs.Fitting as fitting
 use Rattle.verified_code.specs.Verified.{here}
-use Rattle.verified_code.specs.Steps.{Step, Function, Literal, Move, Store, Binary, Not, Cast, Classify, Fill, At, Put, Size, Cat, Sum, Bits, Declassify}
+use Rattle.verified_code.specs.Steps.{Step, Function, Literal, Move, Store, Binary, Not, Cast, Classify, Fill, At, Put, Size, Cat, Sum, Bits, Lookup, Declassify}
 use Rattle.verified_code.specs.Steps.{Argument, Publish, Assert, Branch, Jump, Call, Return, ReturnNone}
 use Rattle.code_model.specs.Kinded.{HasKind, ResultFits, cast_source, cast_target, public_scalar, is_return}
 use Rattle.code_model.specs.Instructions.{operator_number, register_or_nowhere, place_among, step_names, instruction, raw_function, names_of, raw_code_of}

@@ -8,7 +8,7 @@ use Rattle.program_trees.specs.Operators.{operands_of, cast_between}
 use Rattle.bytecode.specs.declared.kind.Kind.{Kind}
 use Rattle.verified_code.specs.Fitting.{kind_at}
 use Rattle.verified_code.specs.Settled.{result_at, binary_step, settle}
-use Rattle.verified_code.specs.Steps.{Step, Function, Literal, Move, Store, Binary, Not, Cast, Classify, Fill, At, Put, Size, Cat, Sum, Bits, Declassify}
+use Rattle.verified_code.specs.Steps.{Step, Function, Literal, Move, Store, Binary, Not, Cast, Classify, Fill, At, Put, Size, Cat, Sum, Bits, Lookup, Declassify}
 use Rattle.verified_code.specs.Steps.{Argument, Publish, Assert, Branch, Jump, Call, Return, ReturnNone}
 use Rattle.code_model.specs.Kinded.{ResultFits, left_array, right_array}
 use Rattle.code_model.specs.Instructions.{nowhere, operator_number, register_or_nowhere, step_names, instruction}

@@ -4,7 +4,7 @@ use Rattle.std.proofs.Common.{subst, arith, length-append}
 use Rattle.std.specs.Prelude.{slice_get}
 use Rattle.program_trees.specs.declared.typed_function.Returned.{Returned}
 use Rattle.program_trees.specs.declared.typed_function.Returned.TheVariants as given
-use Rattle.program_trees.specs.TypedTree.{TypedTree, word_node, truth_node, slot_node, call_node, size_node, cat_node, sum_node, bits_node, element_node}
+use Rattle.program_trees.specs.TypedTree.{TypedTree, word_node, truth_node, slot_node, call_node, size_node, cat_node, sum_node, bits_node, lookup_node, element_node}
 use Rattle.program_trees.specs.TypedTree.{not_node, cast_node, binary_node, cut_node, declassify_node}
 use Rattle.program_trees.specs.TypedStatements.{TypedStatementTree, TypedStatementTrees, empty_statement, block_statement, if_statement, loop_statement, do_statement}
 use Rattle.program_trees.specs.TypedStatements.{break_statement, continue_statement, return_statement, assert_statement, store_statement, default_statement}

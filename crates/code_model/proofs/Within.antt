@@ -9,7 +9,7 @@ use Rattle.blind_evaluation.specs.Values.{Value, size, never_stored}
 use Rattle.blind_evaluation.specs.Operations as row
 use Rattle.blind_evaluation.specs.Evaluation.{Frame, put, array_elements, either, asked_for, input_named, nothing}
 use Rattle.bytecode.specs.declared.kind.Kind.{Kind}
-use Rattle.verified_code.specs.Steps.{kind_shape, Step, Literal, Move, Store, Binary, Not, Cast, Classify, Fill, At, Put, Size, Cat, Sum, Bits, Declassify}
+use Rattle.verified_code.specs.Steps.{kind_shape, Step, Literal, Move, Store, Binary, Not, Cast, Classify, Fill, At, Put, Size, Cat, Sum, Bits, Lookup, Declassify}
 use Rattle.verified_code.specs.Steps.{Argument, Publish, Assert, Branch, Jump, Call, Return, ReturnNone, Function}
 use Rattle.code_model.specs.Machine.{Caller, Machine, at, next, values_at, begun, filled_with, kinds_of, steps_of, entering, limit, received, resume}
 use Rattle.code_model.specs.Machine.{same_truth, step, begin_at, start}

@@ -4,7 +4,7 @@ use Rattle.std.specs.Prelude.{◌||◌, ◌&&◌, IsTrue}
 use Rattle.std.specs.List.{slice_get}
 use Rattle.sc_text.specs.declared.span.Span.{Span}
 use Rattle.program_trees.specs.declared.expression.DataType.{DataType}
-use Rattle.program_trees.specs.declared.expression.DataType.TheVariants.{Uint64}
+use Rattle.program_trees.specs.declared.expression.DataType.TheVariants.{Uint64, Int64}
 use Rattle.program_trees.specs.declared.expression.DataType.TheVariants as datatype
 use Rattle.program_trees.specs.declared.statement.DeclaredType.{DeclaredType}
 use Rattle.program_trees.specs.declared.function.ResultType.{ResultType}
@@ -200,6 +200,7 @@ array_slot w held k h e = (h.at, ap (λ (s : Shape). s.array) h.is.shape ∙ e)
 
 good_default : (p : ProgramTree) (w : domains.Setting) (element : DataType) → GoodTree p w (public_scalar element) (default_of element)
 good_default p w Uint64 = record { gives = (omega arith, refl); seen_by = refl; called = none_checked p }
+good_default p w Int64 = record { gives = refl; seen_by = refl; called = none_checked p }
 good_default p w datatype.Bool = record { gives = refl; seen_by = refl; called = none_checked p }
 
 at_last : (xs more : List DeclaredType) (t : DeclaredType) → slice_get ((xs ++ t ∷ []) ++ more) (length xs) ≡ Some t
