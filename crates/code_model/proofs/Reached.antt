@@ -57,6 +57,12 @@ module _ (Known : ℕ → List BoundDomain → Type 0) where
     )
     knows here (sum_node e) fit h = knows here e fit h
     knows here (bits_node line e) fit h = knows here e fit h
+    knows here (lookup_node line a i) fit h = (
+      knows here a fit.0 (front (calls here a) (calls here i) h),
+      knows here i fit.1
+          (rest (calls here a) (calls here i) h),
+      fit.2,
+    )
     knows here (element_node line a i) fit h = (
       knows here a fit.0 (front (calls here a) (calls here i) h),
       knows here i fit.1

@@ -46,6 +46,7 @@ module _ (names : List (List ℕ)) (c : List Function) (ks : List Kind) (gives :
   settles (Cat line d a b) h m = refl
   settles (Sum d r) h m = refl
   settles (Bits line d r) h m = refl
+  settles (Lookup line d a i) h m = refl
   settles (Declassify d r) h m = refl
   settles (Argument line k text d) h m =
       ap₂ (λ z t. Argument line z (unwrap_or t []) d) (its_kind ks d k h) (name_found text names (m text (inl refl)))

@@ -119,6 +119,7 @@ module _ (w : World) (p : List Function) (number : Numbers) (fs : List TypedFunc
   unread_runs (cat_node line a b) t pc fr m fit le has h = reading (cat_node line a b) t pc fr m fit le has h
   unread_runs (sum_node e) t pc fr m fit le has h = reading (sum_node e) t pc fr m fit le has h
   unread_runs (bits_node line e) t pc fr m fit le has h = reading (bits_node line e) t pc fr m fit le has h
+  unread_runs (lookup_node line a i) t pc fr m fit le has h = reading (lookup_node line a i) t pc fr m fit le has h
   unread_runs (element_node line a i) t pc fr m fit le has h = reading (element_node line a i) t pc fr m fit le has h
   unread_runs (not_node e) t pc fr m fit le has h = reading (not_node e) t pc fr m fit le has h
   unread_runs (cast_node c e) t pc fr m fit le has h = reading (cast_node c e) t pc fr m fit le has h
