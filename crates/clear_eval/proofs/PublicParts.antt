@@ -9,7 +9,7 @@ use Rattle.value_file.specs.declared.public.PublicEntry.{PublicEntry}
 use Rattle.value_file.specs.declared.value.Domain.{Domain}
 use Rattle.value_file.specs.declared.value.Domain.TheVariants.{Public, Private}
 use Rattle.value_file.specs.declared.value.Value.{Value}
-use Rattle.value_file.specs.declared.value.Value.TheVariants.{Number, Truth, Numbers, Truths}
+use Rattle.value_file.specs.declared.value.Value.TheVariants.{Number, Integer, Truth, Numbers, Integers, Truths}
 use Rattle.value_file.specs.Input.{AreEntries}
 use Rattle.value_file.specs.Public.{shown, part_of}
 use Rattle.value_file.specs.PublicFile.{public_count, public_name_of, public_elements_of}
@@ -32,8 +32,10 @@ entry_is_public : (name : List ℕ) (d : Domain) (v : Value) →
     public_given name (shown d v) ≡ public_input (record { text = name; secret = is_private d; shape = shape_given v; words = words_given v })
 entry_is_public name Public v = refl
 entry_is_public name Private (Number n) = refl
+entry_is_public name Private (Integer n) = refl
 entry_is_public name Private (Truth b) = refl
 entry_is_public name Private (Numbers ns) = refl
+entry_is_public name Private (Integers ns) = refl
 entry_is_public name Private (Truths bs) =
     let told : ℕ → GivenInput = λ n. record { text = name; secret = true; shape = shape_of datatype.Bool true; words = replicate n 0 } in
     ap told (sym (length-map bs truth_word))

@@ -15,7 +15,7 @@ use Rattle.value_file.specs.declared.value.Shape.TheVariants.{Scalar, Array}
 use Rattle.value_file.specs.declared.value.Domain.{Domain}
 use Rattle.value_file.specs.declared.value.Domain.TheVariants.{Public, Private}
 use Rattle.value_file.specs.declared.value.Value.{Value}
-use Rattle.value_file.specs.declared.value.Value.TheVariants.{Number, Truth, Numbers, Truths}
+use Rattle.value_file.specs.declared.value.Value.TheVariants.{Number, Integer, Truth, Numbers, Integers, Truths}
 use Rattle.value_file.specs.Values.{size_of}
 use Rattle.language_model.specs.Effects.{GivenInput}
 use Rattle.language_model.specs.Words.{truth_word}
@@ -27,15 +27,19 @@ is_private Private = true
 
 abbrev pub shape_given : Value → Shape
 shape_given (Number n) = shape_of datatype.Uint64 false
+shape_given (Integer n) = shape_of datatype.Int64 false
 shape_given (Truth b) = shape_of datatype.Bool false
 shape_given (Numbers ns) = shape_of datatype.Uint64 true
+shape_given (Integers ns) = shape_of datatype.Int64 true
 shape_given (Truths bs) = shape_of datatype.Bool true
 
--- a truth value is the word 1 or 0
+-- a number with a sign is its two's complement, a truth value the word 1 or 0
 abbrev pub words_given : Value → List ℕ
 words_given (Number n) = n ∷ []
+words_given (Integer n) = n ∷ []
 words_given (Truth b) = truth_word b ∷ []
 words_given (Numbers ns) = ns
+words_given (Integers ns) = ns
 words_given (Truths bs) = map truth_word bs
 
 abbrev pub input_given : Entry → GivenInput
@@ -57,6 +61,7 @@ offered entries lengths = offered_with (map input_given entries) lengths
 
 abbrev pub type_given : told.DataType → DataType
 type_given kind.Uint64 = datatype.Uint64
+type_given kind.Int64 = datatype.Int64
 type_given kind.Bool = datatype.Bool
 
 abbrev pub is_array : form.Shape → Bool

@@ -17,8 +17,10 @@ pub fn shape_given(value: &Value) -> Shape
 {
     let (element, array) = match value {
         Value::Number(_) => (DataType::Uint64, false),
+        Value::Integer(_) => (DataType::Int64, false),
         Value::Truth(_) => (DataType::Bool, false),
         Value::Numbers(_) => (DataType::Uint64, true),
+        Value::Integers(_) => (DataType::Int64, true),
         Value::Truths(_) => (DataType::Bool, true),
     };
     Shape { element, array }
@@ -36,9 +38,9 @@ pub fn words_given(alloc: Global, value: &Value) -> Result<Vec<u64>, AllocError>
     ensures { IfOk result (λ words. words.items ≡ words_given value.now) }
 {
     match value {
-        Value::Number(number) => Ok(vec![in alloc; *number]?),
+        Value::Number(word) | Value::Integer(word) => Ok(vec![in alloc; *word]?),
         Value::Truth(truth) => Ok(vec![in alloc; u64::from(*truth)]?),
-        Value::Numbers(numbers) => Vec::from_slice(alloc, numbers.as_slice()),
+        Value::Numbers(words) | Value::Integers(words) => Vec::from_slice(alloc, words.as_slice()),
         Value::Truths(truths) => truth_words(alloc, truths.as_slice()),
     }
 }

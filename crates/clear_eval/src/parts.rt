@@ -45,6 +45,7 @@ pub fn parts_of(e: &TypedExpression) -> Parts<'_>
         TypedExpression::Not(x) => Parts::One(x),
         TypedExpression::Cast(_, x) => Parts::One(x),
         TypedExpression::Declassify(x) => Parts::One(x),
+        TypedExpression::Lookup(_, x, y) => Parts::Two(x, y),
         TypedExpression::Element(_, x, y) => Parts::Two(x, y),
         TypedExpression::Binary(_, _, _, x, y) => Parts::Two(x, y),
         TypedExpression::Cat(line, left, right) => Parts::Joined(Joined {

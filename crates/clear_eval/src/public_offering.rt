@@ -17,6 +17,7 @@ fn shape_told(data_type: value_file::DataType, shape: value_file::Shape) -> Shap
 {
     let element = match data_type {
         value_file::DataType::Uint64 => DataType::Uint64,
+        value_file::DataType::Int64 => DataType::Int64,
         value_file::DataType::Bool => DataType::Bool,
     };
     let array = match shape {

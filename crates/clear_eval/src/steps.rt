@@ -22,7 +22,7 @@ use reached_instances::{domain, slot_is_private, slot_shape};
 use std::alloc::Global;
 use value_steps::{
     Asked, Halt, Stage, Value, World, asked_for, asserted, bits_extracted, cast_to, declassified,
-    element_of_array, filled, negated, operation, published, size_told, summed, wanted,
+    element_of_array, filled, lookup, negated, operation, published, size_told, summed, wanted,
 };
 
 /// The value of a literal or a variable.
@@ -86,6 +86,11 @@ pub fn on_two(
     ensures spends { stage.new.left ≤ stage.old.left }
 {
     match e {
+        TypedExpression::Lookup(line, _, _) => {
+            let array = x.into_value(alloc)?;
+            let index = y.into_value(alloc)?;
+            lookup(alloc, world, stage, *line, array, index)
+        }
         TypedExpression::Element(line, _, _) => {
             element_of_array(alloc, stage, *line, x.get(), y.get())
         }

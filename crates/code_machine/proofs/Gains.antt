@@ -7,8 +7,8 @@ use Rattle.language_model.specs.Values.{Value, size}
 use Rattle.language_model.specs.Evaluation.{either, nothing}
 use Rattle.language_model.proofs.Walk as walk
 use Rattle.language_model.proofs.Onward.{Onward, Went, is_onward, onward_law, stage_of}
-use Rattle.verified_code.specs.Steps.{kind_shape, Step, Literal, Move, Store, Binary, Not, Cast, Classify, Fill, At, Put, Size, Cat, Sum, Bits, Declassify}
-use Rattle.verified_code.specs.Steps.{Argument, Publish, Assert, Branch, Jump, Call, Return, ReturnNone, Function}
+use Rattle.verified_code.specs.Steps.{kind_shape, Step, Literal, Move, Store, Binary, Not, Cast, Classify, Fill, At, Put, Size, Cat, Sum, Bits, Lookup}
+use Rattle.verified_code.specs.Steps.{Declassify, Argument, Publish, Assert, Branch, Jump, Call, Return, ReturnNone, Function}
 use Rattle.named_values.specs.Machine.{Caller, Machine, at, next, resume, same_truth, step}
 use Rattle.code_machine.specs.Marks.{HasGained, reached}
 
@@ -47,6 +47,7 @@ module _ (w : World) (p : List Function) (m : Machine) where
   act (Some (Cat line d a b)) = sets d _ (walk.concatenated_holds w w (is_onward w) law line (m.registers a) (m.registers b))
   act (Some (Sum d r)) = sets d _ (walk.summed_holds w w (is_onward w) law (m.registers r))
   act (Some (Bits line d r)) = sets d _ (walk.bits_holds w w (is_onward w) law line (m.registers r))
+  act (Some (Lookup line d a i)) = sets d _ (walk.lookup_holds w w (is_onward w) law line (m.registers a) (m.registers i))
   act (Some (Declassify d r)) = sets d _ (walk.declassified_holds w w (is_onward w) law (m.registers r))
   act (Some (Argument line k text d)) = sets d _ (walk.input_holds w w (is_onward w) law k.secret (kind_shape k) line text)
   act (Some (Publish text r)) = goes _ _ (walk.published_holds w w (is_onward w) law text (m.registers r))

@@ -3,7 +3,7 @@ use Rattle.std.proofs.Common.{◌≡◌, ℕ, ◌<◌, List, [], ◌∷◌, leng
 use Rattle.std.specs.Prelude.{not, set, nat_eq}
 use Rattle.std.proofs.lemmas.Bool.{and_parts, eqb-true, false≢true}
 use Rattle.program_trees.specs.declared.expression.DataType.{DataType}
-use Rattle.program_trees.specs.declared.expression.DataType.TheVariants.{Uint64}
+use Rattle.program_trees.specs.declared.expression.DataType.TheVariants.{Uint64, Int64}
 use Rattle.program_trees.specs.declared.expression.DataType.TheVariants as datatype
 use Rattle.program_trees.specs.declared.kinds.Shape.{Shape}
 use Rattle.program_trees.specs.Shapes.{shape_of}
@@ -17,8 +17,13 @@ use Rattle.value_steps.specs.Views.{secrecy_seen, value_seen, written}
 
 type-is : (d e : DataType) → same_type d e ≡ true → d ≡ e
 type-is Uint64 Uint64 t = refl
+type-is Uint64 Int64 t = absurd (false≢true t)
 type-is Uint64 datatype.Bool t = absurd (false≢true t)
+type-is Int64 Uint64 t = absurd (false≢true t)
+type-is Int64 Int64 t = refl
+type-is Int64 datatype.Bool t = absurd (false≢true t)
 type-is datatype.Bool Uint64 t = absurd (false≢true t)
+type-is datatype.Bool Int64 t = absurd (false≢true t)
 type-is datatype.Bool datatype.Bool t = refl
 
 truth-is : (a b : Bool) → same_truth a b ≡ true → a ≡ b

@@ -63,6 +63,7 @@ module _ (h : Here) (n : ℕ) (enough : length h.own.registers ≤ n) where
   named (raw.Cat d a b line) t = three d a b t
   named (raw.Sum d r) t = two d r t
   named (raw.Bits d r line) t = two d r t
+  named (raw.Lookup d a i line) t = three d a i t
   named (raw.Declassify d r) t = two d r t
   named (raw.Argument d name line) t = one d (and_parts (there d) (is_there h.code.names name) t).0
   named (raw.Publish name r) t = one r (and_parts (is_there h.code.names name) (there r) t).1

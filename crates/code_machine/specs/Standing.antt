@@ -7,8 +7,8 @@ use Rattle.bytecode.specs.Raw.{RawCode}
 use Rattle.verified_code.specs.InMemory.{place_of, step_at, step_in}
 use Rattle.verified_code.specs.declared.step.Step as declared
 use Rattle.verified_code.specs.Settled.{settled}
-use Rattle.verified_code.specs.Steps.{Step, Literal, Move, Store, Binary, Not, Cast, Classify, Fill, At, Put, Size, Cat, Sum, Bits, Declassify}
-use Rattle.verified_code.specs.Steps.{Argument, Publish, Assert, Branch, Jump, Call, Return, ReturnNone}
+use Rattle.verified_code.specs.Steps.{Step, Literal, Move, Store, Binary, Not, Cast, Classify, Fill, At, Put, Size, Cat, Sum, Bits, Lookup}
+use Rattle.verified_code.specs.Steps.{Declassify, Argument, Publish, Assert, Branch, Jump, Call, Return, ReturnNone}
 use Rattle.named_values.specs.Machine.{kinds_of}
 use Rattle.code_machine.specs.declared.machine.Caller as waiting
 use Rattle.code_machine.specs.declared.machine.Machine as running
@@ -41,6 +41,7 @@ AreThere n (Size d r) = (d < n) × (r < n)
 AreThere n (Cat line d a b) = (d < n) × (a < n) × (b < n)
 AreThere n (Sum d r) = (d < n) × (r < n)
 AreThere n (Bits line d r) = (d < n) × (r < n)
+AreThere n (Lookup line d a i) = (d < n) × (a < n) × (i < n)
 AreThere n (Declassify d r) = (d < n) × (r < n)
 AreThere n (Argument line k text d) = d < n
 AreThere n (Publish text r) = r < n

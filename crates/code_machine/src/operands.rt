@@ -11,7 +11,7 @@ use program_trees::Operation;
 use std::alloc::Global;
 use value_steps::{
     Applied, Halt, Stage, Value, World, bits_extracted, concatenated, element_of_array, filled,
-    operated,
+    lookup, operated,
 };
 
 /// An operation between two registers.
@@ -118,4 +118,24 @@ pub(crate) fn bits(
     ensures { Does value_seen (row.bits_extracted (world_seen world.now) line (kept machine.now source)) (stage_seen stage.old) result (stage_seen stage.new) }
 {
     bits_extracted(alloc, world, stage, line, machine.register(source))
+}
+
+/// The elements of an array at these indices, of which nobody learns which they are.
+pub(crate) fn looked_up(
+    alloc: Global,
+    world: &World<'_>,
+    machine: &Machine,
+    stage: &mut Stage<'_>,
+    line: u32,
+    array: Register,
+    index: Register,
+) -> Result<Value, Halt>
+    requires array_there { IsThere machine.now array }
+    requires index_there { IsThere machine.now index }
+    ensures { Does value_seen (row.lookup (world_seen world.now) line (kept machine.now array) (kept machine.now index))
+        (stage_seen stage.old) result (stage_seen stage.new) }
+{
+    let elements = machine.copied(alloc, array)?;
+    let places = machine.copied(alloc, index)?;
+    lookup(alloc, world, stage, line, elements, places)
 }

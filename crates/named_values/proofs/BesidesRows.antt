@@ -6,7 +6,7 @@ use Rattle.sc_text.specs.declared.end.Ending.TheVariants as ending
 use Rattle.sc_text.specs.declared.end.TrapKind.TheVariants as trap
 use Rattle.sc_text.specs.declared.event.Event.TheVariants as event
 use Rattle.program_trees.specs.declared.expression.DataType.{DataType}
-use Rattle.program_trees.specs.declared.expression.DataType.TheVariants.{Uint64}
+use Rattle.program_trees.specs.declared.expression.DataType.TheVariants.{Uint64, Int64}
 use Rattle.program_trees.specs.declared.expression.DataType.TheVariants as datatype
 use Rattle.gates.specs.declared.gate.Gate.TheVariants.{Const, Add, Sub, MulPub, Mul, Xor, And, Sum, Conv, Input, Open, Result}
 use Rattle.gates.specs.declared.gate.Gate.TheVariants.{Pack, Unpack}
@@ -14,6 +14,8 @@ use Rattle.gates.specs.Clear.{bits_of, first_word}
 use Rattle.plans.specs.Equality.{eq_plan}
 use Rattle.plans.specs.BitExtract.{bits_plan}
 use Rattle.plans.specs.Compare.{less_plan}
+use Rattle.plans.specs.Signed.{signed_less_plan}
+use Rattle.language_model.specs.Lookup.{looked, lookup_plan}
 use Rattle.program_trees.specs.declared.kinds.Shape.{Shape}
 use Rattle.program_trees.specs.declared.operators.OperatorSign.{OperatorSign}
 use Rattle.program_trees.specs.declared.operators.OperatorSign.TheVariants as word
@@ -23,7 +25,6 @@ use Rattle.program_trees.specs.declared.operators.BinaryOperator.{BinaryOperator
 use Rattle.program_trees.specs.declared.operators.BinaryOperator.TheVariants as binary
 use Rattle.program_trees.specs.declared.operators.Operands.{Operands}
 use Rattle.program_trees.specs.declared.operators.Cast.{Cast}
-use Rattle.program_trees.specs.declared.operators.Cast.TheVariants.{WordToWord, WordToBool, BoolToWord, BoolToBool}
 use Rattle.program_trees.specs.Shapes.{shape_of}
 use Rattle.language_model.specs.Effects.{World, GivenInput, Effect, words_each}
 use Rattle.language_model.specs.Values.{Secrecy, Plain, Private, Value, plain, hidden, size, visible_words, is_true, elements_of}
@@ -32,11 +33,12 @@ use Rattle.language_model.specs.Words as W
 use Rattle.language_model.specs.Operations.{charged, no_traps, not_too_large, number_from, number_of, made_private, classified_from}
 use Rattle.language_model.specs.Operations.{read_answer, revealed, opened_from, declassified}
 use Rattle.language_model.specs.Operations.{classified, stretched, is_scalar_left, repeated_gate, element_gate, stored_gate, joined_gate, zero_gates}
-use Rattle.language_model.specs.Operations.{is_scalar_right, flip, words_of_operator, equal_gates, less_gates, or_gates}
+use Rattle.language_model.specs.Operations.{is_scalar_right, flip, words_of_operator, equal_gates, less_gates, signed_less_gates, number_gates, or_gates}
 use Rattle.language_model.specs.Operations.{operator_gates}
 use Rattle.language_model.specs.Operations.{result_shape, private_result, product_with, combined_from, operator_traps, operated, negated_from}
 use Rattle.language_model.specs.Operations.{negated, words_of_cast}
-use Rattle.language_model.specs.Operations.{cast_shape, cast_gates, changed, cast_from, cast_to, scalar_word, size_told, summed_from, summed}
+use Rattle.language_model.specs.Operations.{cast_shape, truth_gates, conversion_gates, gates_between, changed, converted, relabelled, cast_from, cast_to}
+use Rattle.language_model.specs.Operations.{scalar_word, size_told, summed_from, summed, words_for_lookup, looked_up, lookup}
 use Rattle.language_model.specs.Operations.{words_for_bits, bits_from}
 use Rattle.language_model.specs.Operations.{bits_extracted, concatenated_from, concatenated, position, element_from, element_of_array}
 use Rattle.language_model.specs.Operations.{with_element_from, with_element}
@@ -111,17 +113,21 @@ equal_besides u v = besides_bind (besides_gate (Sub u v)) (λ d. zero_besides d)
 less_besides : (n u v : ℕ) → Besides (less_gates n u v)
 less_besides n u v = besides_bind (besides_planned (λ first. less_plan first u v n)) (λ z. besides_gate (Pack z))
 
-word_besides : (op : OperatorSign) (n u v : ℕ) → Besides (operator_gates (binary.Words op) n u v)
-word_besides word.Add n u v = besides_gate (Add u v)
-word_besides word.Subtract n u v = besides_gate (Sub u v)
-word_besides word.Multiply n u v = besides_gate (Mul u v)
-word_besides word.Equal n u v = equal_besides u v
-word_besides word.NotEqual n u v = besides_bind (equal_besides u v) (flip_besides n)
-word_besides word.Less n u v = less_besides n u v
-word_besides word.Greater n u v = less_besides n v u
-word_besides word.GreaterOrEqual n u v = besides_bind (less_besides n u v) (flip_besides n)
-word_besides word.LessOrEqual n u v = besides_bind (less_besides n v u) (flip_besides n)
-word_besides op n u v = besides_number
+signed_less_besides : (n u v : ℕ) → Besides (signed_less_gates n u v)
+signed_less_besides n u v = besides_bind (besides_planned (λ first. signed_less_plan first u v n)) (λ z. besides_gate (Pack z))
+
+number_gates_besides : (less : ℕ → ℕ → ℕ → Effect ℕ) → ((n u v : ℕ) → Besides (less n u v)) → (op : OperatorSign) (n u v : ℕ)
+    → Besides (number_gates less op n u v)
+number_gates_besides less h word.Add n u v = besides_gate (Add u v)
+number_gates_besides less h word.Subtract n u v = besides_gate (Sub u v)
+number_gates_besides less h word.Multiply n u v = besides_gate (Mul u v)
+number_gates_besides less h word.Equal n u v = equal_besides u v
+number_gates_besides less h word.NotEqual n u v = besides_bind (equal_besides u v) (flip_besides n)
+number_gates_besides less h word.Less n u v = h n u v
+number_gates_besides less h word.Greater n u v = h n v u
+number_gates_besides less h word.GreaterOrEqual n u v = besides_bind (h n u v) (flip_besides n)
+number_gates_besides less h word.LessOrEqual n u v = besides_bind (h n v u) (flip_besides n)
+number_gates_besides less h op n u v = besides_number
 
 or_besides : (u v : ℕ) → Besides (or_gates u v)
 or_besides u v =
@@ -135,7 +141,8 @@ truth_besides truth.NotEqual n u v = besides_gate (Xor u v)
 truth_besides truth.Equal n u v = besides_bind (besides_gate (Xor u v)) (flip_besides n)
 
 operator_besides : (op : BinaryOperator) (n u v : ℕ) → Besides (operator_gates op n u v)
-operator_besides (binary.Words op) n u v = word_besides op n u v
+operator_besides (binary.Words op) n u v = number_gates_besides less_gates less_besides op n u v
+operator_besides (binary.Ints op) n u v = number_gates_besides signed_less_gates signed_less_besides op n u v
 operator_besides (binary.Bools op) n u v = truth_besides op n u v
 
 private_besides : (w : World) (op : BinaryOperator) (ds : Operands) (x y : Value) → Besides (private_result w op ds x y)
@@ -176,35 +183,53 @@ negated_from_besides (Private k) v =
 pub negated_besides : (v : Value) → Besides (negated v)
 negated_besides v = besides_bind (untrapped_besides (size v)) (λ _. negated_from_besides v.secrecy v)
 
-cast_gates_besides : (c : Cast) (n u : ℕ) → Besides (cast_gates c n u)
-cast_gates_besides WordToBool n u = besides_bind (zero_besides u) (flip_besides n)
-cast_gates_besides BoolToWord n u = besides_bind (besides_gate (Unpack u n)) (λ z. besides_gate (Conv z))
-cast_gates_besides WordToWord n u = besides_done u
-cast_gates_besides BoolToBool n u = besides_done u
+truth_gates_besides : (n u : ℕ) → Besides (truth_gates n u)
+truth_gates_besides n u = besides_bind (zero_besides u) (flip_besides n)
+
+conversion_besides : (n u : ℕ) → Besides (conversion_gates n u)
+conversion_besides n u = besides_bind (besides_gate (Unpack u n)) (λ z. besides_gate (Conv z))
+
+between_besides : (given wanted : DataType) (n u : ℕ) → Besides (gates_between given wanted n u)
+between_besides Uint64 Uint64 n u = besides_done u
+between_besides Uint64 Int64 n u = besides_done u
+between_besides Uint64 datatype.Bool n u = truth_gates_besides n u
+between_besides Int64 Uint64 n u = besides_done u
+between_besides Int64 Int64 n u = besides_done u
+between_besides Int64 datatype.Bool n u = truth_gates_besides n u
+between_besides datatype.Bool Uint64 n u = conversion_besides n u
+between_besides datatype.Bool Int64 n u = conversion_besides n u
+between_besides datatype.Bool datatype.Bool n u = besides_done u
 
 changed_besides : (w : World) (c : Cast) (v : Value) → Besides (changed w c v)
 changed_besides w c v =
-    besides_bind (besides_draw w (words_of_cast c (size v))) (λ _. besides_bind (number_besides v) (λ u. besides_bind (cast_gates_besides c (size v) u) (λ r.
+    besides_bind (besides_draw w (words_of_cast c (size v))) (λ _. besides_bind (number_besides v) (λ u. besides_bind (between_besides c.given c.wanted (size v) u) (λ r.
     made_besides (cast_shape c v.shape.array) (map (W.cast_word c) v.words) r)))
 
-cast_from_besides : (w : World) (x : Secrecy) (c : Cast) (v : Value) → Besides (cast_from w x c v)
-cast_from_besides w x WordToWord v = besides_done v
-cast_from_besides w x BoolToBool v = besides_done v
-cast_from_besides w Plain WordToBool v = besides_done (plain (cast_shape WordToBool v.shape.array) (map (W.cast_word WordToBool) v.words))
-cast_from_besides w Plain BoolToWord v = besides_done (plain (cast_shape BoolToWord v.shape.array) (map (W.cast_word BoolToWord) v.words))
-cast_from_besides w (Private k) WordToBool v = changed_besides w WordToBool v
-cast_from_besides w (Private k) BoolToWord v = changed_besides w BoolToWord v
+converted_besides : (w : World) (x : Secrecy) (c : Cast) (v : Value) → Besides (converted w x c v)
+converted_besides w Plain c v = besides_done (plain (cast_shape c v.shape.array) (map (W.cast_word c) v.words))
+converted_besides w (Private k) c v = changed_besides w c v
+
+cast_from_besides : (given wanted : DataType) (w : World) (c : Cast) (v : Value) → Besides (cast_from given wanted w c v)
+cast_from_besides Uint64 Uint64 w c v = besides_done v
+cast_from_besides Uint64 Int64 w c v = besides_done (relabelled c v)
+cast_from_besides Uint64 datatype.Bool w c v = converted_besides w v.secrecy c v
+cast_from_besides Int64 Uint64 w c v = besides_done (relabelled c v)
+cast_from_besides Int64 Int64 w c v = besides_done v
+cast_from_besides Int64 datatype.Bool w c v = converted_besides w v.secrecy c v
+cast_from_besides datatype.Bool Uint64 w c v = converted_besides w v.secrecy c v
+cast_from_besides datatype.Bool Int64 w c v = converted_besides w v.secrecy c v
+cast_from_besides datatype.Bool datatype.Bool w c v = besides_done v
 
 pub cast_besides : (w : World) (c : Cast) (v : Value) → Besides (cast_to w c v)
-cast_besides w c v = besides_bind (untrapped_besides (size v)) (λ _. cast_from_besides w v.secrecy c v)
+cast_besides w c v = besides_bind (untrapped_besides (size v)) (λ _. cast_from_besides c.given c.wanted w c v)
 
 pub size_besides : (v : Value) → Besides (size_told v)
 size_besides v = besides_bind (besides_charge 1) (λ _. besides_done (scalar_word (size v)))
 
 summed_from_besides : (x : Secrecy) (v : Value) → Besides (summed_from x v)
-summed_from_besides Plain v = besides_done (scalar_word (sum v.words % 2 ^ 64))
+summed_from_besides Plain v = besides_done (plain (shape_of v.shape.element false) (sum v.words % 2 ^ 64 ∷ []))
 summed_from_besides (Private k) v =
-    besides_bind (number_besides v) (λ u. besides_bind (besides_gate (Sum u)) (λ r. made_besides (shape_of Uint64 false) (sum v.words % 2 ^ 64 ∷ []) r))
+    besides_bind (number_besides v) (λ u. besides_bind (besides_gate (Sum u)) (λ r. made_besides (shape_of v.shape.element false) (sum v.words % 2 ^ 64 ∷ []) r))
 
 pub summed_besides : (v : Value) → Besides (summed v)
 summed_besides v = besides_bind (besides_charge 1) (λ _. summed_from_besides v.secrecy v)
@@ -234,6 +259,17 @@ concatenated_from_besides (Private j) (Private k) x y = cat_besides x y
 
 pub concatenated_besides : (line : ℕ) (x y : Value) → Besides (concatenated line x y)
 concatenated_besides line x y = besides_bind (large_besides line (size x + size y)) (λ _. concatenated_from_besides x.secrecy y.secrecy x y)
+
+looked_up_besides : (w : World) (line : ℕ) (a i : Value) → Besides (looked_up w line a i)
+looked_up_besides w line a i =
+    let n = size a * size i in
+    besides_bind (large_besides line n) (λ _. besides_bind (besides_draw w (words_for_lookup n)) (λ _. besides_bind (number_besides a) (λ u.
+    besides_bind (number_besides i) (λ v. besides_bind (besides_planned (λ first. lookup_plan first u v (size a) (size i))) (λ r.
+    made_besides (shape_of a.shape.element i.shape.array) (looked a.words i.words) r)))))
+
+pub lookup_besides : (w : World) (line : ℕ) (a i : Value) → Besides (lookup w line a i)
+lookup_besides w line a i =
+    besides_bind (classified_besides a) (λ x. besides_bind (classified_besides i) (λ k. looked_up_besides w line x k))
 
 element_from_besides : (x : Secrecy) (v : Value) (i : ℕ) → Besides (element_from x v i)
 element_from_besides Plain v i = besides_done (plain (shape_of v.shape.element false) (get_or v.words i 0 ∷ []))

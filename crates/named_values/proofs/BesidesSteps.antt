@@ -10,14 +10,14 @@ use Rattle.language_model.specs.Effects.{World, Stage, Run}
 use Rattle.language_model.proofs.Onward.{stage_of}
 use Rattle.language_model.specs.Values.{Value, size}
 use Rattle.language_model.specs.Evaluation.{nothing, array_elements, input_named}
-use Rattle.verified_code.specs.Steps.{kind_shape, Step, Literal, Move, Store, Binary, Not, Cast, Classify, Fill, At, Put, Size, Cat, Sum, Bits}
+use Rattle.verified_code.specs.Steps.{kind_shape, Step, Literal, Move, Store, Binary, Not, Cast, Classify, Fill, At, Put, Size, Cat, Sum, Bits, Lookup}
 use Rattle.verified_code.specs.Steps.{Declassify, Argument, Publish, Assert, Branch, Jump, Call, Return, ReturnNone, Function}
 use Rattle.code_model.specs.Machine.{Caller, Machine, values_at, limit, resume, step}
 use Rattle.named_values.specs.Besides.{ran_behind_others, EarlierGatesChangeNothing}
 use Rattle.named_values.proofs.Besides.{ran_with_gates, Besides, besides_bind, besides_done, besides_end, besides_charge, besides_test}
 use Rattle.named_values.proofs.BesidesRows.{untrapped_besides, classified_besides, declassified_besides, operated_besides}
 use Rattle.named_values.proofs.BesidesRows.{negated_besides, cast_besides, size_besides, summed_besides, bits_besides}
-use Rattle.named_values.proofs.BesidesRows.{concatenated_besides, element_besides, with_element_besides, filled_besides, tested_besides}
+use Rattle.named_values.proofs.BesidesRows.{lookup_besides, concatenated_besides, element_besides, with_element_besides, filled_besides, tested_besides}
 use Rattle.named_values.proofs.BesidesRows.{asserted_besides, asked_besides, published_besides}
 
 resume_besides : (cs : List Caller) (v : Value) → Besides (resume cs v)
@@ -46,6 +46,8 @@ module _ (w : World) (c : List Function) (m : Machine) where
       besides_bind (concatenated_besides line (m.registers a) (m.registers b)) (λ v. besides_done _)
   step_besides (Some (Sum d r)) = besides_bind (summed_besides (m.registers r)) (λ v. besides_done _)
   step_besides (Some (Bits line d r)) = besides_bind (bits_besides w line (m.registers r)) (λ v. besides_done _)
+  step_besides (Some (Lookup line d a i)) =
+      besides_bind (lookup_besides w line (m.registers a) (m.registers i)) (λ v. besides_done _)
   step_besides (Some (Declassify d r)) = besides_bind (declassified_besides w (m.registers r)) (λ v. besides_done _)
   step_besides (Some (Argument line kind text d)) =
       besides_bind (asked_besides kind.secret (kind_shape kind) line (input_named w text)) (λ v. besides_done _)

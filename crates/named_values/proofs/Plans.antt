@@ -1,10 +1,13 @@
 -- The plans take the values that they are given, and such as they make.
 use Rattle.std.proofs.Common.{ℕ, ◌+◌, ◌*◌, ◌≤◌, List, [], ◌∷◌, ◌++◌, arith}
+use Rattle.gates.specs.declared.gate.Gate.TheVariants.{Conv, Mul, Tile, SumEach}
 use Rattle.gates.specs.Counts.{made_by_all}
 use Rattle.plans.specs.Equality.{joining, shifts, eq_plan}
 use Rattle.plans.specs.BitExtract.{carry_step, carrying, bits_plan}
 use Rattle.plans.specs.BitExtract as bits
 use Rattle.plans.specs.Compare.{order_start, order_step, comparing, less_plan}
+use Rattle.plans.specs.Signed.{signed_less_plan}
+use Rattle.language_model.specs.Lookup.{lookup_plan}
 use Rattle.named_values.specs.Named.{Numbers, AllTake}
 use Rattle.named_values.proofs.Effects.{HasFrom, all_take}
 
@@ -76,6 +79,34 @@ module _ (N : Numbers) where
             (comparing_takes n (first + 61) (first + 58) (first + 60) bits.widths (λ k le. new k (omega (arith, le))) (x 58) (x 60))),
       )
 
+  pub signed_less_takes : (first u v n : ℕ) → HasFrom N first → N u → N v → AllTake N (signed_less_plan first u v n)
+  signed_less_takes first u v n new a b =
+      let x = λ (i : ℕ). new (first + i) (omega arith) in
+      let half = new first (omega arith) in (
+        tt,
+        (
+          (a, (half, tt)),
+          ((b, (half, tt)), less_takes (first + 3) (first + 1) (first + 2) n (λ k le. new k (omega (arith, le))) (x 1) (x 2)),
+        ),
+      )
+
+  -- ---- look-ups
+
+  pub lookup_takes : (first array index n m : ℕ) → HasFrom N first → N array → N index → AllTake N (lookup_plan first array index n m)
+  lookup_takes first array index n m new a b =
+      let x = λ (i : ℕ). new (first + i) (omega arith) in (
+        (b, tt),
+        (
+          tt,
+          (
+            (new first (omega arith), (x 1, tt)),
+            all_take N (eq_plan (first + 3) (first + 2)) (Conv (first + 19) ∷ Tile array m ∷ Mul (first + 21) (first + 20) ∷ SumEach (first + 22) n m ∷ [])
+                (eq_takes (first + 3) (first + 2) (λ k le. new k (omega (arith, le))) (x 2))
+                ((x 19, tt), ((a, tt), ((x 21, (x 20, tt)), ((x 22, tt), tt)))),
+          ),
+        ),
+      )
+
 pub eq_some : (first d : ℕ) → 1 ≤ made_by_all (eq_plan first d)
 eq_some first d = omega arith
 
@@ -84,3 +115,9 @@ bits_some first word n = omega arith
 
 pub less_some : (first u v n : ℕ) → 1 ≤ made_by_all (less_plan first u v n)
 less_some first u v n = omega arith
+
+pub signed_less_some : (first u v n : ℕ) → 1 ≤ made_by_all (signed_less_plan first u v n)
+signed_less_some first u v n = omega arith
+
+pub lookup_some : (first array index n m : ℕ) → 1 ≤ made_by_all (lookup_plan first array index n m)
+lookup_some first array index n m = omega arith

@@ -6,13 +6,15 @@ use Rattle.sc_text.specs.declared.end.Ending.TheVariants as ending
 use Rattle.sc_text.specs.declared.end.TrapKind.TheVariants as trap
 use Rattle.sc_text.specs.declared.event.Event.TheVariants as event
 use Rattle.program_trees.specs.declared.expression.DataType.{DataType}
-use Rattle.program_trees.specs.declared.expression.DataType.TheVariants.{Uint64}
+use Rattle.program_trees.specs.declared.expression.DataType.TheVariants.{Uint64, Int64}
 use Rattle.program_trees.specs.declared.expression.DataType.TheVariants as datatype
 use Rattle.gates.specs.declared.gate.Gate.TheVariants as gates
 use Rattle.gates.specs.Clear.{bits_of, first_word}
 use Rattle.plans.specs.Equality.{eq_plan}
 use Rattle.plans.specs.BitExtract.{bits_plan}
 use Rattle.plans.specs.Compare.{less_plan}
+use Rattle.plans.specs.Signed.{signed_less_plan}
+use Rattle.language_model.specs.Lookup.{looked, lookup_plan}
 use Rattle.program_trees.specs.declared.kinds.Shape.{Shape}
 use Rattle.program_trees.specs.declared.operators.OperatorSign.{OperatorSign}
 use Rattle.program_trees.specs.declared.operators.OperatorSign.TheVariants as word
@@ -22,7 +24,6 @@ use Rattle.program_trees.specs.declared.operators.BinaryOperator.{BinaryOperator
 use Rattle.program_trees.specs.declared.operators.BinaryOperator.TheVariants as binary
 use Rattle.program_trees.specs.declared.operators.Operands.{Operands}
 use Rattle.program_trees.specs.declared.operators.Cast.{Cast}
-use Rattle.program_trees.specs.declared.operators.Cast.TheVariants.{WordToWord, WordToBool, BoolToWord, BoolToBool}
 use Rattle.program_trees.specs.Shapes.{shape_of}
 use Rattle.language_model.specs.Effects.{World, GivenInput, Effect, ◌>>=◌, done, test, words_each, gate, planned}
 use Rattle.language_model.specs.Values.{Secrecy, Plain, Private, Value, plain, hidden, never_stored, size, visible_words, is_true, elements_of}
@@ -33,7 +34,8 @@ use Rattle.language_model.specs.Evaluation.{is_as_declared, given_value, asked_f
 use Rattle.named_values.specs.Named.{Numbers}
 use Rattle.named_values.proofs.Effects.{Naming, Any, naming_bind, naming_done, naming_end, charge_naming, test_naming, draw_naming, gate_naming, next_naming}
 use Rattle.named_values.proofs.Effects.{planned_naming, emit_naming, answer_naming, show_naming}
-use Rattle.named_values.proofs.Plans.{eq_takes, eq_some, bits_takes, bits_some, less_takes, less_some}
+use Rattle.named_values.proofs.Plans.{eq_takes, eq_some, bits_takes, bits_some, less_takes, less_some, signed_less_takes, signed_less_some}
+use Rattle.named_values.proofs.Plans.{lookup_takes, lookup_some}
 
 -- a value whose number, if it has one, is one of these
 abbrev pub Names : Numbers → Value → Type 0
@@ -90,18 +92,22 @@ module _ (N : Numbers) where
 
   repeated_naming : (e : DataType) (u n : ℕ) → N u → Naming N (gate (row.repeated_gate e u n)) N
   repeated_naming Uint64 u n h = gate_naming (gates.Rep u n) refl (h, tt)
+  repeated_naming Int64 u n h = gate_naming (gates.Rep u n) refl (h, tt)
   repeated_naming datatype.Bool u n h = gate_naming (gates.RepBit u n) refl (h, tt)
 
   taken_naming : (e : DataType) (u i : ℕ) → N u → Naming N (gate (row.element_gate e u i)) N
   taken_naming Uint64 u i h = gate_naming (gates.Part u i 1) refl (h, tt)
+  taken_naming Int64 u i h = gate_naming (gates.Part u i 1) refl (h, tt)
   taken_naming datatype.Bool u i h = gate_naming (gates.PartBit u i) refl (h, tt)
 
   stored_naming : (e : DataType) (u i v : ℕ) → N u → N v → Naming N (gate (row.stored_gate e u i v)) N
   stored_naming Uint64 u i v g h = gate_naming (gates.Put u i v) refl (g, (h, tt))
+  stored_naming Int64 u i v g h = gate_naming (gates.Put u i v) refl (g, (h, tt))
   stored_naming datatype.Bool u i v g h = gate_naming (gates.PutBit u i v) refl (g, (h, tt))
 
   joined_naming : (e : DataType) (u n v m : ℕ) → N u → N v → Naming N (gate (row.joined_gate e u n v m)) N
   joined_naming Uint64 u n v m g h = gate_naming (gates.Cat u v) refl (g, (h, tt))
+  joined_naming Int64 u n v m g h = gate_naming (gates.Cat u v) refl (g, (h, tt))
   joined_naming datatype.Bool u n v m g h = gate_naming (gates.CatBit u n v m) refl (g, (h, tt))
 
   stretched_naming : (e : DataType) (scalar : Bool) (n u : ℕ) → N u → Naming N (row.stretched e scalar n u) N
@@ -147,32 +153,38 @@ module _ (N : Numbers) where
   equal_naming : (d : ℕ) → N d → Naming N (row.zero_gates d) N
   equal_naming d h = pack_naming (planned_naming (λ first. eq_plan first d) (λ first. eq_some first d) (λ first new. eq_takes N first d new h))
 
+  -- gates that tell whether the first of two values is less
+  abbrev Telling : (less : ℕ → ℕ → ℕ → Effect ℕ) → Type 0
+  Telling less = (n u v : ℕ) → N u → N v → Naming N (less n u v) N
+
+  less_naming : Telling row.less_gates
+  less_naming n u v a b =
+      pack_naming (planned_naming (λ first. less_plan first u v n) (λ first. less_some first u v n) (λ first new. less_takes N first u v n new a b))
+
+  signed_less_naming : Telling row.signed_less_gates
+  signed_less_naming n u v a b =
+      pack_naming
+      (planned_naming (λ first. signed_less_plan first u v n) (λ first. signed_less_some first u v n)
+      (λ first new. signed_less_takes N first u v n new a b))
+
   module _ (n u v : ℕ) (a : N u) (b : N v) where
     equal_gates_naming : Naming N (row.equal_gates u v) N
     equal_gates_naming = naming_bind (gate_naming (gates.Sub u v) refl (a, (b, tt))) (λ d h. equal_naming d h)
 
-    less_naming : Naming N (row.less_gates n u v) N
-    less_naming =
-        pack_naming (planned_naming (λ first. less_plan first u v n) (λ first. less_some first u v n) (λ first new. less_takes N first u v n new a b))
-
-    greater_naming : Naming N (row.less_gates n v u) N
-    greater_naming =
-        pack_naming (planned_naming (λ first. less_plan first v u n) (λ first. less_some first v u n) (λ first new. less_takes N first v u n new b a))
-
     flipped_naming : {c : Effect ℕ} → Naming N c N → Naming N (c >>= row.flip n) N
     flipped_naming h = naming_bind h (λ k m. flip_naming n k m)
 
-    word_naming : (op : OperatorSign) → Naming N (row.operator_gates (binary.Words op) n u v) N
-    word_naming word.Add = gate_naming (gates.Add u v) refl (a, (b, tt))
-    word_naming word.Subtract = gate_naming (gates.Sub u v) refl (a, (b, tt))
-    word_naming word.Multiply = gate_naming (gates.Mul u v) refl (a, (b, tt))
-    word_naming word.Equal = equal_gates_naming
-    word_naming word.NotEqual = flipped_naming equal_gates_naming
-    word_naming word.Less = less_naming
-    word_naming word.Greater = greater_naming
-    word_naming word.GreaterOrEqual = flipped_naming less_naming
-    word_naming word.LessOrEqual = flipped_naming greater_naming
-    word_naming op = next_naming
+    number_gates_naming : (less : ℕ → ℕ → ℕ → Effect ℕ) → Telling less → (op : OperatorSign) → Naming N (row.number_gates less op n u v) N
+    number_gates_naming less h word.Add = gate_naming (gates.Add u v) refl (a, (b, tt))
+    number_gates_naming less h word.Subtract = gate_naming (gates.Sub u v) refl (a, (b, tt))
+    number_gates_naming less h word.Multiply = gate_naming (gates.Mul u v) refl (a, (b, tt))
+    number_gates_naming less h word.Equal = equal_gates_naming
+    number_gates_naming less h word.NotEqual = flipped_naming equal_gates_naming
+    number_gates_naming less h word.Less = h n u v a b
+    number_gates_naming less h word.Greater = h n v u b a
+    number_gates_naming less h word.GreaterOrEqual = flipped_naming (h n u v a b)
+    number_gates_naming less h word.LessOrEqual = flipped_naming (h n v u b a)
+    number_gates_naming less h op = next_naming
 
     or_naming : Naming N (row.or_gates u v) N
     or_naming =
@@ -187,7 +199,8 @@ module _ (N : Numbers) where
     bool_naming truth.Equal = flipped_naming (gate_naming (gates.Xor u v) refl (a, (b, tt)))
 
     operator_naming : (op : BinaryOperator) → Naming N (row.operator_gates op n u v) N
-    operator_naming (binary.Words op) = word_naming op
+    operator_naming (binary.Words op) = number_gates_naming row.less_gates less_naming op
+    operator_naming (binary.Ints op) = number_gates_naming row.signed_less_gates signed_less_naming op
     operator_naming (binary.Bools op) = bool_naming op
 
   module _ (w : World) (op : BinaryOperator) (ds : Operands) (x y : Value) (a : Names N x) (b : Names N y) where
@@ -229,37 +242,55 @@ module _ (N : Numbers) where
     pub negated_naming : Naming N (row.negated v) (Names N)
     negated_naming = naming_bind (plain_charge (size v)) (λ _ _. negated_from_naming v.secrecy)
 
-    cast_gates_naming : (c : Cast) (n u : ℕ) → N u → Naming N (row.cast_gates c n u) N
-    cast_gates_naming WordToBool n u m = naming_bind (equal_naming u m) (λ z k. flip_naming n z k)
-    cast_gates_naming BoolToWord n u m =
+    truth_naming : (n u : ℕ) → N u → Naming N (row.truth_gates n u) N
+    truth_naming n u m = naming_bind (equal_naming u m) (λ z k. flip_naming n z k)
+
+    conversion_naming : (n u : ℕ) → N u → Naming N (row.conversion_gates n u) N
+    conversion_naming n u m =
         naming_bind (gate_naming (gates.Unpack u n) refl (m, tt)) (λ z k. gate_naming (gates.Conv z) refl (k, tt))
-    cast_gates_naming WordToWord n u m = naming_done m
-    cast_gates_naming BoolToBool n u m = naming_done m
+
+    between_naming : (given wanted : DataType) (n u : ℕ) → N u → Naming N (row.gates_between given wanted n u) N
+    between_naming Uint64 Uint64 n u m = naming_done m
+    between_naming Uint64 Int64 n u m = naming_done m
+    between_naming Uint64 datatype.Bool n u m = truth_naming n u m
+    between_naming Int64 Uint64 n u m = naming_done m
+    between_naming Int64 Int64 n u m = naming_done m
+    between_naming Int64 datatype.Bool n u m = truth_naming n u m
+    between_naming datatype.Bool Uint64 n u m = conversion_naming n u m
+    between_naming datatype.Bool Int64 n u m = conversion_naming n u m
+    between_naming datatype.Bool datatype.Bool n u m = naming_done m
 
     changed_naming : (w : World) (c : Cast) → Naming N (row.changed w c v) (Names N)
     changed_naming w c =
         naming_bind (draw_naming w (row.words_of_cast c (size v))) (λ _ _. naming_bind (number_naming v h) (λ u n.
-        naming_bind (cast_gates_naming c (size v) u n) (λ r m. made_naming (row.cast_shape c v.shape.array) (map (W.cast_word c) v.words) r m)))
+        naming_bind (between_naming c.given c.wanted (size v) u n) (λ r m. made_naming (row.cast_shape c v.shape.array) (map (W.cast_word c) v.words) r m)))
 
-    cast_from_naming : (w : World) (a : Secrecy) (c : Cast) → Naming N (row.cast_from w a c v) (Names N)
-    cast_from_naming w a WordToWord = naming_done h
-    cast_from_naming w a BoolToBool = naming_done h
-    cast_from_naming w Plain WordToBool = shown_naming (row.cast_shape WordToBool v.shape.array) (map (W.cast_word WordToBool) v.words)
-    cast_from_naming w Plain BoolToWord = shown_naming (row.cast_shape BoolToWord v.shape.array) (map (W.cast_word BoolToWord) v.words)
-    cast_from_naming w (Private k) WordToBool = changed_naming w WordToBool
-    cast_from_naming w (Private k) BoolToWord = changed_naming w BoolToWord
+    converted_naming : (w : World) (c : Cast) (a : Secrecy) → Naming N (row.converted w a c v) (Names N)
+    converted_naming w c Plain = shown_naming (row.cast_shape c v.shape.array) (map (W.cast_word c) v.words)
+    converted_naming w c (Private k) = changed_naming w c
+
+    cast_from_naming : (given wanted : DataType) (w : World) (c : Cast) → Naming N (row.cast_from given wanted w c v) (Names N)
+    cast_from_naming Uint64 Uint64 w c = naming_done h
+    cast_from_naming Uint64 Int64 w c = naming_done h
+    cast_from_naming Uint64 datatype.Bool w c = converted_naming w c v.secrecy
+    cast_from_naming Int64 Uint64 w c = naming_done h
+    cast_from_naming Int64 Int64 w c = naming_done h
+    cast_from_naming Int64 datatype.Bool w c = converted_naming w c v.secrecy
+    cast_from_naming datatype.Bool Uint64 w c = converted_naming w c v.secrecy
+    cast_from_naming datatype.Bool Int64 w c = converted_naming w c v.secrecy
+    cast_from_naming datatype.Bool datatype.Bool w c = naming_done h
 
     pub cast_naming : (w : World) (c : Cast) → Naming N (row.cast_to w c v) (Names N)
-    cast_naming w c = naming_bind (plain_charge (size v)) (λ _ _. cast_from_naming w v.secrecy c)
+    cast_naming w c = naming_bind (plain_charge (size v)) (λ _ _. cast_from_naming c.given c.wanted w c)
 
     pub size_naming : Naming N (row.size_told v) (Names N)
     size_naming = naming_bind (charge_naming 1) (λ _ _. shown_naming (shape_of Uint64 false) (size v ∷ []))
 
     summed_from_naming : (a : Secrecy) → Naming N (row.summed_from a v) (Names N)
-    summed_from_naming Plain = shown_naming (shape_of Uint64 false) (sum v.words % 2 ^ 64 ∷ [])
+    summed_from_naming Plain = shown_naming (shape_of v.shape.element false) (sum v.words % 2 ^ 64 ∷ [])
     summed_from_naming (Private k) =
         naming_bind (number_naming v h) (λ u n. naming_bind (gate_naming (gates.Sum u) refl (n, tt)) (λ r m.
-        made_naming (shape_of Uint64 false) (sum v.words % 2 ^ 64 ∷ []) r m))
+        made_naming (shape_of v.shape.element false) (sum v.words % 2 ^ 64 ∷ []) r m))
 
     pub summed_naming : Naming N (row.summed v) (Names N)
     summed_naming = naming_bind (charge_naming 1) (λ _ _. summed_from_naming v.secrecy)
@@ -345,6 +376,22 @@ module _ (N : Numbers) where
     with_element_naming line i =
         naming_bind (charge_naming 1) (λ _ _. naming_bind (test_naming (nat_lt (row.position i) (size x)) trap.Index line) (λ _ _.
         with_element_from_naming x.secrecy (row.position i)))
+
+  -- ---- look-ups
+
+  looked_up_naming : (w : World) (line : ℕ) (x y : Value) → Names N x → Names N y → Naming N (row.looked_up w line x y) (Names N)
+  looked_up_naming w line x y a b =
+      let n = size x * size y in
+      naming_bind (large_charge line n) (λ _ _. naming_bind (draw_naming w (row.words_for_lookup n)) (λ _ _.
+      naming_bind (number_naming x a) (λ u f. naming_bind (number_naming y b) (λ v g.
+      naming_bind
+      (planned_naming (λ first. lookup_plan first u v (size x) (size y)) (λ first. lookup_some first u v (size x) (size y))
+      (λ first new. lookup_takes N first u v (size x) (size y) new f g))
+      (λ r m. made_naming (shape_of x.shape.element y.shape.array) (looked x.words y.words) r m)))))
+
+  pub lookup_naming : (w : World) (line : ℕ) (x y : Value) → Names N x → Names N y → Naming N (row.lookup w line x y) (Names N)
+  lookup_naming w line x y a b =
+      naming_bind (classified_naming x a) (λ p h. naming_bind (classified_naming y b) (λ q k. looked_up_naming w line p q h k))
 
   pub tested_naming : (v : Value) → Naming N (row.tested v) (Any {A = Bool})
   tested_naming v = naming_bind (charge_naming 1) (λ _ _. naming_done tt)

@@ -9,8 +9,8 @@ use Rattle.bytecode.specs.declared.kind.Kind.{Kind}
 use Rattle.language_model.specs.Effects.{World, Stage, RunStop, Run, Effect, ◌>>=◌, done}
 use Rattle.language_model.specs.Values.{Value, plain, size}
 use Rattle.language_model.specs.Evaluation.{Frame, put, nothing, array_elements, either, input_named}
-use Rattle.verified_code.specs.Steps.{kind_shape, Step, Literal, Move, Store, Binary, Not, Cast, Classify, Fill, At, Put, Size, Cat, Sum, Bits, Declassify}
-use Rattle.verified_code.specs.Steps.{Argument, Publish, Assert, Branch, Jump, Call, Return, ReturnNone, Function}
+use Rattle.verified_code.specs.Steps.{kind_shape, Step, Literal, Move, Store, Binary, Not, Cast, Classify, Fill, At, Put, Size, Cat, Sum, Bits, Lookup}
+use Rattle.verified_code.specs.Steps.{Declassify, Argument, Publish, Assert, Branch, Jump, Call, Return, ReturnNone, Function}
 use Rattle.code_model.specs.Machine.{Caller, Machine, at, next, values_at, begun, behind_first, filled_with, kinds_of, limit, received, resume}
 use Rattle.code_model.specs.Machine.{same_truth, step, further, exec}
 use Rattle.code_model.proofs.Places.{put_all}
@@ -19,7 +19,7 @@ use Rattle.named_values.specs.Laws.{Grows, Arrives, StepTakesWhatIsNamed, Ends, 
 use Rattle.named_values.proofs.Effects.{HasFrom, Comes, Naming, grows_then, naming_bind, naming_done, naming_end, charge_naming, test_naming}
 use Rattle.named_values.proofs.Rows.{Names, plain_names, never_names, plain_charge, classified_naming, declassified_naming, operated_naming, negated_naming}
 use Rattle.named_values.proofs.Rows.{cast_naming, size_naming, summed_naming, bits_naming, element_naming, filled_naming, published_naming, concatenated_naming}
-use Rattle.named_values.proofs.Rows.{with_element_naming, tested_naming, asserted_naming, asked_naming}
+use Rattle.named_values.proofs.Rows.{lookup_naming, with_element_naming, tested_naming, asserted_naming, asked_naming}
 
 -- ---- REGISTERS
 
@@ -99,6 +99,7 @@ module _ (N : Numbers) where
     act w p (Some (Cat line d a b)) = setting d (concatenated_naming N (m.registers a) (m.registers b) (own a) (own b) line)
     act w p (Some (Sum d r)) = setting d (summed_naming N (m.registers r) (own r))
     act w p (Some (Bits line d r)) = setting d (bits_naming N (m.registers r) (own r) w line)
+    act w p (Some (Lookup line d a i)) = setting d (lookup_naming N w line (m.registers a) (m.registers i) (own a) (own i))
     act w p (Some (Declassify d r)) = setting d (declassified_naming N w (m.registers r) (own r))
     act w p (Some (Argument line kind text d)) = setting d (asked_naming N kind.secret (kind_shape kind) line (input_named w text))
     act w p (Some (Publish text r)) = naming_bind (published_naming N (m.registers r) (own r) w text) (λ _ _. moving (m.pc + 1))

@@ -5,7 +5,7 @@ ghost use Rattle.language_model.specs.Values.{size};
 ghost use Rattle.value_steps.specs.Steps.{Does, itself};
 ghost use Rattle.value_steps.specs.Views.{stage_seen, value_seen, written};
 
-use crate::element_gates::{Joined, element_gate, joined_gate, repeated_gate, stored_gate};
+use crate::element_gates::{SizedOperand, element_gate, joined_gate, repeated_gate, stored_gate};
 use crate::gating::{gate, number_of};
 use crate::halt::Halt;
 use crate::stage::Stage;
@@ -46,11 +46,11 @@ pub fn concatenated(
             let second = number_of(alloc, stage, right)?;
             let joined = joined_gate(
                 shape.element,
-                Joined {
+                SizedOperand {
                     number: first,
                     size: left.size(),
                 },
-                Joined {
+                SizedOperand {
                     number: second,
                     size: right.size(),
                 },

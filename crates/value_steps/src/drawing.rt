@@ -1,9 +1,9 @@
 // The random words of the miners' tapes.
 ghost use Rattle.std.specs.Prelude.{◌≡◌, ◌+◌, ◌≤◌, IfOk};
 ghost use Rattle.language_model.specs.Effects.{fits, draw, words_each};
-ghost use Rattle.program_trees.specs.declared.operators.BinaryOperator.TheVariants.{Bools as OnBools, Words as OnWords};
-ghost use Rattle.language_model.specs.Operations.{words_for_equality, words_for_bits, words_for_order, words_for_conversion};
-ghost use Rattle.language_model.specs.Operations.{words_of_operator, words_of_cast};
+ghost use Rattle.program_trees.specs.declared.operators.BinaryOperator.TheVariants.{Bools as OnBools};
+ghost use Rattle.language_model.specs.Operations.{words_for_equality, words_for_bits, words_for_order, words_for_conversion, words_for_lookup};
+ghost use Rattle.language_model.specs.Operations.{words_on_numbers, words_of_operator, words_of_cast};
 ghost use Rattle.value_steps.specs.Steps.{Does, itself, nothing};
 ghost use Rattle.value_steps.specs.Views.{stage_seen, world_seen, drawn_seen};
 
@@ -127,10 +127,22 @@ fn words_for_conversion(n: u64) -> Drawn
     }
 }
 
-/// The words of an operator on `n` private numbers; operators that have no private operands draw none.
-fn words_of_word_operator(op: OperatorSign, n: u64) -> Drawn
+/// The words to look up elements, where those of an array times the indices are `n`.
+pub(crate) fn words_for_lookup(n: u64) -> Drawn
     requires { n ≤ 1048576 }
-    ensures { drawn_seen result ≡ words_of_operator (OnWords op) n }
+    ensures { drawn_seen result ≡ words_for_lookup n }
+{
+    Drawn {
+        first: 26 * n,
+        second: 22 * n,
+        third: 22 * n,
+    }
+}
+
+/// The words of an operator on `n` private numbers, with or without a sign; operators that have no private operands draw none.
+fn words_on_numbers(op: OperatorSign, n: u64) -> Drawn
+    requires { n ≤ 1048576 }
+    ensures { drawn_seen result ≡ words_on_numbers op n }
 {
     match op {
         OperatorSign::Multiply => words_each(3 * n),
@@ -166,7 +178,7 @@ pub(crate) fn words_of_operator(op: BinaryOperator, n: u64) -> Drawn
     ensures { drawn_seen result ≡ words_of_operator op n }
 {
     match op {
-        BinaryOperator::Words(op) => words_of_word_operator(op, n),
+        BinaryOperator::Words(op) | BinaryOperator::Ints(op) => words_on_numbers(op, n),
         BinaryOperator::Bools(op) => words_of_bool_operator(op, n),
     }
 }
@@ -176,9 +188,10 @@ pub(crate) fn words_of_cast(cast: Cast, n: u64) -> Drawn
     requires { n ≤ 1048576 }
     ensures { drawn_seen result ≡ words_of_cast cast n }
 {
-    match cast {
-        Cast::WordToBool => words_for_equality(n),
-        Cast::BoolToWord => words_for_conversion(n),
-        Cast::WordToWord | Cast::BoolToBool => words_each(0),
+    match (cast.given, cast.wanted) {
+        (DataType::Uint64 | DataType::Int64, DataType::Bool) => words_for_equality(n),
+        (DataType::Bool, DataType::Uint64 | DataType::Int64) => words_for_conversion(n),
+        (DataType::Uint64 | DataType::Int64, DataType::Uint64 | DataType::Int64)
+        | (DataType::Bool, DataType::Bool) => words_each(0),
     }
 }

@@ -10,7 +10,7 @@ pub(crate) fn repeated_gate(element: DataType, operand: u64, count: u64) -> Gate
     ensures { result ≡ repeated_gate element operand count }
 {
     match element {
-        DataType::Uint64 => Gate::Rep { operand, count },
+        DataType::Uint64 | DataType::Int64 => Gate::Rep { operand, count },
         DataType::Bool => Gate::RepBit { operand, count },
     }
 }
@@ -20,7 +20,7 @@ pub(crate) fn element_gate(element: DataType, operand: u64, index: u64) -> Gate
     ensures { result ≡ element_gate element operand index }
 {
     match element {
-        DataType::Uint64 => Gate::Part {
+        DataType::Uint64 | DataType::Int64 => Gate::Part {
             operand,
             from: index,
             count: 1,
@@ -34,7 +34,7 @@ pub(crate) fn stored_gate(element: DataType, operand: u64, index: u64, stored: u
     ensures { result ≡ stored_gate element operand index stored }
 {
     match element {
-        DataType::Uint64 => Gate::Put {
+        DataType::Uint64 | DataType::Int64 => Gate::Put {
             operand,
             index,
             element: stored,
@@ -47,19 +47,19 @@ pub(crate) fn stored_gate(element: DataType, operand: u64, index: u64, stored: u
     }
 }
 
-/// An array among the operands of a gate: the number of its value, and how many elements it has.
+/// An operand of gates: the number of its value, and how many elements it has.
 #[derive(Clone, Copy)]
-pub(crate) struct Joined {
+pub(crate) struct SizedOperand {
     pub number: u64,
     pub size: u64,
 }
 
 /// The gate that joins two arrays.
-pub(crate) fn joined_gate(element: DataType, left: Joined, right: Joined) -> Gate
+pub(crate) fn joined_gate(element: DataType, left: SizedOperand, right: SizedOperand) -> Gate
     ensures { result ≡ joined_gate element left.number left.size right.number right.size }
 {
     match element {
-        DataType::Uint64 => Gate::Cat {
+        DataType::Uint64 | DataType::Int64 => Gate::Cat {
             left: left.number,
             right: right.number,
         },

@@ -1,22 +1,24 @@
 // The gates that a run makes.
-ghost use Rattle.std.specs.Prelude.{◌≡◌, ◌≤◌, ◌+◌, ◌^◌, IfSome, IfOk};
+ghost use Rattle.std.specs.Prelude.{◌≡◌, ◌≤◌, ◌+◌, ◌*◌, ◌^◌, IfSome, IfOk};
 ghost use Rattle.gates.specs.Counts.{made_by_all};
 ghost use Rattle.plans.specs.Equality.{eq_plan};
 ghost use Rattle.plans.specs.BitExtract.{bits_plan};
-ghost use Rattle.plans.specs.Compare.{less_plan};
+ghost use Rattle.oblivious_index.specs.Lookup.{lookup_plan};
 ghost use Rattle.language_model.specs.Effects.{gate, next_number, put_gates, planned};
-ghost use Rattle.language_model.specs.Operations.{number_of, zero_gates, less_gates};
+ghost use Rattle.language_model.specs.Operations.{number_of, zero_gates};
 ghost use Rattle.language_model.specs.Values.{ring_for};
+ghost use Rattle.value_steps.specs.Orders.{less_by, order_plan};
 ghost use Rattle.value_steps.specs.Steps.{Does, itself};
 ghost use Rattle.value_steps.specs.Views.{stage_seen, value_seen};
 
+use crate::element_gates::SizedOperand;
 use crate::halt::Halt;
 use crate::stage::Stage;
 use crate::value::{Secrecy, Value};
 use gates::{Gate, RingKind, Words};
 use plans::{bit_extract, compare, equality};
 use program_trees::DataType;
-use std::alloc::Global;
+use std::alloc::{AllocError, Global};
 use vector_ops::gate_words;
 
 /// The most values that a plan makes.
@@ -112,20 +114,49 @@ pub(crate) fn bits_gates(
     put_gates(stage, &mut gates)
 }
 
+/// As what two numbers are compared.
+#[derive(Clone, Copy)]
+pub(crate) enum Order {
+    /// As numbers below 2^64.
+    Unsigned,
+    /// As numbers from -2^63 to 2^63 - 1, by two's complement.
+    Signed,
+}
+
+/// The gates of the plan that compares each two of `n` numbers.
+fn order_gates(
+    alloc: Global,
+    order: Order,
+    first: u64,
+    left: u64,
+    right: u64,
+    n: u64,
+) -> Result<Vec<Gate>, AllocError>
+    requires numbers { first + 130 ≤ 2 ^ 64 }
+    requires elements { n ≤ 1048576 }
+    ensures { IfOk result (λ gates. gates.items ≡ order_plan order first left right n) }
+{
+    match order {
+        Order::Unsigned => compare::plan(alloc, first, left, right, n),
+        Order::Signed => compare::plan_signed(alloc, first, left, right, n),
+    }
+}
+
 /// The gates that compare each two of `n` numbers, before their results are packed.
 fn less_test(
     alloc: Global,
     stage: &mut Stage<'_>,
+    order: Order,
     n: u64,
     left: u64,
     right: u64,
 ) -> Result<u64, Halt>
     requires { n ≤ 1048576 }
-    ensures step { Does itself (planned (λ first. less_plan first left right n)) (stage_seen stage.old) result (stage_seen stage.new) }
+    ensures step { Does itself (planned (λ first. order_plan order first left right n)) (stage_seen stage.old) result (stage_seen stage.new) }
     ensures spends { stage.new.left ≤ stage.old.left }
 {
     let first = next_number(stage)?;
-    let mut gates = compare::plan(alloc, first, left, right, n)?;
+    let mut gates = order_gates(alloc, order, first, left, right, n)?;
     put_gates(stage, &mut gates)
 }
 
@@ -133,16 +164,41 @@ fn less_test(
 pub(crate) fn less_gates(
     alloc: Global,
     stage: &mut Stage<'_>,
+    order: Order,
     n: u64,
     left: u64,
     right: u64,
 ) -> Result<u64, Halt>
     requires { n ≤ 1048576 }
-    ensures step { Does itself (less_gates n left right) (stage_seen stage.old) result (stage_seen stage.new) }
+    ensures step { Does itself (less_by order n left right) (stage_seen stage.old) result (stage_seen stage.new) }
     ensures spends { stage.new.left ≤ stage.old.left }
 {
-    let less = less_test(alloc, stage, n, left, right)?;
+    let less = less_test(alloc, stage, order, n, left, right)?;
     gate(stage, Gate::Pack { operand: less })
+}
+
+/// The gates that look up the elements of an array at these indices.
+pub(crate) fn lookup_gates(
+    alloc: Global,
+    stage: &mut Stage<'_>,
+    array: SizedOperand,
+    index: SizedOperand,
+) -> Result<u64, Halt>
+    requires { array.size * index.size ≤ 1048576 }
+    ensures step { Does itself (planned (λ first. lookup_plan first array.number index.number array.size index.size))
+        (stage_seen stage.old) result (stage_seen stage.new) }
+    ensures spends { stage.new.left ≤ stage.old.left }
+{
+    let first = next_number(stage)?;
+    let mut gates = oblivious_index::plan(
+        alloc,
+        first,
+        array.number,
+        index.number,
+        array.size,
+        index.size,
+    )?;
+    put_gates(stage, &mut gates)
 }
 
 /// The number of a private value. One that was never stored, and a public one, is first made a constant.
@@ -164,7 +220,7 @@ pub(crate) fn ring_for(element: DataType) -> RingKind
     ensures { result ≡ ring_for element }
 {
     match element {
-        DataType::Uint64 => RingKind::Arithmetic,
+        DataType::Uint64 | DataType::Int64 => RingKind::Arithmetic,
         DataType::Bool => RingKind::Boolean,
     }
 }

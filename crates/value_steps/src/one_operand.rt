@@ -2,7 +2,7 @@
 ghost use Rattle.std.specs.Prelude.{◌≡◌, ◌≤◌, ◌*◌, length, IfOk};
 ghost use Rattle.std.specs.List.{flat_map};
 ghost use Rattle.gates.specs.Clear.{bits_of};
-ghost use Rattle.language_model.specs.Operations.{negated, cast_to, changed, size_told, summed, summed_from, bits_extracted};
+ghost use Rattle.language_model.specs.Operations.{negated, cast_to, changed, converted, size_told, summed, summed_from, bits_extracted};
 ghost use Rattle.language_model.specs.Operations.{bits_from};
 ghost use Rattle.value_steps.specs.Steps.{Does, itself};
 ghost use Rattle.value_steps.specs.Views.{stage_seen, value_seen, world_seen, secrecy_seen};
@@ -59,6 +59,28 @@ fn changed(
     Ok(Value::hidden(shape, number, words))
 }
 
+/// A value between numbers and truth values.
+fn converted(
+    alloc: Global,
+    world: &World<'_>,
+    stage: &mut Stage<'_>,
+    cast: Cast,
+    value: Value,
+) -> Result<Value, Halt>
+    ensures step { Does value_seen (converted (world_seen world.now) (secrecy_seen value.secrecy) cast (value_seen value)) (stage_seen stage.old) result
+        (stage_seen stage.new) }
+    ensures spends { stage.new.left ≤ stage.old.left }
+{
+    match value.secrecy {
+        Secrecy::Plain => {
+            let words = vector_ops::cast_words(alloc, cast, &value.words)?;
+            let shape = cast.shape(value.shape.array);
+            Ok(Value::plain(shape, words))
+        }
+        Secrecy::Private(_) => changed(alloc, world, stage, cast, value),
+    }
+}
+
 /// A value of one data type as one of another, or of the same.
 pub fn cast_to(
     alloc: Global,
@@ -71,15 +93,16 @@ pub fn cast_to(
     ensures spends { stage.new.left ≤ stage.old.left }
 {
     charged(stage, value.size())?;
-    match (cast, value.secrecy) {
-        (Cast::WordToWord | Cast::BoolToBool, _) => Ok(value),
-        (Cast::WordToBool | Cast::BoolToWord, Secrecy::Plain) => {
-            let words = vector_ops::cast_words(alloc, cast, &value.words)?;
-            let shape = cast.shape(value.shape.array);
-            Ok(Value::plain(shape, words))
+    match (cast.given, cast.wanted) {
+        (DataType::Uint64, DataType::Uint64)
+        | (DataType::Int64, DataType::Int64)
+        | (DataType::Bool, DataType::Bool) => Ok(value),
+        (DataType::Uint64, DataType::Int64) | (DataType::Int64, DataType::Uint64) => {
+            Ok(value.relabelled(cast))
         }
-        (Cast::WordToBool | Cast::BoolToWord, Secrecy::Private(_)) => {
-            changed(alloc, world, stage, cast, value)
+        (DataType::Uint64 | DataType::Int64, DataType::Bool)
+        | (DataType::Bool, DataType::Uint64 | DataType::Int64) => {
+            converted(alloc, world, stage, cast, value)
         }
     }
 }
@@ -99,13 +122,14 @@ fn summed_value(alloc: Global, stage: &mut Stage<'_>, value: &Value) -> Result<V
     ensures spends { stage.new.left ≤ stage.old.left }
 {
     let total = vector_ops::wrapping_sum(&value.words);
+    let words = vector_ops::repeated(alloc, 1, total)?;
+    let shape = Shape::scalar(value.shape.element);
     match value.secrecy {
-        Secrecy::Plain => Ok(Value::number(alloc, total)?),
+        Secrecy::Plain => Ok(Value::plain(shape, words)),
         Secrecy::Private(_) => {
             let operand = number_of(alloc, stage, value)?;
             let number = gate(stage, Gate::Sum { operand })?;
-            let words = vector_ops::repeated(alloc, 1, total)?;
-            Ok(Value::hidden(Shape::scalar(DataType::Uint64), number, words))
+            Ok(Value::hidden(shape, number, words))
         }
     }
 }

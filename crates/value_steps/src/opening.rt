@@ -24,7 +24,7 @@ fn read_answer(alloc: Global, element: DataType, words: Vec<u64>) -> Result<Vec<
     ensures size { IfOk result (λ read. length read.items ≡ length words.items) }
 {
     match element {
-        DataType::Uint64 => Ok(words),
+        DataType::Uint64 | DataType::Int64 => Ok(words),
         DataType::Bool => low_bits(alloc, &words),
     }
 }

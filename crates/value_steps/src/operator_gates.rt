@@ -1,14 +1,16 @@
 // The gates of operators on private values.
 ghost use Rattle.std.specs.Prelude.{◌≡◌, ◌≤◌, replicate, IfOk};
 ghost use Rattle.program_trees.specs.declared.expression.DataType.TheVariants as datatype;
-ghost use Rattle.program_trees.specs.declared.operators.BinaryOperator.TheVariants.{Bools as OnBools, Words as OnWords};
-ghost use Rattle.language_model.specs.Operations.{stretched, flip, equal_gates, or_gates, operator_gates, cast_gates};
+ghost use Rattle.program_trees.specs.declared.operators.BinaryOperator.TheVariants.{Bools as OnBools};
+ghost use Rattle.language_model.specs.Operations.{stretched, flip, equal_gates, number_gates, or_gates, operator_gates};
+ghost use Rattle.language_model.specs.Operations.{cast_gates, conversion_gates, truth_gates};
 ghost use Rattle.language_model.specs.Values.{gate_words};
+ghost use Rattle.value_steps.specs.Orders.{less_by};
 ghost use Rattle.value_steps.specs.Steps.{Does, itself};
 ghost use Rattle.value_steps.specs.Views.{stage_seen};
 
 use crate::element_gates::repeated_gate;
-use crate::gating::{gate, less_gates, next_number, zero_gates};
+use crate::gating::{Order, gate, less_gates, next_number, zero_gates};
 use crate::halt::Halt;
 use crate::stage::Stage;
 use gates::{Gate, Words};
@@ -73,17 +75,18 @@ fn equal_gates(
     zero_gates(alloc, stage, n, difference)
 }
 
-/// An operator on `n` numbers. The operators that are left out have no private operands.
-fn word_gates(
+/// An operator on `n` numbers that are compared in this order. The operators that are left out have no private operands.
+fn number_gates(
     alloc: Global,
     stage: &mut Stage<'_>,
+    order: Order,
     op: OperatorSign,
     n: u64,
     left: u64,
     right: u64,
 ) -> Result<u64, Halt>
     requires { n ≤ 1048576 }
-    ensures step { Does itself (operator_gates (OnWords op) n left right) (stage_seen stage.old) result (stage_seen stage.new) }
+    ensures step { Does itself (number_gates (less_by order) op n left right) (stage_seen stage.old) result (stage_seen stage.new) }
     ensures spends { stage.new.left ≤ stage.old.left }
 {
     match op {
@@ -95,14 +98,14 @@ fn word_gates(
             let equal = equal_gates(alloc, stage, n, left, right)?;
             flip(alloc, stage, n, equal)
         }
-        OperatorSign::Less => less_gates(alloc, stage, n, left, right),
-        OperatorSign::Greater => less_gates(alloc, stage, n, right, left),
+        OperatorSign::Less => less_gates(alloc, stage, order, n, left, right),
+        OperatorSign::Greater => less_gates(alloc, stage, order, n, right, left),
         OperatorSign::GreaterOrEqual => {
-            let less = less_gates(alloc, stage, n, left, right)?;
+            let less = less_gates(alloc, stage, order, n, left, right)?;
             flip(alloc, stage, n, less)
         }
         OperatorSign::LessOrEqual => {
-            let greater = less_gates(alloc, stage, n, right, left)?;
+            let greater = less_gates(alloc, stage, order, n, right, left)?;
             flip(alloc, stage, n, greater)
         }
         OperatorSign::Divide
@@ -166,9 +169,31 @@ pub(crate) fn operator_gates(
     ensures spends { stage.new.left ≤ stage.old.left }
 {
     match op {
-        BinaryOperator::Words(op) => word_gates(alloc, stage, op, n, left, right),
+        BinaryOperator::Words(op) => {
+            number_gates(alloc, stage, Order::Unsigned, op, n, left, right)
+        }
+        BinaryOperator::Ints(op) => number_gates(alloc, stage, Order::Signed, op, n, left, right),
         BinaryOperator::Bools(op) => bool_gates(alloc, stage, op, n, left, right),
     }
+}
+
+/// Whether `n` numbers aren't 0.
+fn truth_gates(alloc: Global, stage: &mut Stage<'_>, n: u64, operand: u64) -> Result<u64, Halt>
+    requires { n ≤ 1048576 }
+    ensures step { Does itself (truth_gates n operand) (stage_seen stage.old) result (stage_seen stage.new) }
+    ensures spends { stage.new.left ≤ stage.old.left }
+{
+    let zero = zero_gates(alloc, stage, n, operand)?;
+    flip(alloc, stage, n, zero)
+}
+
+/// The numbers 1 and 0 of `n` truth values.
+fn conversion_gates(stage: &mut Stage<'_>, n: u64, operand: u64) -> Result<u64, Halt>
+    ensures step { Does itself (conversion_gates n operand) (stage_seen stage.old) result (stage_seen stage.new) }
+    ensures spends { stage.new.left ≤ stage.old.left }
+{
+    let single = gate(stage, Gate::Unpack { operand, count: n })?;
+    gate(stage, Gate::Conv { operand: single })
 }
 
 /// A cast of `n` elements: a number is true where it isn't 0.
@@ -183,15 +208,12 @@ pub(crate) fn cast_gates(
     ensures step { Does itself (cast_gates cast n operand) (stage_seen stage.old) result (stage_seen stage.new) }
     ensures spends { stage.new.left ≤ stage.old.left }
 {
-    match cast {
-        Cast::WordToBool => {
-            let zero = zero_gates(alloc, stage, n, operand)?;
-            flip(alloc, stage, n, zero)
+    match (cast.given, cast.wanted) {
+        (DataType::Uint64 | DataType::Int64, DataType::Bool) => {
+            truth_gates(alloc, stage, n, operand)
         }
-        Cast::BoolToWord => {
-            let single = gate(stage, Gate::Unpack { operand, count: n })?;
-            gate(stage, Gate::Conv { operand: single })
-        }
-        Cast::WordToWord | Cast::BoolToBool => Ok(operand),
+        (DataType::Bool, DataType::Uint64 | DataType::Int64) => conversion_gates(stage, n, operand),
+        (DataType::Uint64 | DataType::Int64, DataType::Uint64 | DataType::Int64)
+        | (DataType::Bool, DataType::Bool) => Ok(operand),
     }
 }

@@ -2,7 +2,7 @@
 ghost use Rattle.std.specs.Prelude.{◌≡◌, ◌≤◌, length, IfOk};
 ghost use Rattle.language_model.specs.Values.{default_words};
 
-use program_trees::{DataType, Shape};
+use program_trees::{Cast, DataType, Shape};
 use std::alloc::{AllocError, Global};
 
 /// Who may see a value.
@@ -14,8 +14,8 @@ pub enum Secrecy {
     Private(Option<u64>),
 }
 
-/// A value: who may see it, its shape, and its elements as words, a truth value as 1 or 0. A scalar has one element; no array has more
-/// than 1,048,576.
+/// A value: who may see it, its shape, and its elements as words, a number with a sign as its two's complement and a truth value as
+/// 1 or 0. A scalar has one element; no array has more than 1,048,576.
 pub struct Value {
     pub secrecy: Secrecy,
     pub shape: Shape,
@@ -51,7 +51,7 @@ impl Value {
     ghost use Rattle.std.specs.Prelude.{◌≡◌, ◌≤◌, length, IfOk};
     ghost use Rattle.language_model.specs.Values.{plain, hidden, size, visible_words, is_secret, never_stored};
     ghost use Rattle.language_model.specs.Evaluation.{array_elements, nothing};
-    ghost use Rattle.language_model.specs.Operations.{scalar_word};
+    ghost use Rattle.language_model.specs.Operations.{relabelled, scalar_word};
     ghost use Rattle.gates.specs.Clear.{first_word};
     ghost use Rattle.value_steps.specs.Views.{value_seen};
 
@@ -121,6 +121,23 @@ impl Value {
             } => Value {
                 secrecy: Secrecy::Private(Some(number)),
                 shape,
+                words,
+            },
+        }
+    }
+
+    /// The same words as a value of another shape, with the same number where it has one.
+    pub(crate) fn relabelled(self, cast: Cast) -> Value
+        ensures { value_seen result ≡ relabelled cast (value_seen self) }
+    {
+        match self {
+            Value {
+                secrecy,
+                shape,
+                words,
+            } => Value {
+                secrecy,
+                shape: cast.shape(shape.array),
                 words,
             },
         }

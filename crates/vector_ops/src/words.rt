@@ -1,7 +1,8 @@
 // Operations on a single list of words.
-ghost use Rattle.std.specs.Prelude.{◌≡◌, ◌^◌, ◌%◌, ◌++◌, map, sum, replicate, OnOk, IfOk};
+ghost use Rattle.std.specs.Prelude.{◌≡◌, ◌^◌, ◌%◌, ◌++◌, get_or, map, sum, replicate, OnOk, IfOk};
 ghost use Rattle.std.specs.List.{flat_map};
 ghost use Rattle.gates.specs.Clear.{bits_of, first_word};
+ghost use Rattle.language_model.specs.Lookup.{looked};
 ghost use Rattle.language_model.specs.Words.{flipped, cast_word};
 
 use crate::operators::{flip, truth};
@@ -78,6 +79,27 @@ pub fn first_word(xs: &[u64]) -> u64
     ensures { result ≡ first_word xs.now }
 {
     if xs.is_empty() { 0 } else { xs[0] }
+}
+
+/// The word at an index, and 0 where there is none.
+fn word_at(xs: &[u64], index: u64) -> u64
+    ensures { result ≡ get_or xs.now index 0 }
+{
+    if index < xs.len() as u64 {
+        xs[index as usize]
+    } else {
+        0
+    }
+}
+
+/// The words at these indices, and 0 where there is none.
+pub fn looked_up(alloc: Global, xs: &[u64], indices: &[u64]) -> Result<Vec<u64>, AllocError>
+    ensures { IfOk result (λ words. words.items ≡ looked xs.now indices.now) }
+{
+    indices
+        .iter()
+        .map(|index| word_at(xs, *index))
+        .collect(alloc)
 }
 
 /// One word several times.

@@ -2,7 +2,7 @@
 -- How much of a tree is left to evaluate: four for each node with others in it, and fewer where no function stands between it and its parts.
 use Rattle.std.specs.Prelude.{ℕ, ◌+◌, ◌*◌, List, map, sum, Option, Some, None}
 use Rattle.program_trees.specs.TypedTree.{TypedTree, TypedTrees, word_node, truth_node, slot_node, call_node, size_node, cat_node, sum_node, bits_node}
-use Rattle.program_trees.specs.TypedTree.{element_node, not_node, cast_node, binary_node, cut_node, declassify_node}
+use Rattle.program_trees.specs.TypedTree.{lookup_node, element_node, not_node, cast_node, binary_node, cut_node, declassify_node}
 use Rattle.program_trees.specs.TypedTree as Tree'
 use Rattle.program_trees.specs.TypedStatements.{TypedStatementTree, TypedStatementTrees, empty_statement, block_statement, if_statement, loop_statement, do_statement}
 use Rattle.program_trees.specs.TypedStatements.{break_statement, continue_statement, return_statement, assert_statement, store_statement, default_statement}
@@ -20,6 +20,7 @@ abbrev mutual
   weight (cat_node line a b) = weight a + weight b + 4
   weight (sum_node e) = weight e + 4
   weight (bits_node line e) = weight e + 4
+  weight (lookup_node line a i) = weight a + weight i + 4
   weight (element_node line a i) = weight a + weight i + 4
   weight (not_node e) = weight e + 4
   weight (cast_node c e) = weight e + 4

@@ -1,8 +1,8 @@
 -- Cited by private functions alone: no contract of another crate rests on it.
 -- How expressions and statements are evaluated in parts: first the expressions in them, and then a step on the values of these.
 use Rattle.std.specs.Prelude.{◌≡◌, ℕ, ◌+◌, ◌≤◌, Bool, true, false, List, map, None, Some}
-use Rattle.program_trees.specs.TypedTree.{TypedTree, word_node, truth_node, slot_node, call_node, size_node, cat_node, sum_node, bits_node, element_node}
-use Rattle.program_trees.specs.TypedTree.{not_node, cast_node, binary_node, cut_node, declassify_node, typed_tree, typed_trees_of}
+use Rattle.program_trees.specs.TypedTree.{TypedTree, word_node, truth_node, slot_node, call_node, size_node, cat_node, sum_node, bits_node, lookup_node}
+use Rattle.program_trees.specs.TypedTree.{element_node, not_node, cast_node, binary_node, cut_node, declassify_node, typed_tree, typed_trees_of}
 use Rattle.program_trees.specs.TypedStatements.{TypedStatementTree, empty_statement, block_statement, if_statement, loop_statement, do_statement, break_statement}
 use Rattle.program_trees.specs.TypedStatements.{continue_statement, return_statement, assert_statement, store_statement, default_statement, fill_statement}
 use Rattle.program_trees.specs.TypedStatements.{input_statement, element_statement, publish_statement, typed_statement, typed_statements_of}
@@ -10,8 +10,8 @@ use Rattle.program_trees.specs.Sound.{IsSoundTree, IsSoundStatementTree}
 use Rattle.reached_instances.specs.Domains.{Setting}
 use Rattle.language_model.specs.Effects.{World, Stage, Effect, ◌>>=◌, carry, done}
 use Rattle.language_model.specs.Values.{Value}
-use Rattle.language_model.specs.Operations.{wanted, operation, negated, cast_to, size_told, summed, bits_extracted, element_of_array, filled}
-use Rattle.language_model.specs.Operations.{published, asserted, declassified}
+use Rattle.language_model.specs.Operations.{wanted, operation, negated, cast_to, size_told, summed, bits_extracted, lookup, element_of_array}
+use Rattle.language_model.specs.Operations.{filled, published, asserted, declassified}
 use Rattle.language_model.specs.Evaluation.{Frame, Calls, Flow, goes, returns, StatementContext, slot_is_private, put, value, execute, stored}
 use Rattle.clear_eval.specs.declared.parts.Parts.{Parts}
 use Rattle.clear_eval.specs.declared.parts.Parts.TheVariants as parts
@@ -41,6 +41,7 @@ step_on_one w e x = done x
 
 -- and of one with two operands
 abbrev pub step_on_two : World → TypedTree → (x y : Value) → Effect Value
+step_on_two w (lookup_node line a i) x y = lookup w line x y
 step_on_two w (element_node line a i) x y = element_of_array line x y
 step_on_two w (binary_node line op ds a b) x y = operation w line op ds x y
 step_on_two w e x y = done x
