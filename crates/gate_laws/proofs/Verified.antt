@@ -24,7 +24,7 @@ use Rattle.verified_code.specs.Sound.{IsSound}
 use Rattle.verified_code.proofs.Sound.{verified_is_sound}
 use Rattle.verified_code.specs.Steps.{Step, Function}
 use Rattle.code_model.specs.Kinds.{kind_of}
-use Rattle.code_model.specs.Kinded.{HasKind, ArgumentsHave, ResultFits, StepFits, is_return, IsFitting, left_array, right_array, cast_source, cast_target}
+use Rattle.code_model.specs.Kinded.{HasKind, ArgumentsHave, ResultFits, StepFits, is_return, IsFitting, left_array, right_array}
 use Rattle.gate_laws.specs.Dealt.{bound}
 use Rattle.gate_laws.specs.Rows.{element_taken, secrecy_suits}
 use Rattle.gate_laws.specs.Machines.{StepTakes}
