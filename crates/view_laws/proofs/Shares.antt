@@ -70,6 +70,7 @@ shares_are i before (e ∷ es) words good are =
 
 size_most : (t : DataType) (n : ℕ) → shared_size t n ≤ n
 size_most data_type.Uint64 n = omega arith
+size_most data_type.Int64 n = omega arith
 size_most data_type.Bool n = omega arith
 
 draws_most : (d : Domain) (t : DataType) (n : ℕ) → n ≤ 65536 → draws_for d (shared_size t n) ≤ 131072
