@@ -75,6 +75,7 @@ word_few word.Xor n h = no_words
 
 operator_few : (op : BinaryOperator) (n : ℕ) → n ≤ 2 ^ 64 → AreFew (words_of_operator op n)
 operator_few (binary.Words op) n h = word_few op n h
+operator_few (binary.Ints op) n h = word_few op n h
 operator_few (binary.Bools truth.And) n h = let s = size_few datatype.Bool n h in each_few (3 * gate_size datatype.Bool n) (omega (arith, s))
 operator_few (binary.Bools truth.Or) n h = let s = size_few datatype.Bool n h in each_few (3 * gate_size datatype.Bool n) (omega (arith, s))
 operator_few (binary.Bools truth.Equal) n h = no_words
