@@ -16,7 +16,7 @@ use Rattle.gates.specs.declared.gate.Gate.TheVariants.{Const, MulPub, Sum, Open}
 use Rattle.gates.specs.declared.gate.Gate.TheVariants as gates
 use Rattle.gates.specs.Clear.{bits_of, first_word}
 use Rattle.language_model.specs.BitExtract.{bits_plan}
-use Rattle.language_model.specs.Lookup.{looked, lookup_plan}
+use Rattle.language_model.specs.Lookup.{lookup_plan}
 use Rattle.program_trees.specs.declared.kinds.Shape.{Shape}
 use Rattle.program_trees.specs.declared.operators.BinaryOperator.{BinaryOperator}
 use Rattle.program_trees.specs.declared.operators.Operands.{Operands}
