@@ -24,10 +24,13 @@ fn below_in(alloc: Global, digits: &[u8]) -> Result<Option<u64>, AllocError>
     let Some(number) = word_in(alloc, digits)? else {
         return Ok(None);
     };
-    if number == 0 || number > FURTHEST_BELOW {
-        Ok(None)
-    } else {
+    if number == 0 {
+        return Ok(None);
+    }
+    if number <= FURTHEST_BELOW {
         Ok(Some(number))
+    } else {
+        Ok(None)
     }
 }
 
