@@ -1,5 +1,5 @@
 -- The text of a public part is read as that part: it is the text of data without floats, whose strings are UTF-8.
-use Rattle.std.proofs.Common.{◌≡◌, ℕ, ◌<◌, ◌≤◌, ◌^◌, ◌&&◌, not, zero, suc, All, List, [], ◌∷◌, ◌++◌, map, Bool, true, false, None, Some, Ok, option_map}
+use Rattle.std.proofs.Common.{◌≡◌, ℕ, ◌-◌, ◌<◌, ◌≤◌, ◌^◌, ◌&&◌, not, zero, suc, All, List, [], ◌∷◌, ◌++◌, map, Bool, true, false, None, Some, Ok, option_map}
 use Rattle.std.proofs.Common.{option_and_then}
 use Rattle.std.proofs.Common.{negsuc, refl, ap, sym, ◌∙◌, arith}
 use Rattle.std.specs.Prelude.{codes, nat_lt, if◌then◌else◌}
@@ -7,7 +7,7 @@ use Rattle.std.specs.List.{list_all, list_any}
 use Rattle.std.specs.Str.{bytes_eq, IsAscii, IsUtf8}
 use Rattle.std.proofs.Math.Nat.{max-le}
 use Rattle.std.proofs.lemmas.List.{append-nil}
-use Rattle.std.proofs.lemmas.Bool.{and_parts}
+use Rattle.std.proofs.lemmas.Bool.{and_parts, ltb-false}
 use Rattle.std.proofs.lemmas.Bool.Decides.{nat_tests}
 use Rattle.std.proofs.lemmas.Fmt.{IsAscii-decimal, IsAscii-signed}
 use Rattle.std.proofs.lemmas.Str.{IsUtf8-append, IsUtf8-from_ascii, IsUtf8-nil}
@@ -68,7 +68,7 @@ integer_again x h = go (nat_lt x (2 ^ 63)) refl
   where
     go : (b : Bool) → nat_lt x (2 ^ 63) ≡ b → IsReadAgain 0 (integer_data x)
     go true e = rw e (number_again x h)
-    go false e = rw e (negative_again (2 ^ 64 - suc x) (omega (arith, nat_tests)))
+    go false e = rw e (negative_again (2 ^ 64 - suc x) (let high = ltb-false x (2 ^ 63) e in omega (arith, h, high)))
 
 truth_again : (b : Bool) → IsReadAgain 0 (boolean b)
 truth_again b = record { shallow = omega arith; numbers = tt; same = refl; text = IsUtf8-boolean b }

@@ -14,7 +14,7 @@ use Rattle.plans.specs.Equality.{eq_plan}
 use Rattle.plans.specs.BitExtract.{bits_plan}
 use Rattle.plans.specs.Compare.{less_plan}
 use Rattle.plans.specs.Signed.{signed_less_plan}
-use Rattle.oblivious_index.specs.Lookup.{lookup_plan}
+use Rattle.oblivious_index.specs.Lookup.{looked, lookup_plan}
 use Rattle.program_trees.specs.declared.expression.DataType.{DataType}
 use Rattle.program_trees.specs.declared.expression.DataType.TheVariants.{Uint64, Int64}
 use Rattle.program_trees.specs.declared.expression.DataType.TheVariants as datatype
@@ -286,7 +286,8 @@ module _ (w w' : World) (P : (A : Type 0) → Effect A → Effect A → Type 0) 
       (λ _. law.bind (law.on_draw (words_for_lookup (size a * size i)))
       (λ _. law.bind (number_holds a)
       (λ u. law.bind (number_holds i)
-      (λ v. law.bind (planned_holds (λ first. lookup_plan first u v (size a) (size i))) (λ r. law.on_done _)))))
+      (λ v. law.bind (planned_holds (λ first. lookup_plan first u v (size a) (size i)))
+      (λ r. made_holds (shape_of a.shape.element i.shape.array) (looked a.words i.words) r)))))
 
   pub lookup_holds : (line : ℕ) (a i : Value) → P _ (lookup w line a i) (lookup w' line a i)
   lookup_holds line a i =
