@@ -16,7 +16,7 @@ use Rattle.gates.specs.declared.gate.Gate.TheVariants.{Const, MulPub, Sum, Open}
 use Rattle.gates.specs.declared.gate.Gate.TheVariants as gates
 use Rattle.gates.specs.Clear.{bits_of, first_word}
 use Rattle.language_model.specs.BitExtract.{bits_plan}
-use Rattle.language_model.specs.Lookup.{looked, lookup_plan}
+use Rattle.language_model.specs.Lookup.{lookup_plan}
 use Rattle.program_trees.specs.declared.kinds.Shape.{Shape}
 use Rattle.program_trees.specs.declared.operators.BinaryOperator.{BinaryOperator}
 use Rattle.program_trees.specs.declared.operators.Operands.{Operands}
@@ -443,7 +443,7 @@ module _ (o : Offered) where
       let e = ap (λ n. 64 * n) (like_size l) in
       any_bind (charged_alike (too_large_alike line e) e) (λ _ _. bits_from_alike l)
 
-  looked_up_alike : (line : ℕ) {a a' i i' : Value} → LikeValues a a' → LikeValues i i' → Alike LikeValues (looked_up clear line a i) (looked_up unseen line a' i')
+  pub looked_up_alike : (line : ℕ) {a a' i i' : Value} → LikeValues a a' → LikeValues i i' → Alike LikeValues (looked_up clear line a i) (looked_up unseen line a' i')
   looked_up_alike line {a = a} {a' = a'} {i = i} {i' = i'} l m =
       let e : size a * size i ≡ size a' * size i' = ap (λ n. n * size i) (like_size l) ∙ ap (λ n. size a' * n) (like_size m) in
       any_bind (charged_alike (too_large_alike line e) e) (λ _ _. any_bind (draws (ap words_for_lookup e)) (λ _ _.

@@ -28,7 +28,7 @@ use Rattle.blind_evaluation.specs.Evaluation.{StatementContext, gives_private, s
 use Rattle.blind_evaluation.specs.Evaluation.{behind_next, connective}
 use Rattle.blind_evaluation.specs.Evaluation.{either, place_in}
 use Rattle.verified_code.specs.Steps.{Step, Literal, Move, Store, Fill, Put, Return, Branch, Jump, Function}
-use Rattle.code_model.specs.Expressions.{Numbers, classifying, lacks, mixes, binary_code, cat_code, element_code, deciding, settling, cut_code}
+use Rattle.code_model.specs.Expressions.{Numbers, classifying, lacks, mixes, binary_code, cat_code, lookup_code, element_code, deciding, settling, cut_code}
 use Rattle.code_model.specs.Expressions.{classified_at, stands_at, next_row, expression_code, arguments_code, unread_code}
 use Rattle.code_model.specs.Statements.{shape_number, first_free, statements_depth, behind_classifying, statement_code, statements_code}
 use Rattle.code_model.specs.Programs.{last_step, function_code, body_end, code_of_found, instance_code, numbers_in, code_of}

@@ -12,6 +12,7 @@ use Rattle.program_trees.specs.declared.operators.BinaryOperator.{BinaryOperator
 use Rattle.program_trees.specs.declared.operators.Operands.{Operands}
 use Rattle.program_trees.specs.declared.operators.Cast.{Cast}
 use Rattle.blind_evaluation.specs.BitExtract.{bits_plan}
+use Rattle.blind_evaluation.specs.Lookup.{looked, lookup_plan}
 use Rattle.gates.specs.Clear.{bits_of}
 use Rattle.std.specs.List.{flat_map}
 use Rattle.program_trees.specs.Shapes.{shape_of}
@@ -22,7 +23,7 @@ use Rattle.blind_evaluation.specs.Words as W
 use Rattle.blind_evaluation.specs.Operations.{charged, no_traps, operator_traps, result_shape, is_scalar_left}
 use Rattle.blind_evaluation.specs.Operations.{is_scalar_right, words_of_operator, classified_from, classified, made_private, wanted, opened_from, revealed}
 use Rattle.blind_evaluation.specs.Operations.{read_answer, declassified, private_result, product_with, combined_from, operated, negated_from, negated}
-use Rattle.blind_evaluation.specs.Operations.{size_told, element_from, element_of_array, position, words_for_bits, changed, converted, cast_from, cast_to, summed_from}
+use Rattle.blind_evaluation.specs.Operations.{size_told, element_from, element_of_array, position, words_for_bits, words_for_lookup, changed, converted, cast_from, cast_to, summed_from}
 use Rattle.blind_evaluation.specs.Operations.{summed, not_too_large, bits_from, bits_extracted, looked_up, concatenated_from, concatenated, with_element_from}
 use Rattle.blind_evaluation.specs.Operations.{with_element}
 use Rattle.blind_evaluation.specs.Operations.{filled_from, filled, tested, published, asserted}
@@ -232,9 +233,10 @@ module _ (w : World) where
   unfolding is_onward
   looked_up_gives line a i =
       let n = size a * size i in
-      gives_after w (charged_on (not_too_large line n) n (large_on line n)) (λ _. gives_after w (onward_draw w _)
+      gives_after w (charged_on (not_too_large line n) n (large_on line n)) (λ _. gives_after w (onward_draw w (words_for_lookup n))
       (λ _. gives_after w (walk.number_holds w w (is_onward w) law a) (λ u. gives_after w (walk.number_holds w w (is_onward w) law i)
-      (λ v. gives_after w (walk.planned_holds w w (is_onward w) law _) (λ r. made_gives _ _ r)))))
+      (λ v. gives_after w (walk.planned_holds w w (is_onward w) law (λ first. lookup_plan first u v (size a) (size i)))
+      (λ r. made_gives (shape_of a.shape.element i.shape.array) (looked a.words i.words) r)))))
 
   catenated_gives : (x y : Value) → Gives (concatenated_from (Private None) Plain x y) (IsSecret true)
   unfolding is_onward

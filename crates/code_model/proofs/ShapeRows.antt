@@ -16,6 +16,7 @@ use Rattle.sc_text.specs.declared.event.Event.TheVariants as event
 use Rattle.gates.specs.declared.gate.Gate.TheVariants as gates
 use Rattle.gates.specs.Clear.{each_two, first_word, bits_of}
 use Rattle.blind_evaluation.specs.BitExtract.{bits_plan}
+use Rattle.blind_evaluation.specs.Lookup.{looked, lookup_plan}
 use Rattle.program_trees.specs.declared.kinds.Shape.{Shape}
 use Rattle.program_trees.specs.declared.operators.BinaryOperator.{BinaryOperator}
 use Rattle.program_trees.specs.declared.operators.Operands.{Operands}
@@ -206,8 +207,8 @@ module _ (w : World) where
       let n = size a * size i in
       makes_after (row.charged (row.not_too_large line n) n) _ (λ _. makes_after (draw w (row.words_for_lookup n)) _
       (λ _. makes_after (row.number_of a) _ (λ u. makes_after (row.number_of i) _
-      (λ v. makes_after (planned _) _
-      (λ r. made (shape_of a.shape.element i.shape.array) _ r (λ e. length-map i.words (λ k. get_or a.words k 0) ∙ h e))))))
+      (λ v. makes_after (planned (λ first. lookup_plan first u v (size a) (size i))) _
+      (λ r. made (shape_of a.shape.element i.shape.array) (looked a.words i.words) r (λ e. length-map i.words (λ k. get_or a.words k 0) ∙ h e))))))
 
   pub concatenated_makes : (line : ℕ) (x y : Value) → x.shape.array ≡ true → Makes (row.concatenated line x y) (IsShaped x.shape)
   concatenated_makes line x y h = makes_after (row.charged (row.not_too_large line (size x + size y)) (size x + size y)) _ (λ _. go x.secrecy y.secrecy)

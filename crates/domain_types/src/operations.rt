@@ -51,11 +51,7 @@ fn int64_result(op: Operator) -> Option<DataType>
         | Operator::LessOrEqual
         | Operator::Greater
         | Operator::GreaterOrEqual => Some(DataType::Bool),
-        Operator::And
-        | Operator::Or
-        | Operator::Xor
-        | Operator::AndAlso
-        | Operator::OrElse => None,
+        Operator::And | Operator::Or | Operator::Xor | Operator::AndAlso | Operator::OrElse => None,
     }
 }
 

@@ -1,7 +1,7 @@
 -- The words of a value in the gates, by its elements.
 use Rattle.std.proofs.Common.{◌≡◌, ℕ, zero, suc, ◌<◌, ◌^◌, List, [], ◌∷◌, ◌++◌, length, map, not, ◌==◌, refl, sym, ap, ◌∙◌, subst, arith, append_assoc}
 use Rattle.std.proofs.Common.{append-nil}
-use Rattle.std.specs.Prelude.{Bool, true, false, nat_lt, ◌-◌, ◌%◌, if◌then◌else◌}
+use Rattle.std.specs.Prelude.{Bool, true, false, nat_le, nat_lt, ◌-◌, ◌&&◌, if◌then◌else◌}
 use Rattle.sc_text.specs.declared.elements.Element.{Element}
 use Rattle.sc_text.specs.declared.elements.Element.TheVariants.{Word, Negative, Truth}
 use Rattle.sc_text.specs.declared.event.Event.{Event}
@@ -10,7 +10,7 @@ use Rattle.program_trees.specs.declared.expression.DataType.{DataType}
 use Rattle.program_trees.specs.declared.expression.DataType.TheVariants.{Uint64, Int64}
 use Rattle.program_trees.specs.declared.expression.DataType.TheVariants as datatype
 use Rattle.proto_core.specs.Lists.{at, AreWords}
-use Rattle.std.proofs.lemmas.Bool.{ltb-false}
+use Rattle.std.proofs.lemmas.Bool.{leb-true, ltb-true}
 use Rattle.language_model.specs.Values.{element_of, signed_element, gate_words, gate_size}
 use Rattle.language_model.specs.Learned.{element_word, elements_words, learned_of}
 use Rattle.gates.specs.Bits.{words_for, words_with}
@@ -46,25 +46,25 @@ words_again : (xs : List ℕ) → map element_word (map (element_of Uint64) xs) 
 words_again [] = refl
 words_again (x ∷ xs) = ap (λ z. x ∷ z) (words_again xs)
 
--- of a number with a sign, whichever sign it has
-signed_word : (x : ℕ) → x < 2 ^ 64 → element_word (signed_element x) ≡ x
-signed_word x h = go (nat_lt x (2 ^ 63)) refl
+-- a number with a sign is printed as it is or below 0
+signed_word : (x : ℕ) → element_word (signed_element x) ≡ x
+signed_word x = go (nat_le (2 ^ 63) x) (nat_lt x (2 ^ 64)) refl refl
   where
-    go : (t : Bool) → nat_lt x (2 ^ 63) ≡ t → element_word (if t then Word x else Negative (2 ^ 64 - x)) ≡ x
-    go true e = refl
-    go false e = let high = ltb-false x (2 ^ 63) e in omega (arith, h, high)
+    go : (high low : Bool) → nat_le (2 ^ 63) x ≡ high → nat_lt x (2 ^ 64) ≡ low
+        → element_word (if high && low then Negative (2 ^ 64 - x) else Word x) ≡ x
+    go true true e f = let at_least = leb-true (2 ^ 63) x e in let below = ltb-true x (2 ^ 64) f in omega (arith, at_least, below)
+    go true false e f = refl
+    go false low e f = refl
 
-signed_again : (xs : List ℕ) → Below (2 ^ 64) xs → map element_word (map (element_of Int64) xs) ≡ xs
-signed_again [] p = refl
-signed_again (x ∷ xs) p =
-    ap (λ z. z ∷ map element_word (map (element_of Int64) xs)) (signed_word x (below_head (2 ^ 64) x xs p))
-    ∙ ap (λ z. x ∷ z) (signed_again xs (below_tail (2 ^ 64) x xs p))
+signed_again : (xs : List ℕ) → map element_word (map (element_of Int64) xs) ≡ xs
+signed_again [] = refl
+signed_again (x ∷ xs) = ap (λ z. z ∷ map element_word (map (element_of Int64) xs)) (signed_word x) ∙ ap (λ z. x ∷ z) (signed_again xs)
 
 signed_first : (x : ℕ) (es : List Element) → elements_words (signed_element x ∷ es) ≡ map element_word (signed_element x ∷ es)
-signed_first x es = go (nat_lt x (2 ^ 63))
+signed_first x es = go (nat_le (2 ^ 63) x && nat_lt x (2 ^ 64))
   where
     go : (t : Bool)
-        → elements_words ((if t then Word x else Negative (2 ^ 64 - x)) ∷ es) ≡ map element_word ((if t then Word x else Negative (2 ^ 64 - x)) ∷ es)
+        → elements_words ((if t then Negative (2 ^ 64 - x) else Word x) ∷ es) ≡ map element_word ((if t then Negative (2 ^ 64 - x) else Word x) ∷ es)
     go true = refl
     go false = refl
 
@@ -83,7 +83,7 @@ pub told_words : (e : DataType) (words : List ℕ) → InRange e words → eleme
 told_words Uint64 [] h = refl
 told_words Uint64 (x ∷ xs) h = words_again (x ∷ xs)
 told_words Int64 [] h = refl
-told_words Int64 (x ∷ xs) h = signed_first x (map (element_of Int64) xs) ∙ signed_again (x ∷ xs) h
+told_words Int64 (x ∷ xs) h = signed_first x (map (element_of Int64) xs) ∙ signed_again (x ∷ xs)
 told_words datatype.Bool [] h = sym none_packed
 told_words datatype.Bool (x ∷ xs) h = ap packed (truths_again (x ∷ xs) h)
 
@@ -113,3 +113,12 @@ learned_numbers es words =
     told : (words : List ℕ) → elements_words (map (element_of Uint64) words) ≡ words
     told [] = refl
     told (x ∷ xs) = words_again (x ∷ xs)
+
+pub learned_signed : (es : List Event) (words : List ℕ) → learned_of (es ++ Open (map (element_of Int64) words) ∷ []) ≡ learned_of es ++ words
+learned_signed es words =
+    learned_then es (Open (map (element_of Int64) words) ∷ [])
+    ∙ ap (λ z. learned_of es ++ z) (append-nil (elements_words (map (element_of Int64) words)) ∙ told words)
+  where
+    told : (words : List ℕ) → elements_words (map (element_of Int64) words) ≡ words
+    told [] = refl
+    told (x ∷ xs) = signed_first x (map (element_of Int64) xs) ∙ signed_again (x ∷ xs)

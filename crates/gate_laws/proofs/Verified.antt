@@ -24,7 +24,7 @@ use Rattle.verified_code.specs.Sound.{IsSound}
 use Rattle.verified_code.proofs.Sound.{verified_is_sound}
 use Rattle.verified_code.specs.Steps.{Step, Function}
 use Rattle.code_model.specs.Kinds.{kind_of}
-use Rattle.code_model.specs.Kinded.{HasKind, ArgumentsHave, ResultFits, StepFits, is_return, IsFitting, left_array, right_array, cast_source, cast_target}
+use Rattle.code_model.specs.Kinded.{HasKind, ArgumentsHave, ResultFits, StepFits, is_return, IsFitting, left_array, right_array}
 use Rattle.gate_laws.specs.Dealt.{bound}
 use Rattle.gate_laws.specs.Rows.{element_taken, secrecy_suits}
 use Rattle.gate_laws.specs.Machines.{StepTakes}
@@ -227,16 +227,12 @@ module _ (code : RawCode) (f : RawFunction) (place : ℕ) where
       → Suited (settle code.names kinds (raw.Cast d r))
   cast_suited d r to from h =
       let fit = both (same_truth (of d).secret (of r).secret) (same_truth (of d).array (of r).array) h in
-      let cast = (
-        (of r).secret,
-        (of r).array,
-        there r from,
-        subst (λ s. HasKind kinds d (record { secret = s; element = (of d).element; array = (of r).array }))
-            (truths_same (of d).secret (of r).secret fit.0)
-            (subst (λ a. HasKind kinds d (record { secret = (of d).secret; element = (of d).element; array = a }))
-            (truths_same (of d).array (of r).array fit.1) (there d to)),
-      ) in
-      (cast, (of r, there r from, refl))
+      let made : HasKind kinds d (record { secret = (of r).secret; element = (of d).element; array = (of r).array }) =
+      subst (λ s. HasKind kinds d (record { secret = s; element = (of d).element; array = (of r).array }))
+      (truths_same (of d).secret (of r).secret fit.0)
+      (subst (λ a. HasKind kinds d (record { secret = (of d).secret; element = (of d).element; array = a }))
+      (truths_same (of d).array (of r).array fit.1) (there d to)) in
+      (((of r).secret, (of r).array, there r from, made), (of r, there r from, refl))
 
   call_suited : (g d : ℕ) (rs : List ℕ) (line : ℕ) → names_there at (raw.Call g d rs line) ≡ true → operands_fit at (raw.Call g d rs line) ≡ true
       → Suited (settle code.names kinds (raw.Call g d rs line))

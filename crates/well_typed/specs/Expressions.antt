@@ -1,16 +1,16 @@
 -- Which expressions are well typed, and the shape of what they give. Who may see it is `domain` of the reached instances.
-use Rattle.std.specs.Prelude.{◌≡◌, ◌<◌, ◌^◌, Bool, true, ◌||◌, List, [], ◌∷◌, take, Option, Some, None}
+use Rattle.std.specs.Prelude.{◌≡◌, ◌<◌, ◌^◌, Bool, true, ◌||◌, List, [], ◌∷◌, length, take, Option, Some, None}
 use Rattle.std.specs.List.{slice_get}
 use Rattle.program_trees.specs.declared.expression.DataType.{DataType}
-use Rattle.program_trees.specs.declared.expression.DataType.TheVariants.{Uint64}
+use Rattle.program_trees.specs.declared.expression.DataType.TheVariants.{Uint64, Int64}
 use Rattle.program_trees.specs.declared.expression.DataType.TheVariants as datatype
 use Rattle.program_trees.specs.declared.kinds.Shape.{Shape}
 use Rattle.program_trees.specs.declared.kinds.Slot.{Slot}
 use Rattle.program_trees.specs.declared.typed_function.Returned.{Returned}
 use Rattle.program_trees.specs.declared.typed_function.Returned.TheVariants.{Nothing, Value}
 use Rattle.program_trees.specs.Operators.{element_made}
-use Rattle.program_trees.specs.TypedTree.{TypedTree, TypedTrees, word_node, truth_node, slot_node, call_node, size_node, cat_node, sum_node, bits_node, lookup_node}
-use Rattle.program_trees.specs.TypedTree.{element_node, not_node, cast_node, binary_node, cut_node, declassify_node}
+use Rattle.program_trees.specs.TypedTree.{TypedTree, TypedTrees, word_node, truth_node, zero_node, slot_node, call_node, size_node, cat_node, sum_node, bits_node}
+use Rattle.program_trees.specs.TypedTree.{lookup_node, element_node, not_node, cast_node, binary_node, cut_node, declassify_node}
 use Rattle.program_trees.specs.TypedTree as Tree'
 use Rattle.program_trees.specs.TypedPrograms.{TypedFunctionTree}
 use Rattle.program_trees.specs.Shapes.{shape_of}
@@ -29,6 +29,8 @@ abbrev mutual
   pub Gives : Setting → TypedTree → Option Shape → Type 0
   Gives w (word_node n) g = (n < 2 ^ 64) × (g ≡ Some (scalar Uint64))
   Gives w (truth_node b) g = g ≡ Some (scalar datatype.Bool)
+  -- it fills a variable, so there is one
+  Gives w zero_node g = (0 < length w.slots) × (g ≡ Some (scalar Int64))
   Gives w (slot_node k) g = (s : Slot) × (slice_get w.slots k ≡ Some s) × (g ≡ Some s.shape)
   Gives w (call_node line k es) g =
       (f : TypedFunctionTree) × (slice_get w.functions k ≡ Some f)
