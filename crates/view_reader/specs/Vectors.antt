@@ -18,11 +18,7 @@ pub written_with_a_sign : opened_bytes ((Negative 5 ∷ Word 3 ∷ []) ∷ []) �
 unfolding element_text digits
 written_with_a_sign = refl
 
-<<<<<<< HEAD
 pub read_with_a_sign : opened_of (codes "open -5 3 -9223372036854775808\n") ≡ Ok ((2 ^ 64 - 5) ∷ 3 ∷ (2 ^ 63) ∷ [])
-=======
-pub read_with_a_sign : opened_of (codes "open -5 3 -9223372036854775808\n") ≡ Ok (18446744073709551611 ∷ 3 ∷ 9223372036854775808 ∷ [])
->>>>>>> 5016f8b119d390366d9f3f541a59b67804da3e7b
 unfolding openings_of number_in digits
 read_with_a_sign = refl
 
