@@ -185,7 +185,7 @@ module _ (w : World) where
   unfolding is_onward
   changed_gives c x =
       gives_after w (onward_draw w _) (λ _. gives_after w (walk.number_holds w w (is_onward w) law x)
-      (λ u. gives_after w (walk.cast_gates_hold w w (is_onward w) law c (size x) u) (λ r. made_gives _ _ r)))
+      (λ u. gives_after w (walk.gates_between_hold w w (is_onward w) law c.given c.wanted (size x) u) (λ r. made_gives _ _ r)))
 
   converted_gives : (a : Secrecy) (c : Cast) (x : Value) → Gives (converted w a c x) (IsSecret (is_secret a))
   converted_gives Plain c x = plain_gives _ _

@@ -27,7 +27,7 @@ use Rattle.language_model.specs.Effects.{World, Effect, ◌>>=◌, done, draw}
 use Rattle.language_model.specs.Values.{Secrecy, Plain, Private, Value, plain, size}
 use Rattle.language_model.specs.Words.{flipped, truth_word}
 use Rattle.language_model.specs.Operations.{negated_from, negated, words_for_equality, words_for_conversion, words_for_bits, size_told}
-use Rattle.language_model.specs.Operations.{number_of, made_private, truth_gates, conversion_gates, relabelled, cast_from, cast_to}
+use Rattle.language_model.specs.Operations.{number_of, made_private, truth_gates, conversion_gates, converted, relabelled, cast_from, cast_to}
 use Rattle.language_model.specs.Operations.{summed_from, summed, bits_from, bits_extracted, largest, not_too_large}
 use Rattle.verified_code.specs.Fitting.{is_number}
 use Rattle.gate_laws.specs.Facts.{IsProper, none_of, Fact, fact_from, facts_of, Suits}
@@ -42,7 +42,7 @@ use Rattle.gates.specs.Gathered.{packed, unpacked}
 use Rattle.gates.proofs.Packing.{length-packed, packed-spread, unpacked-packed}
 use Rattle.proto_core.specs.Lists.{AreWords}
 use Rattle.gate_laws.proofs.Parts.{tell_same, tell_first, charged_suits, plain_charge, number_as, given_as, given_suits, shown_suits, itself_suits}
-use Rattle.gate_laws.proofs.Parts.{range_words, no_numbers, number_range, number_facts, number_of_numbers, given_numbers}
+use Rattle.gate_laws.proofs.Parts.{range_words, number_range, number_facts, number_of_numbers, given_numbers}
 use Rattle.gate_laws.proofs.Ranges.{Below, map_below, map_same, below_cons, append_below, one_below, truth_below}
 use Rattle.gate_laws.proofs.Meanings.{conversion_bits, zero_flipped}
 use Rattle.gate_laws.proofs.Operators.{in_terms, flip_suits, zero_suits}
@@ -207,16 +207,36 @@ module _ (w : World) (d : Dealt) (v : Value) where
       (λ m. let e = conversion_words (size v) m in omega (arith, e)) refl (λ r good facts. conv_gain r good z v.words facts.0)))) (λ r _.
       given_numbers w d _ (shape_of e v.shape.array) kept r ok (tell_first _ _) (kept_words h) (mapped_small (λ x. x) v.words h.proper.small))))
 
+  -- the casts between numbers and truth values are these
+  abbrev Converts : (e f : DataType) → Secrecy → Type 0
+  Converts e f a = IsOfElements e v → Suits w d fs none_of (converted w a (cast_between e f) v) none_of facts_of IsProper
+
+  word_to_truth : (a : Secrecy) → Converts Uint64 datatype.Bool a
+  word_to_truth Plain h = to_truth_suits Plain Uint64 refl h
+  word_to_truth (Private k) h = to_truth_suits (Private k) Uint64 refl h
+
+  int_to_truth : (a : Secrecy) → Converts Int64 datatype.Bool a
+  int_to_truth Plain h = to_truth_suits Plain Int64 refl h
+  int_to_truth (Private k) h = to_truth_suits (Private k) Int64 refl h
+
+  truth_to_word : (a : Secrecy) → Converts datatype.Bool Uint64 a
+  truth_to_word Plain h = to_number_suits Plain Uint64 refl h
+  truth_to_word (Private k) h = to_number_suits (Private k) Uint64 refl h
+
+  truth_to_int : (a : Secrecy) → Converts datatype.Bool Int64 a
+  truth_to_int Plain h = to_number_suits Plain Int64 refl h
+  truth_to_int (Private k) h = to_number_suits (Private k) Int64 refl h
+
   cast_from_suits : (e f : DataType) → IsOfElements e v → Suits w d fs none_of (cast_from e f w (cast_between e f) v) none_of facts_of IsProper
   cast_from_suits Uint64 Uint64 h = itself_suits w d fs v (tell_same fs) h.proper
   cast_from_suits Int64 Int64 h = itself_suits w d fs v (tell_same fs) h.proper
   cast_from_suits datatype.Bool datatype.Bool h = itself_suits w d fs v (tell_same fs) h.proper
   cast_from_suits Uint64 Int64 h = relabelled_suits Uint64 Int64 refl refl h
   cast_from_suits Int64 Uint64 h = relabelled_suits Int64 Uint64 refl refl h
-  cast_from_suits Uint64 datatype.Bool h = to_truth_suits v.secrecy Uint64 refl h
-  cast_from_suits Int64 datatype.Bool h = to_truth_suits v.secrecy Int64 refl h
-  cast_from_suits datatype.Bool Uint64 h = to_number_suits v.secrecy Uint64 refl h
-  cast_from_suits datatype.Bool Int64 h = to_number_suits v.secrecy Int64 refl h
+  cast_from_suits Uint64 datatype.Bool h = word_to_truth v.secrecy h
+  cast_from_suits Int64 datatype.Bool h = int_to_truth v.secrecy h
+  cast_from_suits datatype.Bool Uint64 h = truth_to_word v.secrecy h
+  cast_from_suits datatype.Bool Int64 h = truth_to_int v.secrecy h
 
   pub cast_suits : (c : Cast) → IsOfElements (cast_source c) v → Suits w d fs none_of (cast_to w c v) none_of facts_of IsProper
   cast_suits c h = suits_bind w d (plain_charge w d fs (size v)) (λ _ _. cast_from_suits c.given c.wanted h)

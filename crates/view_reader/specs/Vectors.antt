@@ -1,5 +1,5 @@
 -- Worked files of opened values, and what is read of them.
-use Rattle.std.specs.Prelude.{◌≡◌, [], ◌∷◌, codes, refl, Ok, Err, true}
+use Rattle.std.specs.Prelude.{◌≡◌, ◌^◌, ◌-◌, [], ◌∷◌, codes, refl, Ok, Err, true}
 use Rattle.std.specs.Fmt.{digits}
 use Rattle.sc_text.specs.Elements.{element_text}
 use Rattle.sc_text.specs.declared.elements.Element.TheVariants.{Word, Negative, Truth}
@@ -18,7 +18,7 @@ pub written_with_a_sign : opened_bytes ((Negative 5 ∷ Word 3 ∷ []) ∷ []) �
 unfolding element_text digits
 written_with_a_sign = refl
 
-pub read_with_a_sign : opened_of (codes "open -5 3 -9223372036854775808\n") ≡ Ok (18446744073709551611 ∷ 3 ∷ 9223372036854775808 ∷ [])
+pub read_with_a_sign : opened_of (codes "open -5 3 -9223372036854775808\n") ≡ Ok ((2 ^ 64 - 5) ∷ 3 ∷ (2 ^ 63) ∷ [])
 unfolding openings_of number_in digits
 read_with_a_sign = refl
 

@@ -1,9 +1,10 @@
-use Rattle.std.proofs.Common.{◌∙◌, ap, subst}
+use Rattle.std.proofs.Common.{◌∙◌, sym, ap, subst}
 use Rattle.std.proofs.lemmas.Result.{err_from_is_err_and}
 use Rattle.bytecode.specs.Decoded.{operands}
 use Rattle.bytecode.specs.InMemory.{raw_instruction}
 use Rattle.bytecode.specs.Layouts.{read}
 use Rattle.bytecode.specs.inner.Reading.{Reads}
+use Rattle.bytecode.specs.inner.Tags.{tag_byte}
 use Rattle.bytecode.specs.Versions.{counting}
 use Rattle.bytecode.proofs.Reading.{reads_err}
 use Rattle.bytecode.proofs.SameOperands.{same_operands, plain_unless_call, reads_operands, stops_at_tag}
