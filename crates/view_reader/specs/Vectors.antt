@@ -1,5 +1,5 @@
 -- Worked files of opened values, and what is read of them.
-use Rattle.std.specs.Prelude.{◌≡◌, [], ◌∷◌, codes, refl, Ok, Err, true}
+use Rattle.std.specs.Prelude.{◌≡◌, ◌^◌, ◌-◌, [], ◌∷◌, codes, refl, Ok, Err, true}
 use Rattle.std.specs.Fmt.{digits}
 use Rattle.sc_text.specs.Elements.{element_text}
 use Rattle.sc_text.specs.declared.elements.Element.TheVariants.{Word, Negative, Truth}
