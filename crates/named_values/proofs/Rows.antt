@@ -342,7 +342,7 @@ module _ (N : Numbers) where
     pub published_naming : (w : World) (text : List ℕ) → Naming N (row.published w text v) (Any {A = Unit {0}})
     published_naming w text =
         naming_bind (plain_charge (size v)) (λ _ _. naming_bind (handed_naming w v.secrecy) (λ _ _.
-        emit_naming (row.publication v.secrecy text (elements_of v))))
+        emit_naming (row.publication v.secrecy v.shape.element text (elements_of v))))
 
   module _ (x y : Value) (a : Names N x) (b : Names N y) where
     both_naming : {f : ℕ → ℕ → Effect ℕ} (shape : Shape) (words : List ℕ) → ((u v : ℕ) → N u → N v → Naming N (f u v) N)

@@ -1,10 +1,12 @@
 ghost use Rattle.std.specs.Prelude.{◌≡◌, [], ◌∷◌, ◌++◌, List, Some, OnOk, OnErr};
 ghost use Rattle.sc_text.specs.declared.elements.Element.{Element};
-ghost use Rattle.sc_text.specs.Elements.{element_text, elements_text, element_word};
+ghost use Rattle.sc_text.specs.Elements.{element_as, element_text, elements_text, element_word, signed_element};
 
 use std::alloc::{AllocError, Global};
 use std::fmt;
 use std::marker::Model;
+
+const SIGN_BIT: u64 = 1 << 63;
 
 /// An element of a printed value.
 #[derive(Clone, Copy)]
@@ -26,6 +28,39 @@ impl Element {
             Element::Negative(below) => below.wrapping_neg(),
             Element::Truth(true) => 1,
             Element::Truth(false) => 0,
+        }
+    }
+}
+
+/// What the elements of a value are.
+#[derive(Clone, Copy, PartialEq, Eq)]
+pub enum ElementKind {
+    /// Numbers below 2^64.
+    Unsigned,
+    /// Numbers from -2^63 to 2^63 - 1.
+    Signed,
+    TruthValue,
+}
+
+fn signed(word: u64) -> Element
+    ensures { result ≡ signed_element word }
+{
+    if word < SIGN_BIT {
+        Element::Word(word)
+    } else {
+        Element::Negative(word.wrapping_neg())
+    }
+}
+
+impl ElementKind {
+    /// The element of this kind that a word stands for: a number with a sign by two's complement, a truth value by bit 0.
+    pub fn element(self, word: u64) -> Element
+        ensures { result ≡ element_as self word }
+    {
+        match self {
+            ElementKind::Unsigned => Element::Word(word),
+            ElementKind::Signed => signed(word),
+            ElementKind::TruthValue => Element::Truth(word % 2 != 0),
         }
     }
 }

@@ -1,22 +1,19 @@
 // Words as they are printed.
 ghost use Rattle.std.specs.Prelude.{◌≡◌, map, IfOk};
-ghost use Rattle.language_model.specs.Values.{element_of, signed_element};
+ghost use Rattle.language_model.specs.Values.{element_of, printed_kind};
 
 use program_trees::DataType;
-use sc_text::{Element, Elements};
+use sc_text::{Element, ElementKind, Elements};
 use std::alloc::{AllocError, Global};
 
-/// How many words there are whose number with a sign isn't below 0.
-const HALF: u64 = 1 << 63;
-
-/// A word as a number with a sign, by its two's complement.
-fn printed_signed(x: u64) -> Element
-    ensures { result ≡ signed_element x }
+/// What the elements of a data type are, as they are printed.
+pub fn printed_kind(element: DataType) -> ElementKind
+    ensures { result ≡ printed_kind element }
 {
-    if x < HALF {
-        Element::Word(x)
-    } else {
-        Element::Negative(x.wrapping_neg())
+    match element {
+        DataType::Uint64 => ElementKind::Unsigned,
+        DataType::Int64 => ElementKind::Signed,
+        DataType::Bool => ElementKind::TruthValue,
     }
 }
 
@@ -26,7 +23,7 @@ fn printed(element: DataType, x: u64) -> Element
 {
     match element {
         DataType::Uint64 => Element::Word(x),
-        DataType::Int64 => printed_signed(x),
+        DataType::Int64 => ElementKind::Signed.element(x),
         DataType::Bool => Element::Truth(x != 0),
     }
 }
