@@ -71,15 +71,22 @@ class Ended(SecrecErr):
 class Private:
     """A value that nobody but its owner may see."""
 
+    value: Value | Signed
+
+
+@dataclass(frozen=True)
+class Signed:
+    """Numbers with a sign, of the type int64."""
+
     value: Value
 
 
-def private(value: Value) -> Private:
+def private(value: Value | Signed) -> Private:
     """Marks an input as private."""
     return Private(value)
 
 
-Inputs = Union[Path, Mapping[str, Union[Value, Private]]]
+Inputs = Union[Path, Mapping[str, Union[Value, Signed, Private]]]
 
 
 @dataclass(frozen=True)
@@ -138,18 +145,22 @@ def signed(word: int) -> int:
     return word - WORD_END if word >= WORD_END // 2 else word
 
 
-def entry(name: str, given: Value | Private) -> dict[str, object]:
-    """An entry of an input file."""
+def entry(name: str, given: Value | Signed | Private) -> dict[str, object]:
+    """An entry of an input file. A number below 0 that isn't `Signed` stands as its word, 2^64 more."""
     value = given.value if isinstance(given, Private) else given
+    has_sign, value = isinstance(value, Signed), value.value if isinstance(value, Signed) else value
     elements = list(value) if isinstance(value, Sequence) else [value]
     if not all(isinstance(one, int) and -WORD_END // 2 <= one < WORD_END for one in elements):
         raise TypeError(f"{name}: an input is a whole number from -2^63 to 2^64 - 1, a truth value, or a list of either")
     kinds = {isinstance(one, bool) for one in elements}
     if len(kinds) > 1:
         raise TypeError(f"{name}: numbers and truth values stand in one list")
-    words = [one if isinstance(one, bool) else one % WORD_END for one in elements]
+    if has_sign and (kinds == {True} or any(one >= WORD_END // 2 for one in elements)):
+        raise TypeError(f"{name}: numbers with a sign are from -2^63 to 2^63 - 1")
+    words = [one if has_sign or isinstance(one, bool) else one % WORD_END for one in elements]
     made = words if isinstance(value, Sequence) else words[0]
-    return {"name": name, "domain": "private" if isinstance(given, Private) else "public", "type": "bool" if kinds == {True} else "uint64", "value": made}
+    kind = "int64" if has_sign else "bool" if kinds == {True} else "uint64"
+    return {"name": name, "domain": "private" if isinstance(given, Private) else "public", "type": kind, "value": made}
 
 
 @contextlib.contextmanager

@@ -106,7 +106,7 @@ def variance(tables: Tables) -> list[str]:
 
 def temperatures(tables: Tables) -> list[str]:
     changes = [Fraction(row["change"].replace(",", ".")) for row in tables.rows("stations.csv", "\t")]
-    return lines("colder", sum(one < 0 for one in changes)) + with_sign(cut(1000 * statistics.mean(changes)))
+    return lines("colder", sum(one < 0 for one in changes)) + lines("mean", cut(1000 * statistics.mean(changes)))
 
 
 def long_waits(tables: Tables) -> list[str]:

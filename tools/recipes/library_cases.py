@@ -7,11 +7,7 @@ from fractions import Fraction
 from math import ceil, floor
 
 from published_cases import PUBLISHED
-from recipe_parts import WORDS, Entry, Given, Recipe, Told, Value, number_of, pay, private, public, region_inputs, signed
-
-
-def sign_lines(number: int) -> Told:
-    return [("below_zero", number < 0), ("amount", abs(number))]
+from recipe_parts import WORDS, Entry, Given, Recipe, Told, Value, pay, private, public, region_inputs, with_signs
 
 
 def cut(number: Fraction) -> int:
@@ -85,17 +81,17 @@ def quantiles_told(given: Given) -> Told:
 
 
 def signs_inputs(chance: random.Random, n: int) -> list[Entry]:
-    change = [signed(chance.randrange(-40_000, 40_000)) for _ in range(n)]
-    return [private("change", change), private("weight", [chance.randrange(3_000) for _ in range(n)]), public("bound", 15_000)]
+    change = [chance.randrange(-40_000, 40_000) for _ in range(n)]
+    return [with_signs("change", change), private("weight", [chance.randrange(3_000) for _ in range(n)]), public("bound", 15_000)]
 
 
 def signs_told(given: Given) -> Told:
-    change = [number_of(word) for word in given.change]
+    change = given.change
     total = sum(one * weight for one, weight in zip(change, given.weight, strict=True))
     return [
         ("below_zero", [one < 0 for one in change]), ("far", sum(abs(one) > given.bound for one in change)),
         ("less", [one < weight for one, weight in zip(change, given.weight, strict=True)]),
-        *sign_lines(cut(Fraction(sum(change), len(change)))), *sign_lines(cut(Fraction(total, 1000))),
+        ("mean", cut(Fraction(sum(change), len(change)))), ("weighted", cut(Fraction(total, 1000))),
     ]
 
 

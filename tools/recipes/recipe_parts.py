@@ -17,10 +17,11 @@ class Entry:
     name: str
     private: bool
     value: Value
+    has_sign: bool = False
 
     def as_json(self) -> dict[str, object]:
         first = self.value[0] if isinstance(self.value, list) and self.value else self.value
-        kind = "bool" if isinstance(first, bool) else "uint64"
+        kind = "bool" if isinstance(first, bool) else "int64" if self.has_sign else "uint64"
         return {"name": self.name, "domain": "private" if self.private else "public", "type": kind, "value": self.value}
 
 
@@ -39,6 +40,11 @@ def private(name: str, value: Value) -> Entry:
 
 def public(name: str, value: Value) -> Entry:
     return Entry(name, False, value)
+
+
+def with_signs(name: str, value: list[int]) -> Entry:
+    """A private array of numbers with a sign."""
+    return Entry(name, True, value, True)
 
 
 def pay(chance: random.Random, n: int) -> Entry:

@@ -7,6 +7,7 @@ import sys
 
 sys.dont_write_bytecode = True
 from clear import Input, ValueType
+from clear import shown as elements
 from code_file import FIRST, NOTHING, Code, Function, Instruction, Tag, decode, encode
 from commands import Caller
 from fault_calls_counted import answered, shown
@@ -76,7 +77,7 @@ def numbers_of(size: int) -> list[Input]:
 def given(inputs: list[Input]) -> str:
     parts = []
     for one in inputs:
-        words = [str(word) if one.type.data is Data.NUMBER else ("true" if word else "false") for word in one.words]
+        words = elements(one.type.data, one.words)
         value = f"[{','.join(words)}]" if one.type.array else words[0]
         parts.append(f"{one.name} {'private' if one.type.private else 'public'} {one.type.data.value} {value}")
     return f"given {'; '.join(parts)}".rstrip()
@@ -96,7 +97,8 @@ class TruthRows(Rows):
     def programs(self, title: str, inputs: list[Input], start: str = "", call: str = "eval p.sc --input p.json"):
         """A group of programs that begin so, on these inputs."""
         self.start, self.inputs, self.words = f"{HEAD[:-1]} {start}".rstrip(), inputs, call.split()
-        self.group(title, *([f"call {call}"] if call == ROOMY else []), "before", f">{self.start}", "after", "|", "|}", "", given(inputs))
+        self.given = given(inputs)
+        self.group(title, *([f"call {call}"] if call == ROOMY else []), "before", f">{self.start}", "after", "|", "|}", "", self.given)
 
     def done(self, body: str):
         """What a program prints, and what it needs."""

@@ -1,6 +1,6 @@
 """Warnings of a program that is accepted: what means something else here than whoever writes it may think.
 
-`^` is exclusive or and no power, and a number has no sign: it is never below 0, and always at least 0.
+`^` is exclusive or and no power, and a number of the type uint64 has no sign: it is never below 0, and always at least 0.
 """
 from __future__ import annotations
 
@@ -12,7 +12,7 @@ from .reading import lexer, parser, tree
 NEVER, ALWAYS = "is never true", "is always true"
 WITH_ZERO_ON_THE_RIGHT = {"<": NEVER, ">=": ALWAYS}
 WITH_ZERO_ON_THE_LEFT = {">": NEVER, "<=": ALWAYS}
-SIGNS = "numbers have no sign; to take one as signed see `negative` in docs/recipes.md, signs and thousandths"
+SIGNS = "numbers of the type uint64 have no sign; those of the type int64 have one, as `(int64) x`"
 
 
 @dataclass(frozen=True)

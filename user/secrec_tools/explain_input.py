@@ -126,16 +126,20 @@ def why_no_element(value, data: str) -> str:
     if data == "bool":
         return "truth values are `true` and `false`, without quotes"
     if isinstance(value, bool):
-        return "numbers and truth values don't stand in one array, and the type is uint64"
+        return f"numbers and truth values don't stand in one array, and the type is {data}"
     if isinstance(value, str):
         return "a number has no quotes"
-    if isinstance(value, float) and value < 0:
-        return "numbers are from 0 to 2^64 - 1: add so much to all of them that none is negative (`csv_to_input --add`)"
+    if data == "int64" and isinstance(value, (int, float)) and abs(value) >= WORD_END // 2:
+        return "numbers of the type int64 are from -2^63 to 2^63 - 1"
+    if data == "int64" and value == 0:
+        return "0 has no sign: write 0"
+    if isinstance(value, (int, float)) and value < 0 and data != "int64":
+        return 'numbers of the type uint64 are from 0 to 2^64 - 1: those with a sign have the type "int64"'
     if isinstance(value, float) and value >= WORD_END:
         return "numbers are below 2^64"
     if isinstance(value, float):
         return "numbers are whole, written in digits alone: count cents, not euros (`csv_to_input --scale`)"
-    return "numbers from 0 to 2^64 - 1 alone"
+    return "numbers of this type alone"
 
 
 def of_field(finding: Finding, path: str, data: bytes, number: int, name: str):
@@ -156,7 +160,7 @@ def of_field(finding: Finding, path: str, data: bytes, number: int, name: str):
     elif name == "name":
         finding.note(why_no_name(value, whole["inputs"][:number]))
     elif name in ("domain", "type"):
-        wanted = '"public" or "private"' if name == "domain" else '"uint64" or "bool"'
+        wanted = '"public" or "private"' if name == "domain" else '"uint64", "int64" or "bool"'
         finding.note(f"{title} has the {name} {shown(value)}, and in files it is {wanted}")
     elif name == "shape":
         finding.note(f'{title} has the shape {shown(value)}, and it is "scalar" or how many elements there are')

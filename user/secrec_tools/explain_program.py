@@ -18,14 +18,15 @@ STATEMENT = frozenset(["if", "while", "do", "for", "return", "assert", "{"])
 ITEMS = frozenset(["import", "kind", "domain", "template", "void"])
 GROUPS = (
     (STATEMENT | EXPRESSION | TYPES, "a statement"), (EXPRESSION, "an expression"), (OPERATORS, "an operator"), (STORES, "a store (`=`, `+=`, `++`, ..)"),
-    (TYPES, "an element type (`uint64`, `bool`)"), (ITEMS, "an import, a kind, a domain or a function"),
+    (TYPES, "an element type (`uint64`, `int64`, `bool`)"), (ITEMS, "an import, a kind, a domain or a function"),
 )
 TAKEN = {
-    "size": "an array", "cat": "two arrays of one element type", "sum": "an array of `uint64`", "bitExtract": "a `uint64` or an array of them",
+    "size": "an array", "cat": "two arrays of one element type", "sum": "an array of numbers", "bitExtract": "a `uint64` or an array of them",
+    "lookup": "an array of numbers and a `uint64` index or an array of them, of which one is private at least",
 }
 KINDS = {"NAME": "a name", "NUMBER": "a number", "STRING": "a string in quotes", "END": "the end of the program"}
 FOREIGN_TYPES = frozenset(
-    "int int8 int16 int32 int64 uint8 uint16 uint32 float float32 float64 double string char xor_uint8 xor_uint16 xor_uint32 xor_uint64 "
+    "int8 int16 int32 uint8 uint16 uint32 float float32 float64 double string char xor_uint8 xor_uint16 xor_uint32 xor_uint64 "
     "fix32 fix64 size_t unsigned long short struct const auto var let def function".split()
 )
 NO_SIGNS = {"'": "strings stand in `\"`", "#": "there is no preprocessor, and comments begin with `//`", "?": "there is no conditional expression"}
@@ -121,7 +122,8 @@ def of_tree(finding: Finding, path: str, text: bytes, at: int):
         finding.note(f"is a `;` missing at the end of line {line_before}?", spot_at(path, text, end))
     for token in (before, met):
         if token and token.kind is lexer.Kind.NAME and token.text in FOREIGN_TYPES:
-            finding.note(f"`{token.text}` isn't in this profile of SecreC: its element types are `uint64` (numbers from 0 to 2^64 - 1) and `bool`")
+            finding.note(f"`{token.text}` isn't in this profile of SecreC: its element types are `uint64` (numbers from 0 to 2^64 - 1), `int64` (from -2^63 to 2^63 - 1) and "
+                         "`bool`")
             break
     if met.text in ("break", "continue"):
         finding.note(f"`{met.text}` stands in no loop here")
@@ -283,7 +285,7 @@ class Tracer(checker.BodyChecker):
         found = super().call(call)
         functions = {**self.names.builtins, **self.names.functions}
         near = get_close_matches(call.name, functions, 1, 0.6)
-        if call.name in ("sum", "bitExtract") and call.name not in functions:
+        if call.name in ("sum", "bitExtract", "lookup") and call.name not in functions:
             self.add(1, call.place, f"`{call.name}` comes with `import {'stdlib' if call.name == 'sum' else 'shared3p'};`")
         elif call.name not in functions:
             self.add(1, call.place, f"no function `{call.name}` is there" + (f"; is `{near[0]}` meant?" if near else ""))

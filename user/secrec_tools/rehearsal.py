@@ -38,17 +38,17 @@ def read_inputs(paths: list[str]) -> list:
 
 def entry_of(one, words) -> dict:
     """An entry of an input file, with these words in place of its own."""
-    number = one.type.data is entries.Data.NUMBER
-    value = [word if number else bool(word) for word in words]
+    shown = {entries.Data.NUMBER: int, entries.Data.SIGNED: clear.signed, entries.Data.TRUTH: bool}[one.type.data]
+    value = [shown(word) for word in words]
     domain = "private" if one.type.private else "public"
-    return {"name": one.name, "domain": domain, "type": "uint64" if number else "bool", "value": value if one.type.array else value[0]}
+    return {"name": one.name, "domain": domain, "type": one.type.data.value, "value": value if one.type.array else value[0]}
 
 
 def made_up(inputs: list) -> str:
     """The text of an input file with the same public values, and drawn ones in place of the private, of which it tells the shapes alone."""
     found = []
     for one in inputs:
-        end = NUMBER_END if one.type.data is entries.Data.NUMBER else 2
+        end = NUMBER_END if one.type.data.is_number else 2
         found.append(entry_of(one, [secrets.randbelow(end) for _ in one.words] if one.type.private else one.words))
     return json.dumps({"inputs": found}, separators=(",", ":")) + "\n"
 

@@ -5,7 +5,7 @@ import json
 import re
 from dataclasses import dataclass, field
 
-NUMBER = re.compile(r"0|[1-9][0-9]{0,19}")
+NUMBER = re.compile(r"0|-?[1-9][0-9]{0,19}")
 WORD_END = 1 << 64
 TRUTHS = {"true": True, "false": False}
 MOST_BYTES = 1 << 28
@@ -47,7 +47,7 @@ class RunText:
 def element(word: str) -> Word:
     if word in TRUTHS:
         return TRUTHS[word]
-    if not NUMBER.fullmatch(word) or int(word) >= WORD_END:
+    if not NUMBER.fullmatch(word) or not -WORD_END // 2 <= int(word) < WORD_END:
         raise ValueError
     return int(word)
 

@@ -173,17 +173,26 @@ class Watched(clear.Evaluation):
 
     def operate(self, operator, left, right, node):
         result = super().operate(operator, left, right, node)
-        if left.type.data is not clear.Data.NUMBER:
+        if left.type.data is clear.Data.TRUTH:
             return result
+        left, right = with_signs(left), with_signs(right)
         size = len(result.words)
         pairs = list(zip(left.words if left.type.array else left.words * size, right.words if right.type.array else right.words * size))
         if operator in WIDE:
             return replace(result, words=self.computed(operator, pairs, node))
+        if left.type.data is clear.Data.SIGNED:
+            return replace(result, words=self.signed_words(operator, pairs, result.words, node))
         if operator in ORDERS:
             self.compared(operator, pairs, node)
         if operator in DIVISIONS:
             return replace(result, words=self.divided(operator, pairs, result.words, node))
         return result
+
+    def signed_words(self, operator, pairs, words, node) -> tuple[int, ...]:
+        """The words of a quotient, a rest or a comparison of numbers of a type with a sign: of quotients that of -2^63 by -1 alone wraps."""
+        wrong = [f"{-HALF} / -1 is {HALF}" for u, v in pairs if operator == "/" and (u, v) == (HALF, clear.MASK)]
+        self.add(Sort.OVERFLOW, node, len(pairs), wrong)
+        return words
 
     def computed(self, operator, pairs, node) -> tuple[int, ...]:
         """The words of a sum, a difference or a product."""
@@ -230,13 +239,20 @@ class Watched(clear.Evaluation):
             return super().call(node, frame)
         operand = self.expression(node.arguments[0], frame)
         self.charge(1)
-        words = operand.words
+        words = with_signs(operand).words
         result = Result(words, sum(map(int, words)), sum(map(with_sign, words)))
         word, sort = self.kept(result, node)
         if sort is not None:
             self.add(sort, node, 1, [f"the sum of {len(words)} elements is {result.sum_text()}"])
         number = self.making(lambda made: made.make(clear.Kind.SUM, (operand.number,), 1)) if operand.type.private else None
         return clear.Value(replace(operand.type, array=False), (word,), number)
+
+
+def with_signs(value: clear.Value) -> clear.Value:
+    """A value of a type with a sign has words that are known to have one."""
+    if value.type.data is not clear.Data.SIGNED:
+        return value
+    return replace(value, words=tuple(word if isinstance(word, Lost) else Signed(word) for word in value.words))
 
 
 def has_sign(u: int, v: int) -> bool:

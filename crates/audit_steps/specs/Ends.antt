@@ -16,6 +16,7 @@ use Rattle.audit_steps.specs.Places.{one_later}
 
 abbrev pub same_element : Element → Element → Bool
 same_element (elements.Word n) (elements.Word m) = n == m
+same_element (elements.Negative n) (elements.Negative m) = n == m
 same_element (elements.Truth true) (elements.Truth true) = true
 same_element (elements.Truth false) (elements.Truth false) = true
 same_element _ _ = false

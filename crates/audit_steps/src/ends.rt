@@ -10,6 +10,7 @@ fn same_element(element: Element, other: Element) -> bool
 {
     match (element, other) {
         (Element::Word(word), Element::Word(same)) => word == same,
+        (Element::Negative(below), Element::Negative(same)) => below == same,
         (Element::Truth(truth), Element::Truth(same)) => truth == same,
         _ => false,
     }

@@ -240,9 +240,9 @@ same_classified op {x = x} {y' = y'} l m =
 -- elements of one kind are alike, whatever their words
 same_kind : (e : DataType) (x y : ℕ) → is_truth (element_of e x) ≡ is_truth (element_of e y)
 same_kind Uint64 x y = refl
-same_kind Int64 x y = no_truth (nat_lt x (2 ^ 63)) x ∙ sym (no_truth (nat_lt y (2 ^ 63)) y)
+same_kind Int64 x y = no_truth (nat_le (2 ^ 63) x && nat_lt x (2 ^ 64)) x ∙ sym (no_truth (nat_le (2 ^ 63) y && nat_lt y (2 ^ 64)) y)
   where
-    no_truth : (b : Bool) (z : ℕ) → is_truth (cond b (Word z) (Negative (2 ^ 64 - z))) ≡ false
+    no_truth : (b : Bool) (z : ℕ) → is_truth (cond b (Negative (2 ^ 64 - z)) (Word z)) ≡ false
     no_truth true z = refl
     no_truth false z = refl
 same_kind datatype.Bool x y = refl
@@ -443,7 +443,7 @@ module _ (o : Offered) where
       let e = ap (λ n. 64 * n) (like_size l) in
       any_bind (charged_alike (too_large_alike line e) e) (λ _ _. bits_from_alike l)
 
-  looked_up_alike : (line : ℕ) {a a' i i' : Value} → LikeValues a a' → LikeValues i i' → Alike LikeValues (looked_up clear line a i) (looked_up unseen line a' i')
+  pub looked_up_alike : (line : ℕ) {a a' i i' : Value} → LikeValues a a' → LikeValues i i' → Alike LikeValues (looked_up clear line a i) (looked_up unseen line a' i')
   looked_up_alike line {a = a} {a' = a'} {i = i} {i' = i'} l m =
       let e : size a * size i ≡ size a' * size i' = ap (λ n. n * size i) (like_size l) ∙ ap (λ n. size a' * n) (like_size m) in
       any_bind (charged_alike (too_large_alike line e) e) (λ _ _. any_bind (draws (ap words_for_lookup e)) (λ _ _.

@@ -20,6 +20,7 @@ use Rattle.carried_shares.specs.Carrying.{Kept, IsShared, AllShared, carried_ent
 
 laws_for : (d : DataType) → RingLaws (ring_of d)
 laws_for data_type.Uint64 = add_ring_laws
+laws_for data_type.Int64 = add_ring_laws
 laws_for data_type.Bool = xor_ring_laws
 
 zero_less : (n : ℕ) → 0 < suc n

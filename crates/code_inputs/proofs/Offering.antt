@@ -11,7 +11,7 @@ use Rattle.value_file.specs.declared.value.DataType.TheVariants as kind
 use Rattle.value_file.specs.declared.value.Domain.{Domain}
 use Rattle.value_file.specs.declared.value.Domain.TheVariants as domain
 use Rattle.value_file.specs.declared.value.Value as file
-use Rattle.value_file.specs.declared.value.Value.TheVariants.{Number as One, Truth, Numbers, Truths}
+use Rattle.value_file.specs.declared.value.Value.TheVariants.{Number as One, Integer, Truth, Numbers, Integers, Truths}
 use Rattle.value_file.specs.declared.inputs.Entry.{Entry}
 use Rattle.value_file.specs.Input.{AreEntries, name_of, elements_of as count_in}
 use Rattle.value_file.specs.Values.{type_of, count_of}
@@ -59,22 +59,28 @@ bits_below (b ∷ bs) = below_cons 2 (bit_word b) (map bit_word bs) (bit_below b
 
 in_range : (v : file.Value) → All (λ n. n < 2 ^ 64) (elements_of v) → InRange (element_given (type_of v)) (elements_of v)
 in_range (One n) h = numbers_below (n ∷ []) h
+in_range (Integer x) h = numbers_below (x ∷ []) h
 in_range (Truth b) h = one_below 2 (bit_word b) (bit_below b)
 in_range (Numbers ns) h = numbers_below ns h
+in_range (Integers xs) h = numbers_below xs h
 in_range (Truths bs) h = bits_below bs
 
 single : (v : file.Value) → is_array v ≡ false → length (elements_of v) ≡ 1
 single (One n) e = refl
+single (Integer x) e = refl
 single (Truth b) e = refl
 single (Numbers ns) e = absurd (clash refl e)
+single (Integers xs) e = absurd (clash refl e)
 single (Truths bs) e = absurd (clash refl e)
 
 ring_given : (t : told.DataType) → ring_for (element_given t) ≡ ring_kind t
 ring_given kind.Uint64 = refl
+ring_given kind.Int64 = refl
 ring_given kind.Bool = refl
 
 shared_given : (t : told.DataType) (elements : List ℕ) → shared_as t elements ≡ gate_words (element_given t) elements
 shared_given kind.Uint64 elements = refl
+shared_given kind.Int64 elements = refl
 shared_given kind.Bool elements = refl
 
 -- ---- WHAT IS OFFERED

@@ -8,7 +8,7 @@ use Rattle.program_trees.specs.declared.kinds.Shape.{Shape}
 use Rattle.program_trees.specs.Shapes.{shape_of}
 use Rattle.value_file.specs.declared.value.Domain.TheVariants.{Public, Private}
 use Rattle.value_file.specs.declared.value.Value.{Value}
-use Rattle.value_file.specs.declared.value.Value.TheVariants.{Number, Truth, Numbers, Truths}
+use Rattle.value_file.specs.declared.value.Value.TheVariants.{Number, Integer, Truth, Numbers, Integers, Truths}
 use Rattle.value_file.specs.declared.inputs.Entry.{Entry}
 use Rattle.value_file.specs.Input.{new_name, AreInputs}
 use Rattle.value_file.specs.Values.{type_of}
@@ -27,14 +27,18 @@ use Rattle.code_inputs.proofs.Offering.{are_dealt, are_offered}
 
 abbrev shape_given : Value → Shape
 shape_given (Number n) = shape_of datatype.Uint64 false
+shape_given (Integer x) = shape_of datatype.Int64 false
 shape_given (Truth b) = shape_of datatype.Bool false
 shape_given (Numbers ns) = shape_of datatype.Uint64 true
+shape_given (Integers xs) = shape_of datatype.Int64 true
 shape_given (Truths bs) = shape_of datatype.Bool true
 
 abbrev words_given : Value → List ℕ
 words_given (Number n) = n ∷ []
+words_given (Integer x) = x ∷ []
 words_given (Truth b) = truth_word b ∷ []
 words_given (Numbers ns) = ns
+words_given (Integers xs) = xs
 words_given (Truths bs) = map truth_word bs
 
 abbrev input_given : Entry → GivenInput
@@ -50,8 +54,10 @@ same_truths (b ∷ bs) = ap (λ x. x ∷ map truth_word bs) (same_truth b) ∙ a
 
 given_of : (v : Value) → (shape_given v ≡ shape_of (element_given (type_of v)) (is_array v)) × (words_given v ≡ elements_of v)
 given_of (Number n) = (refl, refl)
+given_of (Integer x) = (refl, refl)
 given_of (Truth b) = (refl, ap (λ x. x ∷ []) (same_truth b))
 given_of (Numbers ns) = (refl, refl)
+given_of (Integers xs) = (refl, refl)
 given_of (Truths bs) = (refl, same_truths bs)
 
 given_so : (es : List Entry) → AreGivenAs es (map input_given es)

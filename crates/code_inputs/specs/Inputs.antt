@@ -8,7 +8,7 @@ use Rattle.value_file.specs.declared.value.DataType.TheVariants as kind
 use Rattle.value_file.specs.declared.value.Domain.{Domain}
 use Rattle.value_file.specs.declared.value.Domain.TheVariants.{Public, Private}
 use Rattle.value_file.specs.declared.value.Value.{Value}
-use Rattle.value_file.specs.declared.value.Value.TheVariants.{Number, Truth, Numbers, Truths}
+use Rattle.value_file.specs.declared.value.Value.TheVariants.{Number, Integer, Truth, Numbers, Integers, Truths}
 use Rattle.value_file.specs.declared.inputs.Entry.{Entry}
 use Rattle.value_file.specs.Input.{AreInputs}
 use Rattle.value_file.specs.Values.{type_of}
@@ -25,12 +25,15 @@ use Rattle.gate_laws.specs.Dealt.{Dealt}
 
 abbrev pub element_given : told.DataType → DataType
 element_given kind.Uint64 = datatype.Uint64
+element_given kind.Int64 = datatype.Int64
 element_given kind.Bool = datatype.Bool
 
 abbrev pub is_array : Value → Bool
 is_array (Number n) = false
+is_array (Integer x) = false
 is_array (Truth b) = false
 is_array (Numbers ns) = true
+is_array (Integers xs) = true
 is_array (Truths bs) = true
 
 abbrev pub is_private : Domain → Bool

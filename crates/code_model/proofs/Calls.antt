@@ -78,7 +78,7 @@ module _ (w : World) (p : List Function) (number : Numbers) (fs : List TypedFunc
         e0 = omega (arith, statements_length number pl f.body (first_free f.slots) finish finish 0 0 0 0)
 
         last : Step
-        last = last_step f.given (first_free f.slots + 8 * statements_depth f.body)
+        last = last_step f.given (first_free f.slots + 12 * statements_depth f.body)
 
         code : List Step
         code = cs ++ last ∷ []
@@ -109,7 +109,7 @@ module _ (w : World) (p : List Function) (number : Numbers) (fs : List TypedFunc
 
         -- it falls off its end only where nothing is given back
         falls_step : (g : Returned) → (gives_value g ≡ true → one_returns f.body ≡ true) → one_returns f.body ≡ false → (m1 : Machine) (s : Stage)
-            → step w p (Some (last_step g (first_free f.slots + 8 * statements_depth f.body))) m1 s ≡ resume m1.stack nothing s
+            → step w p (Some (last_step g (first_free f.slots + 12 * statements_depth f.body))) m1 s ≡ resume m1.stack nothing s
         falls_step given.Nothing r h m1 s = refl
         falls_step (given.Value x) r h m1 s = absurd (clash (sym h ∙ r refl))
 

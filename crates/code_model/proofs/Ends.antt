@@ -11,13 +11,13 @@ use Rattle.blind_evaluation.specs.Values.{Value, size}
 use Rattle.blind_evaluation.specs.Operations as row
 use Rattle.blind_evaluation.specs.Evaluation.{nothing, array_elements, either, asked_for, input_named}
 use Rattle.blind_evaluation.proofs.Onward.{onward_charge}
-use Rattle.verified_code.specs.Steps.{kind_shape, Step, Literal, Move, Store, Binary, Not, Cast, Classify, Fill, At, Put, Size, Cat, Sum, Bits, Declassify}
+use Rattle.verified_code.specs.Steps.{kind_shape, Step, Literal, Move, Store, Binary, Not, Cast, Classify, Fill, At, Put, Size, Cat, Sum, Bits, Lookup, Declassify}
 use Rattle.verified_code.specs.Steps.{Argument, Publish, Assert, Branch, Jump, Call, Return, ReturnNone, Function}
 use Rattle.code_model.specs.Machine.{Caller, Machine, at, next, values_at, steps_of, entering, limit, resume, same_truth, step, further, exec, start}
 use Rattle.code_model.specs.Meaning.{longest, fuel, stopped_or, IsForward, AreForward}
 use Rattle.code_model.proofs.Gives.{GivesAt, Gives, Any, gives_done, gives_any, charge_gives, class_gives, declassified_gives, operated_gives, negated_gives}
 use Rattle.code_model.proofs.Gives.{cast_gives, summed_gives, bits_gives, concatenated_gives, element_gives, with_element_gives, filled_gives, size_gives}
-use Rattle.code_model.proofs.Gives.{asked_gives, published_gives, asserted_gives}
+use Rattle.code_model.proofs.Gives.{looked_up_gives, asked_gives, published_gives, asserted_gives}
 use Rattle.code_model.proofs.Loops.{test_paid}
 
 -- ---- WHAT A BUDGET IS WORTH
@@ -177,6 +177,7 @@ module _ (w : World) (p : List Function) (fine : AreForward p) where
       act (Cat line d x y) e b = sets d (row.concatenated line (m.registers x) (m.registers y)) (concatenated_gives w line (m.registers x) (m.registers y)) b
       act (Sum d r) e b = sets d (row.summed (m.registers r)) (summed_gives w (m.registers r)) b
       act (Bits line d r) e b = sets d (row.bits_extracted w line (m.registers r)) (bits_gives w line (m.registers r)) b
+      act (Lookup line d a i) e b = sets d (row.looked_up w line (m.registers a) (m.registers i)) (looked_up_gives w line (m.registers a) (m.registers i)) b
       act (Declassify d r) e b = sets d (row.declassified w (m.registers r)) (declassified_gives w (m.registers r)) b
       act (Argument line kind text d) e b = sets d (asked_for kind.secret (kind_shape kind) line (input_named w text))
           (asked_gives w kind.secret (kind_shape kind) line (input_named w text)) b

@@ -3,7 +3,7 @@ use Rattle.std.proofs.Common.{◌≡◌, ℕ, zero, suc, ◌+◌, ◌<◌, List,
 use Rattle.std.proofs.Common.{arith}
 use Rattle.std.specs.Prelude.{slice_get, map}
 use Rattle.program_trees.specs.declared.expression.DataType.{DataType}
-use Rattle.program_trees.specs.declared.expression.DataType.TheVariants.{Uint64}
+use Rattle.program_trees.specs.declared.expression.DataType.TheVariants.{Uint64, Int64}
 use Rattle.program_trees.specs.declared.expression.DataType.TheVariants as datatype
 use Rattle.program_trees.specs.declared.kinds.Shape.{Shape}
 use Rattle.program_trees.specs.declared.kinds.Slot.{Slot}
@@ -60,6 +60,8 @@ default_at s rest = go s.element s.array
         (record { element = e; array = a })
     go Uint64 false = refl
     go Uint64 true = refl
+    go Int64 false = refl
+    go Int64 true = refl
     go datatype.Bool false = refl
     go datatype.Bool true = refl
 

@@ -6,7 +6,7 @@ use Rattle.program_trees.specs.declared.expression.DataType.TheVariants.{Uint64}
 use Rattle.program_trees.specs.declared.expression.DataType.TheVariants as datatype
 use Rattle.program_trees.specs.declared.kinds.Slot.{Slot}
 use Rattle.program_trees.specs.Shapes.{shape_of}
-use Rattle.program_trees.specs.TypedTree.{TypedTree, TypedTrees, word_node, truth_node, slot_node, call_node, size_node, cat_node, sum_node, bits_node, element_node}
+use Rattle.program_trees.specs.TypedTree.{TypedTree, TypedTrees, word_node, truth_node, slot_node, call_node, size_node, cat_node, sum_node, bits_node, lookup_node, element_node}
 use Rattle.program_trees.specs.TypedTree.{not_node, cast_node, binary_node, cut_node, declassify_node}
 use Rattle.program_trees.specs.TypedTree as Tree'
 use Rattle.program_trees.specs.TypedPrograms.{TypedFunctionTree}
@@ -18,7 +18,7 @@ use Rattle.blind_evaluation.specs.Words.{truth_word}
 use Rattle.blind_evaluation.specs.Operations as row
 use Rattle.blind_evaluation.specs.Evaluation.{Frame, Calls, is_private, gives_private, slots_of, bound_at, next_is_private}
 use Rattle.blind_evaluation.specs.Evaluation.{truth_value, value, arguments}
-use Rattle.verified_code.specs.Steps.{Literal, Not, Cast, Size, Sum, Bits, Declassify, Call, Function}
+use Rattle.verified_code.specs.Steps.{Literal, Not, Cast, Size, Sum, Bits, Lookup, Declassify, Call, Function}
 use Rattle.code_model.specs.Machine.{Machine, next, received, values_at, limit}
 use Rattle.bytecode.specs.declared.kind.Kind.{Kind}
 use Rattle.code_model.specs.Kinds.{kind_in, private_kind_in, in_row}
@@ -30,7 +30,7 @@ use Rattle.code_model.proofs.Follows.{Runs, runs_bind, runs_done, runs_more, ins
 use Rattle.code_model.proofs.Near.{Near, near_on, near_less, near_set, row_from, Landed, Read, read_own, below_free, Ready, ready_front, ready_back, ready_at}
 use Rattle.code_model.proofs.Near.{ready_step, near_wanting}
 use Rattle.code_model.proofs.Near.{ready_classify, ready_wanting, wanting_runs}
-use Rattle.code_model.proofs.Operands.{picked_below, Evaluates, unary_runs, element_runs, binary_runs, cat_runs}
+use Rattle.code_model.proofs.Operands.{picked_below, Evaluates, unary_runs, element_runs, lookup_runs, binary_runs, cat_runs}
 use Rattle.code_model.proofs.Cut.{cut_runs}
 
 -- ---- CALLS
@@ -163,6 +163,9 @@ module _ (w : World) (p : List Function) (number : Numbers) (fs : List TypedFunc
           own_runs (kind_in here (bits_node line e)) (unary_runs w p number calls d here e t (own_at here (bits_node line e) t) pc fr m (Bits line (own_at here (bits_node line e) t)) (row.bits_extracted w line) (gives_private here e)
           (row_from t (kind_in here (bits_node line e))) (expression_runs here hf e fit) (λ i x m1 s q. ap (λ z. carry (row.bits_extracted w line z s) (λ v. done (next (own_at here (bits_node line e) t) v m1))) q)
           (λ x q. subst (λ z. Gives (row.bits_extracted w line x) (IsSecret z)) q (bits_gives w line x)) r)
+      expression_runs here hf (lookup_node line a i) fit t pc fr m r =
+          own_runs (kind_in here (lookup_node line a i)) (lookup_runs w p number calls d here a i t pc line fr m
+          (expression_runs here hf a fit.0) (expression_runs here hf i fit.1) fit.2 r)
       expression_runs here hf (element_node line a i) fit t pc fr m r =
           own_runs (kind_in here (element_node line a i)) (element_runs w p number calls d here a i t pc line fr m
           (expression_runs here hf a fit.0) (expression_runs here hf i fit.1) r)

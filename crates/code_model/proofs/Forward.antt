@@ -10,7 +10,7 @@ use Rattle.program_trees.specs.declared.operators.BinaryOperator.TheVariants as 
 use Rattle.program_trees.specs.declared.operators.Operands.{Operands}
 use Rattle.program_trees.specs.declared.operators.Operands.TheVariants.{Scalars}
 use Rattle.program_trees.specs.declared.operators.Connective.{Connective}
-use Rattle.program_trees.specs.TypedTree.{TypedTree, TypedTrees, word_node, truth_node, slot_node, call_node, size_node, cat_node, sum_node, bits_node, element_node}
+use Rattle.program_trees.specs.TypedTree.{TypedTree, TypedTrees, word_node, truth_node, slot_node, call_node, size_node, cat_node, sum_node, bits_node, lookup_node, element_node}
 use Rattle.program_trees.specs.TypedTree.{not_node, cast_node, binary_node, cut_node, declassify_node}
 use Rattle.program_trees.specs.TypedTree as Tree'
 use Rattle.program_trees.specs.TypedStatements.{TypedStatementTree, TypedStatementTrees, empty_statement, block_statement, if_statement, loop_statement, do_statement}
@@ -28,7 +28,7 @@ use Rattle.blind_evaluation.specs.Evaluation.{StatementContext, gives_private, s
 use Rattle.blind_evaluation.specs.Evaluation.{behind_next, connective}
 use Rattle.blind_evaluation.specs.Evaluation.{either, place_in}
 use Rattle.verified_code.specs.Steps.{Step, Literal, Move, Store, Fill, Put, Return, Branch, Jump, Function}
-use Rattle.code_model.specs.Expressions.{Numbers, classifying, lacks, mixes, binary_code, cat_code, element_code, deciding, settling, cut_code}
+use Rattle.code_model.specs.Expressions.{Numbers, classifying, lacks, mixes, binary_code, cat_code, lookup_code, element_code, deciding, settling, cut_code}
 use Rattle.code_model.specs.Expressions.{classified_at, stands_at, next_row, expression_code, arguments_code, unread_code}
 use Rattle.code_model.specs.Statements.{shape_number, first_free, statements_depth, behind_classifying, statement_code, statements_code}
 use Rattle.code_model.specs.Programs.{last_step, function_code, body_end, code_of_found, instance_code, numbers_in, code_of}
@@ -76,6 +76,12 @@ cat_on d m n v u pc line l r a b h k =
     both_on pc a _ h (both_on (pc + length a) (classifying l m v) _ (classifying_on l m v _)
     (both_on pb (b pb) _ (k pb) (both_on _ (classifying r n u) _ (classifying_on r n u _) (tt, tt))))
 
+lookup_on : (d m n v u pc line : ℕ) (l r : Bool) (a : List Step) (b : ℕ → List Step) → GoOn pc a → GoOnAll b → GoOn pc (lookup_code d m n v u pc line l r a b)
+lookup_on d m n v u pc line l r a b h k =
+    both_on pc a _ h (both_on (pc + length a) (b (pc + length a)) _ (k (pc + length a))
+    (both_on _ (classifying l m v) _ (classifying_on l m v _)
+    (both_on _ (classifying r n u) _ (classifying_on r n u _) (tt, tt))))
+
 element_on : (t v u pc line : ℕ) (a : List Step) (b : ℕ → List Step) → GoOn pc a → GoOnAll b → GoOn pc (element_code t v u pc line a b)
 element_on t v u pc line a b h k = both_on pc a _ h (both_on (pc + length a) (b (pc + length a)) _ (k (pc + length a)) (tt, tt))
 
@@ -108,6 +114,9 @@ module _ (number : Numbers) where
         (λ q. expression_on here b (next_row t) q)
     expression_on here (sum_node e) t pc = both_on pc _ _ (expression_on here e t pc) (tt, tt)
     expression_on here (bits_node line e) t pc = both_on pc _ _ (expression_on here e t pc) (tt, tt)
+    expression_on here (lookup_node line a i) t pc =
+        lookup_on _ _ _ _ _ pc line (lacks true (gives_private here a)) (lacks true (gives_private here i)) _ _ (expression_on here a t pc)
+        (λ q. expression_on here i (next_row t) q)
     expression_on here (element_node line a i) t pc = element_on _ _ _ pc line _ _ (expression_on here a t pc)
         (λ q. expression_on here i (next_row t) q)
     expression_on here (not_node e) t pc = both_on pc _ _ (expression_on here e t pc) (tt, tt)
@@ -142,6 +151,7 @@ module _ (number : Numbers) where
   unread_on here (cat_node line a b) t pc = expression_on here (cat_node line a b) t pc
   unread_on here (sum_node e) t pc = expression_on here (sum_node e) t pc
   unread_on here (bits_node line e) t pc = expression_on here (bits_node line e) t pc
+  unread_on here (lookup_node line a i) t pc = expression_on here (lookup_node line a i) t pc
   unread_on here (element_node line a i) t pc = expression_on here (element_node line a i) t pc
   unread_on here (not_node e) t pc = expression_on here (not_node e) t pc
   unread_on here (cast_node c e) t pc = expression_on here (cast_node c e) t pc
@@ -263,11 +273,11 @@ function_forward number fs f b pc target e =
     let t = first_free f.slots in
     let finish = body_end number fs f b in
     let cs = statements_code number pl t finish finish 0 f.body in
-    let last = last_step f.given (t + 8 * statements_depth f.body) in
+    let last = last_step f.given (t + 12 * statements_depth f.body) in
     let e0 : finish ≡ 0 + length cs = omega (arith, statements_length number pl f.body t finish finish 0 0 0 0) in
     let r : 0 + pc < target = jump_at (cs ++ last ∷ []) 0 pc target
     (both_on 0 cs (last ∷ []) (statements_on number pl f.body t finish finish 0 (omega (arith, e0)) (omega (arith, e0)))
-    (last_on f.given (t + 8 * statements_depth f.body) _, tt)) e in
+    (last_on f.given (t + 12 * statements_depth f.body) _, tt)) e in
     omega (arith, r)
 
 instance_forward : (fs : List TypedFunctionTree) (number : Numbers) (i : Instance) → IsForward (instance_code fs number i).steps

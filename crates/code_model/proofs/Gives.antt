@@ -2,7 +2,8 @@
 use Rattle.std.proofs.Common.{◌≡◌, ℕ, ◌+◌, ◌*◌, ◌≤◌, List, Option, Some, None, Bool, true, false, not, ◌&&◌, ◌||◌, Ok, Err, refl, ap}
 use Rattle.std.proofs.Common.{arith}
 use Rattle.std.specs.Prelude.{length, map}
-use Rattle.program_trees.specs.declared.expression.DataType.TheVariants.{Uint64}
+use Rattle.program_trees.specs.declared.expression.DataType.{DataType}
+use Rattle.program_trees.specs.declared.expression.DataType.TheVariants.{Uint64, Int64}
 use Rattle.sc_text.specs.declared.end.Ending.{Ending}
 use Rattle.sc_text.specs.declared.end.TrapKind.TheVariants as trap
 use Rattle.sc_text.specs.declared.event.Event.TheVariants as event
@@ -10,8 +11,8 @@ use Rattle.program_trees.specs.declared.kinds.Shape.{Shape}
 use Rattle.program_trees.specs.declared.operators.BinaryOperator.{BinaryOperator}
 use Rattle.program_trees.specs.declared.operators.Operands.{Operands}
 use Rattle.program_trees.specs.declared.operators.Cast.{Cast}
-use Rattle.program_trees.specs.declared.operators.Cast.TheVariants.{WordToWord, WordToBool, BoolToWord, BoolToBool}
 use Rattle.blind_evaluation.specs.BitExtract.{bits_plan}
+use Rattle.blind_evaluation.specs.Lookup.{looked, lookup_plan}
 use Rattle.gates.specs.Clear.{bits_of}
 use Rattle.std.specs.List.{flat_map}
 use Rattle.program_trees.specs.Shapes.{shape_of}
@@ -22,8 +23,8 @@ use Rattle.blind_evaluation.specs.Words as W
 use Rattle.blind_evaluation.specs.Operations.{charged, no_traps, operator_traps, result_shape, is_scalar_left}
 use Rattle.blind_evaluation.specs.Operations.{is_scalar_right, words_of_operator, classified_from, classified, made_private, wanted, opened_from, revealed}
 use Rattle.blind_evaluation.specs.Operations.{read_answer, declassified, private_result, product_with, combined_from, operated, negated_from, negated}
-use Rattle.blind_evaluation.specs.Operations.{size_told, element_from, element_of_array, position, words_for_bits, changed, cast_from, cast_to, summed_from}
-use Rattle.blind_evaluation.specs.Operations.{summed, not_too_large, bits_from, bits_extracted, concatenated_from, concatenated, with_element_from}
+use Rattle.blind_evaluation.specs.Operations.{size_told, element_from, element_of_array, position, words_for_bits, words_for_lookup, changed, converted, cast_from, cast_to, summed_from}
+use Rattle.blind_evaluation.specs.Operations.{summed, not_too_large, bits_from, bits_extracted, looked_up, concatenated_from, concatenated, with_element_from}
 use Rattle.blind_evaluation.specs.Operations.{with_element}
 use Rattle.blind_evaluation.specs.Operations.{filled_from, filled, tested, published, asserted}
 use Rattle.blind_evaluation.specs.Evaluation.{given_value, asked_for, is_as_declared}
@@ -184,18 +185,25 @@ module _ (w : World) where
   unfolding is_onward
   changed_gives c x =
       gives_after w (onward_draw w _) (λ _. gives_after w (walk.number_holds w w (is_onward w) law x)
-      (λ u. gives_after w (walk.cast_gates_hold w w (is_onward w) law c (size x) u) (λ r. made_gives _ _ r)))
+      (λ u. gives_after w (walk.gates_between_hold w w (is_onward w) law c.given c.wanted (size x) u) (λ r. made_gives _ _ r)))
 
-  cast_from_gives : (a : Secrecy) (c : Cast) (x : Value) → x.secrecy ≡ a → Gives (cast_from w a c x) (IsSecret (is_secret a))
-  cast_from_gives a WordToWord x e = gives_done (ap is_secret e)
-  cast_from_gives a BoolToBool x e = gives_done (ap is_secret e)
-  cast_from_gives Plain WordToBool x e = plain_gives _ _
-  cast_from_gives Plain BoolToWord x e = plain_gives _ _
-  cast_from_gives (Private k) WordToBool x e = changed_gives WordToBool x
-  cast_from_gives (Private k) BoolToWord x e = changed_gives BoolToWord x
+  converted_gives : (a : Secrecy) (c : Cast) (x : Value) → Gives (converted w a c x) (IsSecret (is_secret a))
+  converted_gives Plain c x = plain_gives _ _
+  converted_gives (Private k) c x = changed_gives c x
+
+  cast_from_gives : (given wanted : DataType) (c : Cast) (x : Value) → Gives (cast_from given wanted w c x) (IsSecret (is_secret x.secrecy))
+  cast_from_gives Uint64 Uint64 c x = gives_done refl
+  cast_from_gives Uint64 Int64 c x = gives_done refl
+  cast_from_gives Uint64 datatype.Bool c x = converted_gives x.secrecy c x
+  cast_from_gives Int64 Uint64 c x = gives_done refl
+  cast_from_gives Int64 Int64 c x = gives_done refl
+  cast_from_gives Int64 datatype.Bool c x = converted_gives x.secrecy c x
+  cast_from_gives datatype.Bool Uint64 c x = converted_gives x.secrecy c x
+  cast_from_gives datatype.Bool Int64 c x = converted_gives x.secrecy c x
+  cast_from_gives datatype.Bool datatype.Bool c x = gives_done refl
 
   pub cast_gives : (c : Cast) (x : Value) → Gives (cast_to w c x) (IsSecret (is_secret x.secrecy))
-  cast_gives c x = gives_after w (plain_charge (size x)) (λ _. cast_from_gives x.secrecy c x refl)
+  cast_gives c x = gives_after w (plain_charge (size x)) (λ _. cast_from_gives c.given c.wanted c x)
 
   summed_from_gives : (a : Secrecy) (x : Value) → Gives (summed_from a x) (IsSecret (is_secret a))
   unfolding is_onward
@@ -220,6 +228,15 @@ module _ (w : World) where
   unfolding is_onward
   bits_gives line x = gives_after w (charged_on (not_too_large line (64 * size x)) (64 * size x) (large_on line (64 * size x)))
       (λ _. bits_from_gives x.secrecy x)
+
+  pub looked_up_gives : (line : ℕ) (a i : Value) → Gives (looked_up w line a i) (IsSecret true)
+  unfolding is_onward
+  looked_up_gives line a i =
+      let n = size a * size i in
+      gives_after w (charged_on (not_too_large line n) n (large_on line n)) (λ _. gives_after w (onward_draw w (words_for_lookup n))
+      (λ _. gives_after w (walk.number_holds w w (is_onward w) law a) (λ u. gives_after w (walk.number_holds w w (is_onward w) law i)
+      (λ v. gives_after w (walk.planned_holds w w (is_onward w) law (λ first. lookup_plan first u v (size a) (size i)))
+      (λ r. made_gives (shape_of a.shape.element i.shape.array) (looked a.words i.words) r)))))
 
   catenated_gives : (x y : Value) → Gives (concatenated_from (Private None) Plain x y) (IsSecret true)
   unfolding is_onward

@@ -7,7 +7,6 @@ use Rattle.program_trees.specs.declared.kinds.Shape.{Shape}
 use Rattle.program_trees.specs.declared.operators.BinaryOperator.{BinaryOperator}
 use Rattle.program_trees.specs.declared.operators.Operands.{Operands}
 use Rattle.program_trees.specs.declared.operators.Cast as casts
-use Rattle.program_trees.specs.declared.operators.Cast.TheVariants.{WordToWord, WordToBool, BoolToWord, BoolToBool}
 use Rattle.program_trees.specs.Shapes.{shape_of}
 use Rattle.blind_evaluation.specs.Effects.{World}
 use Rattle.blind_evaluation.specs.Values.{Value, is_secret}
@@ -15,13 +14,14 @@ use Rattle.blind_evaluation.specs.Operations as row
 use Rattle.blind_evaluation.specs.Evaluation.{input_named, asked_for}
 use Rattle.bytecode.specs.declared.kind.Kind.{Kind}
 use Rattle.verified_code.specs.Steps.{kind_shape}
+use Rattle.verified_code.specs.Fitting.{looked_up_of}
 use Rattle.code_model.specs.Kinds.{kind_of}
 use Rattle.code_model.specs.Kinded.{IsOf, AreSingle, with_secret, with_array, public_scalar, cast_source, cast_target, left_array, right_array}
 use Rattle.code_model.proofs.Gives.{IsSecret, class_gives, operated_gives, negated_gives, cast_gives, summed_gives, bits_gives, concatenated_gives}
-use Rattle.code_model.proofs.Gives.{element_gives, with_element_gives, filled_gives, size_gives, declassified_gives, asked_gives}
+use Rattle.code_model.proofs.Gives.{looked_up_gives, element_gives, with_element_gives, filled_gives, size_gives, declassified_gives, asked_gives}
 use Rattle.code_model.proofs.Makes.{Makes, makes_of, makes_both}
 use Rattle.code_model.proofs.ShapeRows.{IsShaped, input_there, operated_makes, negated_makes, cast_makes, classified_makes}
-use Rattle.code_model.proofs.ShapeRows.{filled_makes, element_makes, with_element_makes, size_makes, summed_makes, bits_makes, concatenated_makes}
+use Rattle.code_model.proofs.ShapeRows.{filled_makes, element_makes, with_element_makes, size_makes, summed_makes, bits_makes, looked_up_makes, concatenated_makes}
 use Rattle.code_model.proofs.ShapeRows.{declassified_makes, asked_makes}
 
 shape_array : (k : Kind) (v : Value) → IsOf k v → v.shape.array ≡ k.array
@@ -37,12 +37,6 @@ singled k v h e = h.single (sym (shape_array k v h) ∙ e)
 -- secrecy and shape make a kind
 kinded : (k : Kind) (shape : Shape) (v : Value) → IsSecret k.secret v → IsShaped shape v → shape ≡ kind_shape k → IsOf k v
 kinded k shape v q h e = record { secret = q; shape = h.same ∙ e; single = λ a. h.single (ap (λ z. z.array) e ∙ a) }
-
-cast_shape_same : (c : casts.Cast) (a : Bool) → row.cast_shape c a ≡ shape_of (cast_target c) a
-cast_shape_same WordToWord a = refl
-cast_shape_same WordToBool a = refl
-cast_shape_same BoolToWord a = refl
-cast_shape_same BoolToBool a = refl
 
 same_twice : (b : Bool) → (b || b) ≡ b
 same_twice true = refl
@@ -66,7 +60,7 @@ module _ (w : World) where
       let source : Kind = record { secret = b; element = cast_source c; array = a } in
       let target : Kind = record { secret = b; element = cast_target c; array = a } in
       makes_both (IsOf target) (makes_of (cast_gives w c x)) (cast_makes w c x (shape_element source x h) (singled source x h))
-      (λ v p q. kinded target (row.cast_shape c x.shape.array) v (p ∙ h.secret) q (ap (row.cast_shape c) (shape_array source x h) ∙ cast_shape_same c a))
+      (λ v p q. kinded target (row.cast_shape c x.shape.array) v (p ∙ h.secret) q (ap (row.cast_shape c) (shape_array source x h)))
 
   pub classified_kind : (k : Kind) (x : Value) → IsOf k x → Makes (row.classified x) (IsOf (with_secret true k))
   classified_kind k x h = makes_both (IsOf (with_secret true k)) (makes_of (class_gives w x)) (classified_makes w x (singled k x h))
@@ -96,10 +90,10 @@ module _ (w : World) where
       makes_both (IsOf k) (makes_of (concatenated_gives w line x y)) (concatenated_makes w line x y (shape_array k x h ∙ e))
       (λ v p q. kinded k x.shape v (p ∙ ap (λ z. z || is_secret y.secrecy) h.secret ∙ ap (λ z. k.secret || z) j.secret ∙ same_twice k.secret) q h.shape)
 
-  pub summed_kind : (k : Kind) (x : Value) → IsOf k x → Makes (row.summed x) (IsOf (with_secret k.secret (public_scalar Uint64)))
+  pub summed_kind : (k : Kind) (x : Value) → IsOf k x → Makes (row.summed x) (IsOf (with_array false k))
   summed_kind k x h =
-      let result = with_secret k.secret (public_scalar Uint64) in
-      makes_both (IsOf result) (makes_of (summed_gives w x)) (summed_makes w x) (λ v p q. kinded result (shape_of Uint64 false) v (p ∙ h.secret) q refl)
+      makes_both (IsOf (with_array false k)) (makes_of (summed_gives w x)) (summed_makes w x)
+      (λ v p q. kinded (with_array false k) (shape_of x.shape.element false) v (p ∙ h.secret) q (ap (λ z. shape_of z false) (shape_element k x h)))
 
   pub bits_kind : (line : ℕ) (k : Kind) (x : Value) → IsOf k x → Makes (row.bits_extracted w line x)
       (IsOf (with_array true (with_secret k.secret (public_scalar datatype.Bool))))
@@ -107,6 +101,12 @@ module _ (w : World) where
       let result = with_array true (with_secret k.secret (public_scalar datatype.Bool)) in
       makes_both (IsOf result) (makes_of (bits_gives w line x)) (bits_makes w line x) (λ v p q. kinded result (shape_of datatype.Bool true) v (p ∙ h.secret)
       q refl)
+
+  pub looked_up_kind : (line : ℕ) (k l : Kind) (a i : Value) → IsOf k a → IsOf l i → Makes (row.looked_up w line a i) (IsOf (looked_up_of k l))
+  looked_up_kind line k l a i h j =
+      makes_both (IsOf (looked_up_of k l)) (makes_of (looked_up_gives w line a i)) (looked_up_makes w line a i (singled l i j))
+      (λ v p q. kinded (looked_up_of k l) (shape_of a.shape.element i.shape.array) v p q
+      (ap (λ z. shape_of z i.shape.array) (shape_element k a h) ∙ ap (shape_of k.element) (shape_array l i j)))
 
   pub declassified_kind : (k : Kind) (x : Value) → IsOf k x → Makes (row.declassified w x) (IsOf (with_secret false k))
   declassified_kind k x h =

@@ -1,19 +1,19 @@
 -- Kinds as tests see them, and operators as their bytes.
 use Rattle.std.proofs.Common.{◌≡◌, ℕ, ◌==◌, List, length, Bool, true, false, ◌&&◌, ◌||◌, refl, sym, ap, ◌∙◌}
-use Rattle.std.specs.Prelude.{unwrap_or}
+use Rattle.std.specs.Prelude.{unwrap_or, is_some}
 use Rattle.std.proofs.lemmas.Bool.{lt-ltb}
 use Rattle.std.proofs.lemmas.Option.{slice_get_within}
 use Rattle.program_trees.specs.declared.expression.DataType.{DataType}
-use Rattle.program_trees.specs.declared.expression.DataType.TheVariants.{Uint64}
+use Rattle.program_trees.specs.declared.expression.DataType.TheVariants.{Uint64, Int64}
 use Rattle.program_trees.specs.declared.expression.DataType.TheVariants as datatype
 use Rattle.program_trees.specs.declared.operators.Cast.{Cast}
-use Rattle.program_trees.specs.declared.operators.Cast.TheVariants.{WordToWord, WordToBool, BoolToWord, BoolToBool}
 use Rattle.program_trees.specs.declared.operators.Operands.{Operands}
 use Rattle.program_trees.specs.declared.operators.Operands.TheVariants.{Scalars, ArrayAndScalar, ScalarAndArray, Arrays}
 use Rattle.program_trees.specs.declared.operators.BoolOperator.TheVariants as truth
 use Rattle.program_trees.specs.declared.operators.BinaryOperator.{BinaryOperator}
-use Rattle.program_trees.specs.declared.operators.BinaryOperator.TheVariants.{Words, Bools}
-use Rattle.program_trees.specs.Operators.{operands_of, cast_between}
+use Rattle.program_trees.specs.declared.operators.BinaryOperator.TheVariants.{Words, Ints, Bools}
+use Rattle.program_trees.specs.declared.operators.OperatorSign.{OperatorSign}
+use Rattle.program_trees.specs.Operators.{on_ints, operands_of, cast_between}
 use Rattle.code_model.specs.Operations.{result_shape}
 use Rattle.bytecode.specs.declared.kind.Kind.{Kind}
 use Rattle.verified_code.specs.Fitting.{same_truth, same_element, same_kind, kind_at, public_scalar, is_there, operator_at}
@@ -23,7 +23,7 @@ use Rattle.code_model.specs.Words.{truth_word}
 use Rattle.code_model.specs.Kinds.{kind_of}
 use Rattle.code_model.specs.Kinded.{HasKind, left_array, right_array, cast_source, cast_target}
 use Rattle.code_model.specs.Instructions.{operator_number}
-use Rattle.code_model.specs.Right.{kind, operand_element}
+use Rattle.code_model.specs.Right.{kind, operand_element, has_operator}
 
 pub both : {a b : Bool} → a ≡ true → b ≡ true → (a && b) ≡ true
 both {a = true} e f = f
@@ -41,6 +41,7 @@ truth_self false = refl
 
 element_self : (e : DataType) → same_element e e ≡ true
 element_self Uint64 = refl
+element_self Int64 = refl
 element_self datatype.Bool = refl
 
 pub kind_self : (k : Kind) → same_kind k k ≡ true
@@ -67,19 +68,21 @@ three_of t x y z a b c e f g h = ap (λ w. t w y z) e ∙ ap (λ w. t a w z) f �
 
 pub operator_back : (op : BinaryOperator) → operator_at (operand_element op) (operator_number op) ≡ op
 operator_back (Words op) = ap Words (sign_back op)
+operator_back (Ints op) = ap Ints (sign_back op)
 operator_back (Bools truth.Equal) = refl
 operator_back (Bools truth.NotEqual) = refl
 operator_back (Bools truth.And) = refl
 operator_back (Bools truth.Or) = refl
 operator_back (Bools truth.Xor) = refl
 
-exists : (op : BinaryOperator) → operator_exists (operand_element op) (operator_number op) ≡ true
-exists (Words op) = byte_low op
-exists (Bools truth.Equal) = refl
-exists (Bools truth.NotEqual) = refl
-exists (Bools truth.And) = refl
-exists (Bools truth.Or) = refl
-exists (Bools truth.Xor) = refl
+exists : (op : BinaryOperator) → has_operator op ≡ true → operator_exists (operand_element op) (operator_number op) ≡ true
+exists (Words op) h = byte_low op
+exists (Ints op) h = both (byte_low op) (ap (λ o. is_some (on_ints o)) (sign_back op) ∙ h)
+exists (Bools truth.Equal) h = refl
+exists (Bools truth.NotEqual) h = refl
+exists (Bools truth.And) h = refl
+exists (Bools truth.Or) h = refl
+exists (Bools truth.Xor) h = refl
 
 pub operands_back : (ds : Operands) → operands_of (left_array ds) (right_array ds) ≡ ds
 operands_back Scalars = refl
@@ -88,10 +91,7 @@ operands_back ScalarAndArray = refl
 operands_back Arrays = refl
 
 pub cast_back : (x : Cast) → cast_between (cast_source x) (cast_target x) ≡ x
-cast_back WordToWord = refl
-cast_back WordToBool = refl
-cast_back BoolToWord = refl
-cast_back BoolToBool = refl
+cast_back x = refl
 
 pub bit_back : (b : Bool) → (truth_word b == 1) ≡ b
 bit_back true = refl
@@ -104,11 +104,11 @@ result_same op ArrayAndScalar x y = refl
 result_same op ScalarAndArray x y = refl
 result_same op Arrays x y = refl
 
-pub operator_fits : (op : BinaryOperator) (ds : Operands) (x y : Bool) → secrecy_fits op x y ≡ true → binary_fits (operator_number op)
+pub operator_fits : (op : BinaryOperator) (ds : Operands) (x y : Bool) → has_operator op ≡ true → secrecy_fits op x y ≡ true → binary_fits (operator_number op)
     (kind_of (x || y) (result_shape op ds)) (kind x (operand_element op) (left_array ds)) (kind y (operand_element op) (right_array ds)) ≡ true
-operator_fits op ds x y h =
+operator_fits op ds x y g h =
     let a = kind x (operand_element op) (left_array ds) in
     let b = kind y (operand_element op) (right_array ds) in
     let d = kind_of (x || y) (result_shape op ds) in
-    all_four (element_self (operand_element op)) (exists op) (ap (λ o. secrecy_fits o x y) (operator_back op) ∙ h)
+    all_four (element_self (operand_element op)) (exists op g) (ap (λ o. secrecy_fits o x y) (operator_back op) ∙ h)
     (ap (λ o. same_kind d (result_kind o a b)) (operator_back op) ∙ ap (same_kind d) (sym (result_same op ds x y)) ∙ kind_self d)

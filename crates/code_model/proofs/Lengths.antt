@@ -8,7 +8,7 @@ use Rattle.program_trees.specs.declared.operators.Operands.{Operands}
 use Rattle.program_trees.specs.declared.operators.Operands.TheVariants.{Scalars}
 use Rattle.program_trees.specs.declared.operators.Connective.{Connective}
 use Rattle.program_trees.specs.declared.expression.DataType.TheVariants as datatype
-use Rattle.program_trees.specs.TypedTree.{TypedTree, TypedTrees, word_node, truth_node, slot_node, call_node, size_node, cat_node, sum_node, bits_node, element_node}
+use Rattle.program_trees.specs.TypedTree.{TypedTree, TypedTrees, word_node, truth_node, slot_node, call_node, size_node, cat_node, sum_node, bits_node, lookup_node, element_node}
 use Rattle.program_trees.specs.TypedTree.{not_node, cast_node, binary_node, cut_node, declassify_node}
 use Rattle.program_trees.specs.TypedTree as Tree'
 use Rattle.program_trees.specs.TypedStatements.{TypedStatementTree, TypedStatementTrees, empty_statement, block_statement, if_statement, loop_statement, do_statement}
@@ -20,7 +20,7 @@ use Rattle.reached_instances.specs.Domains.{Setting, domains}
 use Rattle.blind_evaluation.specs.Words.{truth_word}
 use Rattle.blind_evaluation.specs.Evaluation.{StatementContext, gives_private, slots_of, bound_at, next_is_private, behind_next, connective, either}
 use Rattle.verified_code.specs.Steps.{Step, Literal, Move, Branch, Jump}
-use Rattle.code_model.specs.Expressions.{Numbers, classifying, lacks, mixes, binary_code, cat_code, element_code, deciding, settling, cut_code}
+use Rattle.code_model.specs.Expressions.{Numbers, classifying, lacks, mixes, binary_code, cat_code, lookup_code, element_code, deciding, settling, cut_code}
 use Rattle.code_model.specs.Expressions.{classified_at, stands_at, next_row, expression_code, arguments_code, unread_code}
 use Rattle.code_model.specs.Statements.{statement_code, statements_code}
 
@@ -45,6 +45,11 @@ cat_length d m n v u pc pc' line l r a a' b e f =
     let cl = classifying l m v in
     append_same a a' _ _ e (append_same cl cl _ _ refl (append_same (b (pc + length a + length cl)) (b (pc' + length a' + length cl)) _ _
     (f (pc + length a + length cl) (pc' + length a' + length cl)) refl))
+
+lookup_length : (d m n v u pc pc' line : ℕ) (l r : Bool) (a a' : List Step) (b : ℕ → List Step) → length a ≡ length a' → SameLengths b
+    → length (lookup_code d m n v u pc line l r a b) ≡ length (lookup_code d m n v u pc' line l r a' b)
+lookup_length d m n v u pc pc' line l r a a' b e f =
+    append_same a a' _ _ e (append_same (b (pc + length a)) (b (pc' + length a')) _ _ (f (pc + length a) (pc' + length a')) refl)
 
 element_length : (t v u pc pc' line : ℕ) (a a' : List Step) (b : ℕ → List Step) → length a ≡ length a' → SameLengths b → length (element_code t v u pc line a b)
     ≡ length (element_code t v u pc' line a' b)
@@ -92,6 +97,9 @@ module _ (number : Numbers) where
         (λ q q'. expression_length here b (next_row t) q q')
     expression_length here (sum_node e) t pc pc' = append_same _ _ _ _ (expression_length here e t pc pc') refl
     expression_length here (bits_node line e) t pc pc' = append_same _ _ _ _ (expression_length here e t pc pc') refl
+    expression_length here (lookup_node line a i) t pc pc' =
+        lookup_length _ _ _ _ _ pc pc' line (lacks true (gives_private here a)) (lacks true (gives_private here i)) _ _ _
+        (expression_length here a t pc pc') (λ q q'. expression_length here i (next_row t) q q')
     expression_length here (element_node line a i) t pc pc' =
         element_length _ _ _ pc pc' line _ _ _ (expression_length here a t pc pc')
         (λ q q'. expression_length here i (next_row t) q q')
@@ -129,6 +137,7 @@ module _ (number : Numbers) where
   unread_length here (cat_node line a b) t pc pc' = expression_length here (cat_node line a b) t pc pc'
   unread_length here (sum_node e) t pc pc' = expression_length here (sum_node e) t pc pc'
   unread_length here (bits_node line e) t pc pc' = expression_length here (bits_node line e) t pc pc'
+  unread_length here (lookup_node line a i) t pc pc' = expression_length here (lookup_node line a i) t pc pc'
   unread_length here (element_node line a i) t pc pc' = expression_length here (element_node line a i) t pc pc'
   unread_length here (not_node e) t pc pc' = expression_length here (not_node e) t pc pc'
   unread_length here (cast_node c e) t pc pc' = expression_length here (cast_node c e) t pc pc'

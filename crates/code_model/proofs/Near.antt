@@ -4,7 +4,7 @@ use Rattle.std.proofs.Common.{subst, arith}
 use Rattle.std.specs.Prelude.{slice_get}
 use Rattle.program_trees.specs.declared.kinds.Shape.{Shape}
 use Rattle.program_trees.specs.declared.kinds.Slot.{Slot}
-use Rattle.program_trees.specs.declared.expression.DataType.TheVariants.{Uint64}
+use Rattle.program_trees.specs.declared.expression.DataType.TheVariants.{Uint64, Int64}
 use Rattle.program_trees.specs.declared.expression.DataType.TheVariants as datatype
 use Rattle.reached_instances.specs.Domains.{Setting}
 use Rattle.blind_evaluation.specs.Effects.{World, carry, done}
@@ -52,19 +52,23 @@ pub record Read (here : Setting) (r t to : ℕ) (m : Machine) (secret : Bool) (v
   pub pc : m'.pc ≡ to
   pub held : m'.registers r ≡ v
   pub private : IsSecret secret v
-  pub low : r < t + 8
+  pub low : r < t + 12
   pub apart : (i : ℕ) → first_free here.slots ≤ i → i < t → r ≢ i
 
-pub kind_few : (k : Kind) → kind_number k < 8
+pub kind_few : (k : Kind) → kind_number k < 12
 kind_few k = go k.secret k.element k.array
   where
-    go : (s : Bool) (e : _) (a : Bool) → kind_number (record { secret = s; element = e; array = a }) < 8
+    go : (s : Bool) (e : _) (a : Bool) → kind_number (record { secret = s; element = e; array = a }) < 12
     go true Uint64 true = omega arith
     go true Uint64 false = omega arith
+    go true Int64 true = omega arith
+    go true Int64 false = omega arith
     go true datatype.Bool true = omega arith
     go true datatype.Bool false = omega arith
     go false Uint64 true = omega arith
     go false Uint64 false = omega arith
+    go false Int64 true = omega arith
+    go false Int64 false = omega arith
     go false datatype.Bool true = omega arith
     go false datatype.Bool false = omega arith
 
@@ -72,7 +76,7 @@ kind_few k = go k.secret k.element k.array
 pub row_from : (t : ℕ) (k : Kind) → t ≤ in_row t k
 row_from t k = omega arith
 
-pub row_below : (t : ℕ) (k : Kind) → in_row t k < t + 8
+pub row_below : (t : ℕ) (k : Kind) → in_row t k < t + 12
 row_below t k = let few = kind_few k in omega (arith, few)
 
 pub read_own : {here : Setting} {t to : ℕ} {m m' : Machine} {secret : Bool} {v : Value} (k : Kind) → Landed t (in_row t k) to m secret v m'
@@ -96,14 +100,16 @@ pub record Holds (here : Setting) (fr registers : Frame) : Type 0 where
 
 pub below_free : (ss : List Slot) (s : Shape) → 0 < length ss → length ss + shape_number s < first_free ss
 below_free [] s h = absurd (omega arith)
-below_free (x ∷ ss) s h = let l : shape_number s < 4 = small s in omega (arith, l)
+below_free (x ∷ ss) s h = let l : shape_number s < 6 = small s in omega (arith, l)
   where
-    small : (s : Shape) → shape_number s < 4
+    small : (s : Shape) → shape_number s < 6
     small s = go s.element s.array
       where
-        go : (e : _) (a : Bool) → shape_number (record { element = e; array = a }) < 4
+        go : (e : _) (a : Bool) → shape_number (record { element = e; array = a }) < 6
         go Uint64 true = omega arith
         go Uint64 false = omega arith
+        go Int64 true = omega arith
+        go Int64 false = omega arith
         go datatype.Bool true = omega arith
         go datatype.Bool false = omega arith
 

@@ -4,7 +4,7 @@ use Rattle.std.proofs.Common.{◌∙◌}
 use Rattle.std.proofs.Common.{subst, arith, length-append}
 use Rattle.program_trees.specs.declared.operators.BinaryOperator.{BinaryOperator}
 use Rattle.program_trees.specs.declared.operators.Operands.{Operands}
-use Rattle.program_trees.specs.TypedTree.{TypedTree, cat_node, element_node}
+use Rattle.program_trees.specs.TypedTree.{TypedTree, cat_node, lookup_node, element_node}
 use Rattle.reached_instances.specs.declared.instance.BoundDomain.{BoundDomain}
 use Rattle.reached_instances.specs.declared.instance.BoundDomain.TheVariants as bound
 use Rattle.reached_instances.specs.Domains.{Setting, domain, joined_domain}
@@ -13,7 +13,7 @@ use Rattle.blind_evaluation.specs.Values.{Value, is_secret}
 use Rattle.blind_evaluation.specs.Operations as row
 use Rattle.blind_evaluation.specs.Operations.{wanted, is_product, is_classified, operated, operation}
 use Rattle.blind_evaluation.specs.Evaluation.{Frame, Calls, is_private, gives_private, value}
-use Rattle.verified_code.specs.Steps.{Step, Function, Binary, Cat, At}
+use Rattle.verified_code.specs.Steps.{Step, Function, Binary, Cat, Lookup, At}
 use Rattle.code_model.specs.Machine.{Machine, next, step}
 use Rattle.bytecode.specs.declared.kind.Kind.{Kind}
 use Rattle.code_model.specs.Kinds.{kind_in, private_kind_in, in_row}
@@ -22,7 +22,7 @@ use Rattle.code_model.specs.Expressions.{expression_code}
 use Rattle.code_model.specs.Statements.{first_free}
 use Rattle.code_model.specs.Fit.{MayStand}
 use Rattle.code_model.proofs.Places.{put_same}
-use Rattle.code_model.proofs.Gives.{Gives, IsSecret, operated_gives, concatenated_gives, element_gives}
+use Rattle.code_model.proofs.Gives.{Gives, IsSecret, operated_gives, concatenated_gives, looked_up_gives, element_gives}
 use Rattle.code_model.proofs.Follows.{Runs, runs_bind, instruct}
 use Rattle.code_model.proofs.Near.{Near, near_on, near_less, near_set, row_from, row_below, Landed, Read, Ready, ready_front, ready_back, ready_step, Wanting}
 use Rattle.code_model.proofs.Near.{near_wanting}
@@ -51,7 +51,7 @@ joined_both d e = go (is_private (joined_domain d e))
     go false = refl
 
 -- what is picked stands below the next row
-pub picked_below : (b : Bool) (t : ℕ) (k : Kind) (r : ℕ) → r < t + 8 → picked b (in_row t k) r < t + 8
+pub picked_below : (b : Bool) (t : ℕ) (k : Kind) (r : ℕ) → r < t + 12 → picked b (in_row t k) r < t + 12
 picked_below true t k r l = row_below t k
 picked_below false t k r l = l
 
@@ -70,8 +70,8 @@ pub record Both (here : Setting) (ga gb : Bool) (t v u : ℕ) (m : Machine) (x y
   pub near : Near t m m2
   pub left : m2.registers v ≡ x
   pub right : m2.registers u ≡ y
-  pub low : v < t + 8
-  pub apart_right : (i : ℕ) → first_free here.slots ≤ i → i < t + 8 → u ≢ i
+  pub low : v < t + 12
+  pub apart_right : (i : ℕ) → first_free here.slots ≤ i → i < t + 12 → u ≢ i
   pub left_private : IsSecret ga x
   pub right_private : IsSecret gb y
 
@@ -223,6 +223,65 @@ module _ (w : World) (p : List Function) (number : Numbers) (calls : Calls) (d :
           r4.place,
           length-append ca (cb ++ (cl ++ (cr ++ last))),
           length-append cb (cl ++ (cr ++ last)),
+          length-append cl (cr ++ last),
+          length-append cr last,
+        );
+        here = put_same q v m4.registers;
+        private = k;
+      }))))
+
+  -- both are private after their classifications
+  pub lookup_runs : (here : Setting) (a i : TypedTree) (t pc line : ℕ) (fr : Frame) (m : Machine)
+      → Evaluates here a → Evaluates here i → gives_private here (lookup_node line a i) ≡ true
+      → Ready d here fr t pc (code here t pc (lookup_node line a i)) m
+      → Runs w p m (value w calls here (lookup_node line a i) fr) (Landed t (own_at here (lookup_node line a i) t)
+      (pc + length (code here t pc (lookup_node line a i))) m
+      (gives_private here (lookup_node line a i)))
+  unfolding value
+  lookup_runs here a i t pc line fr m eva evi private r =
+      let ga = gives_private here a in
+      let gi = gives_private here i in
+      let f1 = lacks true ga in
+      let f2 = lacks true gi in
+      let q = own_at here (lookup_node line a i) t in
+      let u0 = next_row t in
+      let ka = private_kind_in here a in
+      let ki = private_kind_in here i in
+      let c1 = in_row t ka in
+      let c2 = in_row u0 ki in
+      let x0 = stands_at here a t in
+      let u = stands_at here i u0 in
+      let ca = code here t pc a in
+      let ci = code here u0 (pc + length ca) i in
+      let cl = classifying f1 c1 x0 in
+      let cr = classifying f2 c2 u in
+      let last = Lookup line q (picked f1 c1 x0) (picked f2 c2 u) ∷ [] in
+      let from = row_from t (kind_in here (lookup_node line a i)) in
+      let from1 = row_from t ka in
+      let below1 = row_below t ka in
+      let from2 = row_from u0 ki in
+      let free = r.free in
+      operands_run here a i t pc fr m (cl ++ (cr ++ last)) (row.lookup w line) _ eva evi r (λ x y m2 h r2.
+      runs_bind (wanting_runs true ga c1 x0 x m2 h.left_private (λ e. refl) h.left (ready_classify f1 c1 x0 (cr ++ last) r2)) (λ x' m3 h3.
+      let r3 = ready_wanting f1 c1 x0 (cr ++ last) from1 r2 h3 in
+      runs_bind (wanting_runs true gi c2 u y m3 h.right_private (λ e. refl)
+      (h3.kept u (h.apart_right c1 (omega (arith, free, from1)) below1) ∙ h.right) (ready_classify f2 c2 u last r3)) (λ y' m4 h4.
+      let r4 = ready_wanting f2 c2 u last (omega (arith, from2)) r3 h4 in
+      let low = picked_below f1 t ka x0 h.low in
+      let left : m4.registers (picked f1 c1 x0) ≡ x' = h4.kept (picked f1 c1 x0) (omega (arith, low, from2)) ∙ h3.here in
+      instruct m4 (Lookup line q (picked f1 c1 x0) (picked f2 c2 u)) (row.looked_up w line x' y') (λ v. next q v m4)
+      (IsSecret (gives_private here (lookup_node line a i))) _ (ready_step r4)
+      (λ s. ap (λ z. carry (row.looked_up w line z (m4.registers (picked f2 c2 u)) s) (λ v. done (next q v m4))) left ∙ ap
+      (λ z. carry (row.looked_up w line x' z s) (λ v. done (next q v m4))) h4.here)
+      (subst (λ z. Gives (row.looked_up w line x' y') (IsSecret z)) (sym private) (looked_up_gives w line x' y'))
+      (λ v k. record {
+        near = near_on (omega arith) h.near (near_on (omega arith) (near_wanting t from1 h3) (near_on (omega arith) (near_wanting t (omega (arith, from2)) h4)
+            (near_set t q v m4 from)));
+        pc = omega (
+          arith,
+          r4.place,
+          length-append ca (ci ++ (cl ++ (cr ++ last))),
+          length-append ci (cl ++ (cr ++ last)),
           length-append cl (cr ++ last),
           length-append cr last,
         );

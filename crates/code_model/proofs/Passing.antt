@@ -15,7 +15,7 @@ use Rattle.program_trees.specs.declared.expression.DataType.TheVariants as datat
 use Rattle.bytecode.specs.declared.kind.Kind.{Kind}
 use Rattle.verified_code.specs.Fitting as fitting
 use Rattle.verified_code.specs.Verified.{here}
-use Rattle.verified_code.specs.Steps.{Step, Function, Literal, Move, Store, Binary, Not, Cast, Classify, Fill, At, Put, Size, Cat, Sum, Bits, Declassify}
+use Rattle.verified_code.specs.Steps.{Step, Function, Literal, Move, Store, Binary, Not, Cast, Classify, Fill, At, Put, Size, Cat, Sum, Bits, Lookup, Declassify}
 use Rattle.verified_code.specs.Steps.{Argument, Publish, Assert, Branch, Jump, Call, Return, ReturnNone}
 use Rattle.code_model.specs.Kinded.{HasKind, ResultFits, cast_source, cast_target, public_scalar, is_return}
 use Rattle.code_model.specs.Instructions.{operator_number, register_or_nowhere, place_among, step_names, instruction, raw_function, names_of, raw_code_of}
@@ -106,7 +106,7 @@ module _ (c : List Function) (f : Function) (place : ℕ) where
   all_names (Literal d e n) h m = there ks d _ h.0
   all_names (Move d r) h m = both (there ks d _ h.2) (there ks r _ h.1)
   all_names (Store d r) h m = both (there ks d _ h.2) (there ks r _ h.1)
-  all_names (Binary line op ds d a b) h m = all_three (there ks d _ h.5) (there ks a _ h.2) (there ks b _ h.3)
+  all_names (Binary line op ds d a b) h m = all_three (there ks d _ h.6) (there ks a _ h.2) (there ks b _ h.3)
   all_names (Not d r) h m = both (there ks d _ h.3) (there ks r _ h.2)
   all_names (Cast x d r) h m = both (there ks d _ h.3) (there ks r _ h.2)
   all_names (Classify d r) h m = both (there ks d _ h.3) (there ks r _ h.2)
@@ -115,8 +115,9 @@ module _ (c : List Function) (f : Function) (place : ℕ) where
   all_names (Put line a i x) h m = all_three (there ks a _ h.2) (there ks i _ h.3) (there ks x _ h.4)
   all_names (Size d r) h m = both (there ks d _ h.3) (there ks r _ h.2)
   all_names (Cat line d a b) h m = all_three (there ks d _ h.4) (there ks a _ h.2) (there ks b _ h.3)
-  all_names (Sum d r) h m = both (there ks d _ h.2) (there ks r _ h.1)
+  all_names (Sum d r) h m = both (there ks d _ h.4) (there ks r _ h.3)
   all_names (Bits line d r) h m = both (there ks d _ h.3) (there ks r _ h.2)
+  all_names (Lookup line d a i) h m = all_three (there ks d _ h.5) (there ks a _ h.3) (there ks i _ h.4)
   all_names (Declassify d r) h m = both (there ks d _ h.4) (there ks r _ h.3)
   all_names (Argument line k text d) h m = both (there ks d _ h) (name_there text (m text (inl refl)))
   all_names (Publish text r) h m = both (name_there text (m text (inl refl))) (there ks r _ h.1)
@@ -128,10 +129,9 @@ module _ (c : List Function) (f : Function) (place : ℕ) where
   all_names (Return r) h m = there ks r _ h.2
   all_names ReturnNone h m = refl
 
-  word_literal : (d : ℕ) (e : DataType) (n : ℕ) → fitting.kind_at ks d ≡ public_scalar e → (e ≡ datatype.Bool → n < 2)
+  word_literal : (d : ℕ) (e : DataType) (n : ℕ) → fitting.kind_at ks d ≡ public_scalar e → fitting.may_be_literal e n ≡ true
       → fitting.literal_fits (fitting.kind_at ks d) n ≡ true
-  word_literal d Uint64 n k l = ap (λ z. fitting.literal_fits z n) k
-  word_literal d datatype.Bool n k l = ap (λ z. fitting.literal_fits z n) k ∙ lt-ltb n 2 (l refl)
+  word_literal d e n k l = ap (λ z. fitting.literal_fits z n) k ∙ both (kind_self (public_scalar e)) l
 
   call_fits : (g : ℕ) (h : Function) (d : Option ℕ) (arguments : List ℕ) → h.parameters ≤ length h.kinds → slice_get c g ≡ Some h
       → AreOf ks arguments (take h.parameters h.kinds) → ResultFits ks d h.gives
@@ -149,8 +149,8 @@ module _ (c : List Function) (f : Function) (place : ℕ) where
     all_operands (Move d r) h = two_of fitting.same_kind (its d) (its r) h.0 h.0 (its_kind ks d _ h.2) (its_kind ks r _ h.1) (kind_self h.0)
     all_operands (Store d r) h = two_of fitting.same_kind (its d) (its r) h.0 h.0 (its_kind ks d _ h.2) (its_kind ks r _ h.1) (kind_self h.0)
     all_operands (Binary line op ds d a b) h =
-        three_of (fitting.binary_fits (operator_number op)) (its d) (its a) (its b) _ _ _ (its_kind ks d _ h.5) (its_kind ks a _ h.2) (its_kind ks b _ h.3)
-        (operator_fits op ds h.0 h.1 h.4)
+        three_of (fitting.binary_fits (operator_number op)) (its d) (its a) (its b) _ _ _ (its_kind ks d _ h.6) (its_kind ks a _ h.2) (its_kind ks b _ h.3)
+        (operator_fits op ds h.0 h.1 h.4 h.5)
     all_operands (Not d r) h =
         two_of fitting.not_fits (its d) (its r) _ _ (its_kind ks d _ h.3) (its_kind ks r _ h.2) (both (kind_self (kind h.0 datatype.Bool h.1)) refl)
     all_operands (Cast x d r) h =
@@ -170,9 +170,13 @@ module _ (c : List Function) (f : Function) (place : ℕ) where
     all_operands (Cat line d a b) h =
         three_of fitting.cat_fits (its d) (its a) (its b) _ _ _ (its_kind ks d _ h.4) (its_kind ks a _ h.2) (its_kind ks b _ h.3)
         (both (kind_self (kind h.0 h.1 true)) (kind_self (kind h.0 h.1 true)))
-    all_operands (Sum d r) h = two_of fitting.sum_fits (its d) (its r) _ _ (its_kind ks d _ h.2) (its_kind ks r _ h.1) (kind_self (kind h.0 Uint64 false))
+    all_operands (Sum d r) h =
+        two_of fitting.sum_fits (its d) (its r) _ _ (its_kind ks d _ h.4) (its_kind ks r _ h.3) (both h.2 (kind_self (kind h.0 h.1 false)))
     all_operands (Bits line d r) h =
         two_of fitting.bits_fit (its d) (its r) _ _ (its_kind ks d _ h.3) (its_kind ks r _ h.2) (kind_self (kind h.0 datatype.Bool true))
+    all_operands (Lookup line d a i) h =
+        three_of fitting.lookup_fits (its d) (its a) (its i) _ _ _ (its_kind ks d _ h.5) (its_kind ks a _ h.3) (its_kind ks i _ h.4)
+        (both (both (both h.2 refl) refl) (kind_self (kind true h.0 h.1)))
     all_operands (Declassify d r) h =
         two_of (λ x y. fitting.same_kind x (fitting.public_as y)) (its d) (its r) _ _ (its_kind ks d _ h.4) (its_kind ks r _ h.3)
         (kind_self (kind false h.1 h.2))
@@ -205,6 +209,7 @@ module _ (c : List Function) (f : Function) (place : ℕ) where
   target_there (Cat line d a b) h forward = refl
   target_there (Sum d r) h forward = refl
   target_there (Bits line d r) h forward = refl
+  target_there (Lookup line d a i) h forward = refl
   target_there (Declassify d r) h forward = refl
   target_there (Argument line k text d) h forward = refl
   target_there (Publish text r) h forward = refl
@@ -228,6 +233,7 @@ module _ (c : List Function) (f : Function) (place : ℕ) where
   return_same (Cat line d a b) = refl
   return_same (Sum d r) = refl
   return_same (Bits line d r) = refl
+  return_same (Lookup line d a i) = refl
   return_same (Declassify d r) = refl
   return_same (Argument line k text d) = refl
   return_same (Publish text r) = refl

@@ -5,7 +5,7 @@ use Rattle.std.proofs.lemmas.Option.{none-some}
 use Rattle.sc_text.specs.Lists.{Among}
 use Rattle.sc_text.proofs.Lists.{among_left, among_right}
 use Rattle.program_trees.specs.declared.kinds.Slot.{Slot}
-use Rattle.program_trees.specs.TypedTree.{TypedTree, TypedTrees, word_node, truth_node, slot_node, call_node, size_node, cat_node, sum_node, bits_node, element_node}
+use Rattle.program_trees.specs.TypedTree.{TypedTree, TypedTrees, word_node, truth_node, slot_node, call_node, size_node, cat_node, sum_node, bits_node, lookup_node, element_node}
 use Rattle.program_trees.specs.TypedTree.{not_node, cast_node, binary_node, cut_node, declassify_node}
 use Rattle.program_trees.specs.TypedTree as Tree'
 use Rattle.program_trees.specs.TypedStatements.{TypedStatementTree, TypedStatementTrees, empty_statement, block_statement, if_statement, loop_statement, do_statement}
@@ -57,6 +57,12 @@ module _ (Known : ℕ → List BoundDomain → Type 0) where
     )
     knows here (sum_node e) fit h = knows here e fit h
     knows here (bits_node line e) fit h = knows here e fit h
+    knows here (lookup_node line a i) fit h = (
+      knows here a fit.0 (front (calls here a) (calls here i) h),
+      knows here i fit.1
+          (rest (calls here a) (calls here i) h),
+      fit.2,
+    )
     knows here (element_node line a i) fit h = (
       knows here a fit.0 (front (calls here a) (calls here i) h),
       knows here i fit.1

@@ -144,16 +144,16 @@ counting_function n =
 no_number : Numbers
 no_number k b = 0
 
--- after the slot and the four defaults there are two rows of eight, and the sum stands in the first, where its left operand might
+-- after the slot and the six defaults there are two rows of twelve, and the sum stands in the first, where its left operand might
 counting_code : (function_code no_number [] (counting_function 1) []).steps
-    ≡ Literal 13 Uint64 1 ∷ Binary 1 (Words word.Add) Scalars 5 0 13 ∷ Store 0 5 ∷ ReturnNone ∷ []
+    ≡ Literal 19 Uint64 1 ∷ Binary 1 (Words word.Add) Scalars 7 0 19 ∷ Store 0 7 ∷ ReturnNone ∷ []
 unfolding counting_function counted counting
 counting_code = refl
 
 -- the second time it is the same code with the same registers
 counting_twice : (function_code no_number [] (counting_function 2) []).steps
-    ≡ Literal 13 Uint64 1 ∷ Binary 1 (Words word.Add) Scalars 5 0 13 ∷ Store 0 5 ∷ Literal 13 Uint64 1 ∷ Binary 1 (Words word.Add) Scalars 5 0 13
-    ∷ Store 0 5 ∷ ReturnNone ∷ []
+    ≡ Literal 19 Uint64 1 ∷ Binary 1 (Words word.Add) Scalars 7 0 19 ∷ Store 0 7 ∷ Literal 19 Uint64 1 ∷ Binary 1 (Words word.Add) Scalars 7 0 19
+    ∷ Store 0 7 ∷ ReturnNone ∷ []
 unfolding counting_function counted counting
 counting_twice = refl
 
@@ -162,8 +162,8 @@ unfolding counted counting
 counting_depth zero = refl
 counting_depth (suc n) = ap (max 2) (counting_depth n)
 
--- however often, there are 21 registers
-counting_registers : (n : ℕ) → length (function_code no_number [] (counting_function (suc n)) []).kinds ≡ 21
+-- however often, there are 31 registers
+counting_registers : (n : ℕ) → length (function_code no_number [] (counting_function (suc n)) []).kinds ≡ 31
 unfolding counting_function
 counting_registers n = ap (λ k. length (kind_of false (shape_of Uint64 false) ∷ (default_kinds ++ (rows_kinds k ++ [])))) (counting_depth n)
 

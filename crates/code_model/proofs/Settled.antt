@@ -7,9 +7,9 @@ use Rattle.std.proofs.lemmas.Bool.{ltb-true, and_parts}
 use Rattle.std.proofs.lemmas.List.{length-map}
 use Rattle.std.proofs.lemmas.Option.{slice_get-get_or, none-some, same_Some}
 use Rattle.program_trees.specs.declared.expression.DataType.{DataType}
-use Rattle.program_trees.specs.declared.expression.DataType.TheVariants.{Uint64}
+use Rattle.program_trees.specs.declared.expression.DataType.TheVariants.{Uint64, Int64}
 use Rattle.program_trees.specs.declared.expression.DataType.TheVariants as datatype
-use Rattle.program_trees.specs.Operators.{element_made, operands_of, cast_between}
+use Rattle.program_trees.specs.Operators.{element_made, operands_of}
 use Rattle.program_trees.specs.declared.operators.BinaryOperator.{BinaryOperator}
 use Rattle.blind_evaluation.specs.Operations.{result_shape}
 use Rattle.bytecode.specs.declared.kind.Kind.{Kind}
@@ -23,7 +23,7 @@ use Rattle.verified_code.specs.Settled.{settle, settled_function, settled, resul
 use Rattle.verified_code.specs.Sound.{passes, IsSoundFunction, IsSound}
 use Rattle.code_model.specs.Meaning.{AreForward}
 use Rattle.code_model.specs.Kinds.{kind_of}
-use Rattle.code_model.specs.Kinded.{cast_source, cast_target, left_array, right_array, HasKind, ArgumentsHave}
+use Rattle.code_model.specs.Kinded.{left_array, right_array, HasKind, ArgumentsHave}
 use Rattle.code_model.specs.Kinded.{ResultFits, StepFits, is_return, IsFitting, IsIn}
 
 clash : false ≡ true → ⊥
@@ -51,13 +51,14 @@ truths false false h = refl
 
 elements : (a b : DataType) → fitting.same_element a b ≡ true → a ≡ b
 elements Uint64 Uint64 h = refl
+elements Uint64 Int64 h = absurd (clash h)
 elements Uint64 datatype.Bool h = absurd (clash h)
+elements Int64 Uint64 h = absurd (clash h)
+elements Int64 Int64 h = refl
+elements Int64 datatype.Bool h = absurd (clash h)
 elements datatype.Bool Uint64 h = absurd (clash h)
+elements datatype.Bool Int64 h = absurd (clash h)
 elements datatype.Bool datatype.Bool h = refl
-
-word_is : (e : DataType) → fitting.is_word e ≡ true → e ≡ Uint64
-word_is Uint64 h = refl
-word_is datatype.Bool h = absurd (clash h)
 
 kinds_same : (k l : Kind) → fitting.same_kind k l ≡ true → k ≡ l
 kinds_same k l h =
@@ -92,18 +93,6 @@ result_is op s false false = refl
 result_is op s true false = refl
 result_is op s false true = refl
 result_is op s true true = refl
-
-source_is : (x y : DataType) → x ≡ cast_source (cast_between x y)
-source_is Uint64 Uint64 = refl
-source_is Uint64 datatype.Bool = refl
-source_is datatype.Bool Uint64 = refl
-source_is datatype.Bool datatype.Bool = refl
-
-target_is : (x y : DataType) → y ≡ cast_target (cast_between x y)
-target_is Uint64 Uint64 = refl
-target_is Uint64 datatype.Bool = refl
-target_is datatype.Bool Uint64 = refl
-target_is datatype.Bool datatype.Bool = refl
 
 -- ---- LISTS
 
@@ -191,7 +180,7 @@ module _ (c : RawCode) (f : RawFunction) (place : ℕ) where
   step_fits : (i : Raw) → fitting.names_there at i ≡ true → fitting.operands_fit at i ≡ true → fitting.target_fits at i ≡ true → StepFits (settled c) own
       (settle c.names ks i)
   step_fits (raw.Literal d x) n o t = has_as ks d _ n (and_parts (fitting.same_kind (its_kind d) (fitting.public_scalar (its_kind d).element))
-      (fitting.is_word (its_kind d).element || nat_lt x 2) o).0
+      (fitting.may_be_literal (its_kind d).element x) o).0
   step_fits (raw.Move d r) n o t = let m = two_there d r n in (its_kind r, has ks r m.1, has_as ks d (its_kind r) m.0 o)
   step_fits (raw.Store d r) n o t = let m = two_there d r n in (its_kind r, has ks r m.1, has_as ks d (its_kind r) m.0 o)
   step_fits (raw.Binary q d a b line) n o t =
@@ -215,24 +204,17 @@ module _ (c : RawCode) (f : RawFunction) (place : ℕ) where
         its_kind r,
         has ks r m.1,
         has_as ks d (its_kind r) m.0 (and_parts (fitting.same_kind (its_kind d) (its_kind r))
-            (not (fitting.is_word (its_kind r).element)) o).0,
+            (fitting.is_truth (its_kind r).element) o).0,
       )
   step_fits (raw.Cast d r) n o t =
       let m = two_there d r n in
       let two = and_parts (fitting.same_truth (its_kind d).secret (its_kind r).secret) (fitting.same_truth (its_kind d).array (its_kind r).array) o in (
         (its_kind r).secret,
         (its_kind r).array,
-        has ks r m.1 ∙ ap (λ z. Some (record { secret = (its_kind r).secret; element = z; array = (its_kind r).array }))
-            (source_is (its_kind r).element (its_kind d).element),
+        has ks r m.1,
         has ks d m.0 ∙ ap (λ z. Some (record { secret = z; element = (its_kind d).element; array = (its_kind d).array }))
             (truths (its_kind d).secret (its_kind r).secret two.0)
-            ∙ ap (λ z. Some (record { secret = (its_kind r).secret; element = z; array = (its_kind d).array }))
-            (target_is (its_kind r).element (its_kind d).element)
-            ∙ ap (λ z. Some (record {
-              secret = (its_kind r).secret;
-              element = cast_target (cast_between (its_kind r).element (its_kind d).element);
-              array = z;
-            }))
+            ∙ ap (λ z. Some (record { secret = (its_kind r).secret; element = (its_kind d).element; array = z }))
             (truths (its_kind d).array (its_kind r).array two.1),
       )
   step_fits (raw.Classify d r) n o t = let m = two_there d r n
@@ -269,20 +251,21 @@ module _ (c : RawCode) (f : RawFunction) (place : ℕ) where
       (its_kind d, has_as ks a (its_kind d) m.1 parts.1, has_as ks b (its_kind d) m.2 parts.2, parts.0, has ks d m.0)
   step_fits (raw.Sum d r) n o t =
       let m = two_there d r n in
-      let parts = three_parts (its_kind r).array (fitting.is_word (its_kind r).element) (fitting.same_kind (its_kind d) (fitting.element_of (its_kind r))) o
-      in (
-        its_kind r,
-        has ks r m.1,
-        has_as ks d _ m.0 parts.2 ∙ ap (λ z. Some (record { secret = (its_kind r).secret; element = z; array = false }))
-            (word_is (its_kind r).element parts.1),
-      )
+      let last = fitting.same_kind (its_kind d) (fitting.element_of (its_kind r)) in
+      (its_kind r, has ks r m.1, has_as ks d _ m.0 (three_parts (its_kind r).array (fitting.is_number (its_kind r).element) last o).2)
   step_fits (raw.Bits d r line) n o t = let m = two_there d r n
       in (
         its_kind r,
         has ks r m.1,
-        has_as ks d _ m.0 (and_parts (fitting.is_word (its_kind r).element)
+        has_as ks d _ m.0 (and_parts (fitting.is_unsigned (its_kind r).element)
             (fitting.same_kind (its_kind d) (fitting.bits_of (its_kind r))) o).1,
       )
+  step_fits (raw.Lookup d a i line) n o t =
+      let m = three_there d a i n in
+      let k = its_kind a in
+      let l = its_kind i in
+      let before = k.secret && k.array && fitting.is_number k.element && l.secret && fitting.is_unsigned l.element in
+      (k, l, has ks a m.1, has ks i m.2, has_as ks d _ m.0 (and_parts before (fitting.same_kind (its_kind d) (fitting.looked_up_of k l)) o).1)
   step_fits (raw.Declassify d r) n o t = let m = two_there d r n in (its_kind r, has ks r m.1, has_as ks d _ m.0 o)
   step_fits (raw.Argument d name line) n o t = has ks d (and_parts (fitting.is_there ks d) (fitting.is_there c.names name) n).0
   step_fits (raw.Publish name r) n o t = tt
@@ -312,6 +295,7 @@ module _ (c : RawCode) (f : RawFunction) (place : ℕ) where
   return_same (raw.Cat d a b line) = refl
   return_same (raw.Sum d r) = refl
   return_same (raw.Bits d r line) = refl
+  return_same (raw.Lookup d a i line) = refl
   return_same (raw.Declassify d r) = refl
   return_same (raw.Argument d name line) = refl
   return_same (raw.Publish name r) = refl
@@ -372,6 +356,7 @@ leads_on c f place (raw.Size d r) t = tt
 leads_on c f place (raw.Cat d a b line) t = tt
 leads_on c f place (raw.Sum d r) t = tt
 leads_on c f place (raw.Bits d r line) t = tt
+leads_on c f place (raw.Lookup d a i line) t = tt
 leads_on c f place (raw.Declassify d r) t = tt
 leads_on c f place (raw.Argument d name line) t = tt
 leads_on c f place (raw.Publish name r) t = tt

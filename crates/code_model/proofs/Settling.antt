@@ -8,7 +8,7 @@ use Rattle.program_trees.specs.Operators.{operands_of, cast_between}
 use Rattle.bytecode.specs.declared.kind.Kind.{Kind}
 use Rattle.verified_code.specs.Fitting.{kind_at}
 use Rattle.verified_code.specs.Settled.{result_at, binary_step, settle}
-use Rattle.verified_code.specs.Steps.{Step, Function, Literal, Move, Store, Binary, Not, Cast, Classify, Fill, At, Put, Size, Cat, Sum, Bits, Declassify}
+use Rattle.verified_code.specs.Steps.{Step, Function, Literal, Move, Store, Binary, Not, Cast, Classify, Fill, At, Put, Size, Cat, Sum, Bits, Lookup, Declassify}
 use Rattle.verified_code.specs.Steps.{Argument, Publish, Assert, Branch, Jump, Call, Return, ReturnNone}
 use Rattle.code_model.specs.Kinded.{ResultFits, left_array, right_array}
 use Rattle.code_model.specs.Instructions.{nowhere, operator_number, register_or_nowhere, step_names, instruction}
@@ -46,6 +46,7 @@ module _ (names : List (List ℕ)) (c : List Function) (ks : List Kind) (gives :
   settles (Cat line d a b) h m = refl
   settles (Sum d r) h m = refl
   settles (Bits line d r) h m = refl
+  settles (Lookup line d a i) h m = refl
   settles (Declassify d r) h m = refl
   settles (Argument line k text d) h m =
       ap₂ (λ z t. Argument line z (unwrap_or t []) d) (its_kind ks d k h) (name_found text names (m text (inl refl)))

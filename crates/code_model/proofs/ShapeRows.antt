@@ -6,7 +6,7 @@ use Rattle.std.specs.List.{flat_map}
 use Rattle.std.proofs.lemmas.Bool.{leb-true, and_parts}
 use Rattle.std.proofs.lemmas.List.{length-map, length-take-le}
 use Rattle.program_trees.specs.declared.expression.DataType.{DataType}
-use Rattle.program_trees.specs.declared.expression.DataType.TheVariants.{Uint64}
+use Rattle.program_trees.specs.declared.expression.DataType.TheVariants.{Uint64, Int64}
 use Rattle.program_trees.specs.declared.expression.DataType.TheVariants as datatype
 use Rattle.sc_text.specs.Lists.{Among}
 use Rattle.sc_text.specs.declared.end.Ending.TheVariants as ending
@@ -16,12 +16,12 @@ use Rattle.sc_text.specs.declared.event.Event.TheVariants as event
 use Rattle.gates.specs.declared.gate.Gate.TheVariants as gates
 use Rattle.gates.specs.Clear.{each_two, first_word, bits_of}
 use Rattle.blind_evaluation.specs.BitExtract.{bits_plan}
+use Rattle.blind_evaluation.specs.Lookup.{looked, lookup_plan}
 use Rattle.program_trees.specs.declared.kinds.Shape.{Shape}
 use Rattle.program_trees.specs.declared.operators.BinaryOperator.{BinaryOperator}
 use Rattle.program_trees.specs.declared.operators.Operands.{Operands}
 use Rattle.program_trees.specs.declared.operators.Operands.TheVariants.{Scalars, ArrayAndScalar, ScalarAndArray, Arrays}
 use Rattle.program_trees.specs.declared.operators.Cast as casts
-use Rattle.program_trees.specs.declared.operators.Cast.TheVariants.{WordToWord, WordToBool, BoolToWord, BoolToBool}
 use Rattle.program_trees.specs.Shapes.{shape_of}
 use Rattle.blind_evaluation.specs.Effects.{World, GivenInput, Source, Clear, Answers, Stage, Short, done, test, charge, draw, gate}
 use Rattle.blind_evaluation.specs.Effects.{planned, show, emit, words_each, answer}
@@ -101,29 +101,46 @@ module _ (w : World) where
       go Plain = shown x.shape (map W.flipped x.words) single
       go (Private k) = makes_after (row.number_of x) _ (λ u. makes_after (row.flip (size x) u) _ (λ r. made x.shape (map W.flipped x.words) r single))
 
+  -- between numbers and truth values
+  converted_makes : (a : Secrecy) (c : casts.Cast) (x : Value) → (x.shape.array ≡ false → length x.words ≡ 1)
+      → Makes (row.converted w a c x) (IsShaped (row.cast_shape c x.shape.array))
+  converted_makes a c x h = go a
+    where
+      single : x.shape.array ≡ false → length (map (W.cast_word c) x.words) ≡ 1
+      single e = length-map x.words (W.cast_word c) ∙ h e
+
+      go : (a : Secrecy) → Makes (row.converted w a c x) (IsShaped (row.cast_shape c x.shape.array))
+      go Plain = shown (row.cast_shape c x.shape.array) (map (W.cast_word c) x.words) single
+      go (Private k) =
+          makes_after (draw w (row.words_of_cast c (size x))) _ (λ _. makes_after (row.number_of x) _ (λ u. makes_after (row.cast_gates c (size x) u) _
+          (λ r. made (row.cast_shape c x.shape.array) (map (W.cast_word c) x.words) r single)))
+
+  cast_from_makes : (given wanted : DataType) (c : casts.Cast) (x : Value) → c.wanted ≡ wanted → x.shape.element ≡ given
+      → (x.shape.array ≡ false → length x.words ≡ 1) → Makes (row.cast_from given wanted w c x) (IsShaped (row.cast_shape c x.shape.array))
+  cast_from_makes given wanted c x f e h = go given wanted f e
+    where
+      -- the same value, of the type that it has
+      kept : x.shape.element ≡ c.wanted → Makes (done x) (IsShaped (row.cast_shape c x.shape.array))
+      kept e = makes_done (record { same = ap (λ z. record { element = z; array = x.shape.array }) e; single = h })
+
+      relabelled : Makes (done (row.relabelled c x)) (IsShaped (row.cast_shape c x.shape.array))
+      relabelled = makes_done (record { same = refl; single = h })
+
+      go : (given wanted : DataType) → c.wanted ≡ wanted → x.shape.element ≡ given
+          → Makes (row.cast_from given wanted w c x) (IsShaped (row.cast_shape c x.shape.array))
+      go Uint64 Uint64 f e = kept (e ∙ sym f)
+      go Uint64 Int64 f e = relabelled
+      go Uint64 datatype.Bool f e = converted_makes x.secrecy c x h
+      go Int64 Uint64 f e = relabelled
+      go Int64 Int64 f e = kept (e ∙ sym f)
+      go Int64 datatype.Bool f e = converted_makes x.secrecy c x h
+      go datatype.Bool Uint64 f e = converted_makes x.secrecy c x h
+      go datatype.Bool Int64 f e = converted_makes x.secrecy c x h
+      go datatype.Bool datatype.Bool f e = kept (e ∙ sym f)
+
   pub cast_makes : (c : casts.Cast) (x : Value) → x.shape.element ≡ cast_source c → (x.shape.array ≡ false → length x.words ≡ 1) → Makes (row.cast_to w c x)
       (IsShaped (row.cast_shape c x.shape.array))
-  cast_makes c x e h = makes_after (row.charged row.no_traps (size x)) _ (λ _. go c e x.secrecy)
-    where
-      same : (s : Shape) (element : DataType) → s.element ≡ element → s ≡ shape_of element s.array
-      same s element e = ap (λ z. record { element = z; array = s.array }) e
-
-      single : (c : casts.Cast) → x.shape.array ≡ false → length (map (W.cast_word c) x.words) ≡ 1
-      single c e = length-map x.words (W.cast_word c) ∙ h e
-
-      go : (c : casts.Cast) → x.shape.element ≡ cast_source c → (a : Secrecy) → Makes (row.cast_from w a c x) (IsShaped (row.cast_shape c x.shape.array))
-      go WordToWord e a = makes_done (record { same = same x.shape Uint64 e; single = h })
-      go BoolToBool e a = makes_done (record { same = same x.shape datatype.Bool e; single = h })
-      go WordToBool e Plain = shown _ _ (single WordToBool)
-      go BoolToWord e Plain = shown _ _ (single BoolToWord)
-      go WordToBool e (Private k) =
-          makes_after (draw w (row.words_of_cast WordToBool (size x))) _
-          (λ _. makes_after (row.number_of x) _ (λ u. makes_after (row.cast_gates WordToBool (size x) u) _
-          (λ r. made (shape_of datatype.Bool x.shape.array) (map (W.cast_word WordToBool) x.words) r (single WordToBool))))
-      go BoolToWord e (Private k) =
-          makes_after (draw w (row.words_of_cast BoolToWord (size x))) _
-          (λ _. makes_after (row.number_of x) _ (λ u. makes_after (row.cast_gates BoolToWord (size x) u) _
-          (λ r. made (shape_of Uint64 x.shape.array) (map (W.cast_word BoolToWord) x.words) r (single BoolToWord))))
+  cast_makes c x e h = makes_after (row.charged row.no_traps (size x)) _ (λ _. cast_from_makes c.given c.wanted c x refl e h)
 
   pub classified_makes : (x : Value) → (x.shape.array ≡ false → length x.words ≡ 1) → Makes (row.classified x) (IsShaped x.shape)
   classified_makes x h = go x.secrecy
@@ -166,13 +183,13 @@ module _ (w : World) where
   pub size_makes : (x : Value) → Makes (row.size_told x) (IsShaped (shape_of Uint64 false))
   size_makes x = makes_after (charge 1) _ (λ _. shown (shape_of Uint64 false) (size x ∷ []) (λ e. refl))
 
-  pub summed_makes : (x : Value) → Makes (row.summed x) (IsShaped (shape_of Uint64 false))
+  pub summed_makes : (x : Value) → Makes (row.summed x) (IsShaped (shape_of x.shape.element false))
   summed_makes x = makes_after (charge 1) _ (λ _. go x.secrecy)
     where
-      go : (a : Secrecy) → Makes (row.summed_from a x) (IsShaped (shape_of Uint64 false))
-      go Plain = shown (shape_of Uint64 false) (sum x.words % 2 ^ 64 ∷ []) (λ e. refl)
+      go : (a : Secrecy) → Makes (row.summed_from a x) (IsShaped (shape_of x.shape.element false))
+      go Plain = shown (shape_of x.shape.element false) (sum x.words % 2 ^ 64 ∷ []) (λ e. refl)
       go (Private k) = makes_after (row.number_of x) _ (λ u. makes_after (gate (gates.Sum u)) _
-          (λ r. made (shape_of Uint64 false) (sum x.words % 2 ^ 64 ∷ []) r (λ e. refl)))
+          (λ r. made (shape_of x.shape.element false) (sum x.words % 2 ^ 64 ∷ []) r (λ e. refl)))
 
   pub bits_makes : (line : ℕ) (x : Value) → Makes (row.bits_extracted w line x) (IsShaped (shape_of datatype.Bool true))
   bits_makes line x = makes_after (row.charged (row.not_too_large line (64 * size x)) (64 * size x)) _ (λ _. go x.secrecy)
@@ -183,6 +200,15 @@ module _ (w : World) where
           makes_after (draw w (row.words_for_bits (size x))) _
           (λ _. makes_after (row.number_of x) _ (λ u. makes_after (planned (λ first. bits_plan first u (size x))) _
           (λ b. made (shape_of datatype.Bool true) (flat_map bits_of x.words) b (λ e. absurd (clash e)))))
+
+  pub looked_up_makes : (line : ℕ) (a i : Value) → (i.shape.array ≡ false → length i.words ≡ 1)
+      → Makes (row.looked_up w line a i) (IsShaped (shape_of a.shape.element i.shape.array))
+  looked_up_makes line a i h =
+      let n = size a * size i in
+      makes_after (row.charged (row.not_too_large line n) n) _ (λ _. makes_after (draw w (row.words_for_lookup n)) _
+      (λ _. makes_after (row.number_of a) _ (λ u. makes_after (row.number_of i) _
+      (λ v. makes_after (planned (λ first. lookup_plan first u v (size a) (size i))) _
+      (λ r. made (shape_of a.shape.element i.shape.array) (looked a.words i.words) r (λ e. length-map i.words (λ k. get_or a.words k 0) ∙ h e))))))
 
   pub concatenated_makes : (line : ℕ) (x y : Value) → x.shape.array ≡ true → Makes (row.concatenated line x y) (IsShaped x.shape)
   concatenated_makes line x y h = makes_after (row.charged (row.not_too_large line (size x + size y)) (size x + size y)) _ (λ _. go x.secrecy y.secrecy)
@@ -213,6 +239,7 @@ module _ (w : World) where
 
   read_length : (e : DataType) (ws : List ℕ) → length (row.read_answer e ws) ≡ length ws
   read_length Uint64 ws = refl
+  read_length Int64 ws = refl
   read_length datatype.Bool ws = length-map ws (λ x. x % 2)
 
   revealed_makes : (x : Value) → (x.shape.array ≡ false → length x.words ≡ 1) → Makes (row.revealed w x) (IsShaped x.shape)
@@ -242,8 +269,13 @@ module _ (w : World) where
 
   types_same : (a b : DataType) → same_type a b ≡ true → a ≡ b
   types_same Uint64 Uint64 h = refl
+  types_same Uint64 Int64 h = cc
   types_same Uint64 datatype.Bool h = cc
+  types_same Int64 Uint64 h = cc
+  types_same Int64 Int64 h = refl
+  types_same Int64 datatype.Bool h = cc
   types_same datatype.Bool Uint64 h = cc
+  types_same datatype.Bool Int64 h = cc
   types_same datatype.Bool datatype.Bool h = refl
 
   truths_same : (a b : Bool) → same_truth a b ≡ true → a ≡ b

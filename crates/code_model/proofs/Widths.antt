@@ -4,7 +4,7 @@ use Rattle.std.proofs.Common.{◌≡◌, ℕ, zero, suc, ◌+◌, ◌-◌, ◌*�
 use Rattle.std.specs.Prelude.{max, nat_le}
 use Rattle.std.proofs.lemmas.Bool.{leb-true, leb-false}
 use Rattle.std.proofs.Math.Nat.{max-eq_left, max-eq_right, le-max_left, le-max_right, zero-max}
-use Rattle.program_trees.specs.TypedTree.{TypedTree, TypedTrees, word_node, truth_node, slot_node, call_node, size_node, cat_node, sum_node, bits_node, element_node}
+use Rattle.program_trees.specs.TypedTree.{TypedTree, TypedTrees, word_node, truth_node, slot_node, call_node, size_node, cat_node, sum_node, bits_node, lookup_node, element_node}
 use Rattle.program_trees.specs.TypedTree.{not_node, cast_node, binary_node, cut_node, declassify_node, typed_trees_of}
 use Rattle.program_trees.specs.TypedTree as Tree'
 use Rattle.program_trees.specs.TypedStatements.{TypedStatementTree, TypedStatementTrees, empty_statement, block_statement, if_statement, loop_statement, do_statement}
@@ -24,6 +24,7 @@ abbrev mutual
   width (cat_node line a b) = 3 + width a + width b
   width (sum_node e) = 1 + width e
   width (bits_node line e) = 1 + width e
+  width (lookup_node line a i) = 3 + width a + width i
   width (element_node line a i) = 1 + width a + width i
   width (not_node e) = 1 + width e
   width (cast_node c e) = 1 + width e
@@ -71,9 +72,6 @@ max-least a b n h k = go (nat_le a b) refl
         let same = max-eq_left (let l : b ≤ a = omega (arith, over) in l) in
         omega (arith, same, h)
 
-max-added : (a b m n : ℕ) → a ≤ m → b ≤ n → max a b ≤ m + n
-max-added a b m n h k = max-least a b (m + n) (omega (arith, h)) (omega (arith, k))
-
 -- an argument more
 max-more : (a b c : ℕ) → max a (1 + max b c) ≡ max (max a (1 + b)) (1 + c)
 max-more a b c =
@@ -103,6 +101,7 @@ depth_some (size_node e) = depth_some e
 depth_some (cat_node line a b) = let l = le-max_right (depth a) (1 + depth b) in omega (arith, l)
 depth_some (sum_node e) = depth_some e
 depth_some (bits_node line e) = depth_some e
+depth_some (lookup_node line a i) = let l = le-max_right (depth a) (1 + depth i) in omega (arith, l)
 depth_some (element_node line a i) = let l = le-max_right (depth a) (1 + depth i) in omega (arith, l)
 depth_some (not_node e) = depth_some e
 depth_some (cast_node c e) = depth_some e
@@ -122,66 +121,94 @@ depths_more (e ∷ ts) t =
     ap (λ n. max (depth e) (1 + n)) (depths_more ts t) ∙ max-more (depth e) (depths (typed_trees_of ts)) (length ts + depth t)
     ∙ ap (max (max (depth e) (1 + depths (typed_trees_of ts)))) count
 
+pub width_some : (e : TypedTree) → 0 < width e
+width_some (word_node n) = omega arith
+width_some (truth_node b) = omega arith
+width_some (slot_node k) = omega arith
+width_some (call_node line k es) = omega arith
+width_some (size_node e) = omega arith
+width_some (cat_node line a b) = omega arith
+width_some (sum_node e) = omega arith
+width_some (bits_node line e) = omega arith
+width_some (lookup_node line a i) = omega arith
+width_some (element_node line a i) = omega arith
+width_some (not_node e) = omega arith
+width_some (cast_node c e) = omega arith
+width_some (binary_node line op ds a b) = omega arith
+width_some (cut_node c a b) = omega arith
+width_some (declassify_node e) = omega arith
+
+-- twice the greater of two
+twice-least : (a b n : ℕ) → a + a ≤ n → b + b ≤ n → max a b + max a b ≤ n
+twice-least a b n h k = go (nat_le a b) refl
+  where
+    go : (c : Bool) → nat_le a b ≡ c → max a b + max a b ≤ n
+    go true e = let same = max-eq_right (leb-true a b e) in omega (arith, same, k)
+    go false e =
+        let over = leb-false a b e in
+        let same = max-eq_left (let l : b ≤ a = omega (arith, over) in l) in
+        omega (arith, same, h)
+
+-- the row of one more operand
+twice-behind : (a b m n w : ℕ) → 0 < m → a + a ≤ m + 1 → b + b ≤ n + 1 → m + n + 1 ≤ w → max a (1 + b) + max a (1 + b) ≤ w + 1
+twice-behind a b m n w s h k l = twice-least a (1 + b) (w + 1) (omega (arith, h, l)) (omega (arith, s, k, l))
+
+pair_deep : (a b : TypedTree) (w : ℕ) → width a + width b + 1 ≤ w → depth a + depth a ≤ width a + 1 → depth b + depth b ≤ width b + 1
+    → max (depth a) (1 + depth b) + max (depth a) (1 + depth b) ≤ w + 1
+pair_deep a b w h l m = twice-behind (depth a) (depth b) (width a) (width b) w (width_some a) l m h
+
+-- rows of two registers would be as many registers as the measure says, but for one
 mutual
-  pub expression_deep : (e : TypedTree) → depth e ≤ width e
+  pub expression_deep : (e : TypedTree) → depth e + depth e ≤ width e + 1
   expression_deep (word_node n) = omega arith
   expression_deep (truth_node b) = omega arith
   expression_deep (slot_node k) = omega arith
-  expression_deep (call_node line k es) = let l = arguments_deep es in max-least (depths es) 1 (1 + widths es) (omega (arith, l)) (omega arith)
+  expression_deep (call_node line k es) =
+      let l = arguments_deep es in
+      twice-least (depths es) 1 (1 + widths es + 1) (omega (arith, l)) (omega arith)
   expression_deep (size_node e) = let l = expression_deep e in omega (arith, l)
-  expression_deep (cat_node line a b) =
-      let l = expression_deep a in
-      let m = expression_deep b in
-      max-least (depth a) (1 + depth b) (3 + width a + width b) (omega (arith, l)) (omega (arith, m))
+  expression_deep (cat_node line a b) = pair_deep a b (3 + width a + width b) (omega arith) (expression_deep a) (expression_deep b)
   expression_deep (sum_node e) = let l = expression_deep e in omega (arith, l)
   expression_deep (bits_node line e) = let l = expression_deep e in omega (arith, l)
-  expression_deep (element_node line a i) =
-      let l = expression_deep a in
-      let m = expression_deep i in
-      max-least (depth a) (1 + depth i) (1 + width a + width i) (omega (arith, l)) (omega (arith, m))
+  expression_deep (lookup_node line a i) = pair_deep a i (3 + width a + width i) (omega arith) (expression_deep a) (expression_deep i)
+  expression_deep (element_node line a i) = pair_deep a i (1 + width a + width i) (omega arith) (expression_deep a) (expression_deep i)
   expression_deep (not_node e) = let l = expression_deep e in omega (arith, l)
   expression_deep (cast_node c e) = let l = expression_deep e in omega (arith, l)
-  expression_deep (binary_node line op ds a b) =
-      let l = expression_deep a in
-      let m = expression_deep b in
-      max-least (depth a) (1 + depth b) (3 + width a + width b) (omega (arith, l)) (omega (arith, m))
-  expression_deep (cut_node c a b) =
-      let l = expression_deep a in
-      let m = expression_deep b in
-      max-least (depth a) (1 + depth b) (3 + width a + width b) (omega (arith, l)) (omega (arith, m))
+  expression_deep (binary_node line op ds a b) = pair_deep a b (3 + width a + width b) (omega arith) (expression_deep a) (expression_deep b)
+  expression_deep (cut_node c a b) = pair_deep a b (3 + width a + width b) (omega arith) (expression_deep a) (expression_deep b)
   expression_deep (declassify_node e) = let l = expression_deep e in omega (arith, l)
 
-  arguments_deep : (es : TypedTrees) → depths es ≤ widths es
+  pub arguments_deep : (es : TypedTrees) → depths es + depths es ≤ widths es
   arguments_deep Tree'.none = omega arith
   arguments_deep (Tree'.also e es) =
+      let s = width_some e in
       let l = expression_deep e in
       let m = arguments_deep es in
-      max-least (depth e) (1 + depths es) (1 + width e + widths es) (omega (arith, l)) (omega (arith, m))
+      twice-least (depth e) (1 + depths es) (1 + width e + widths es) (omega (arith, l)) (omega (arith, s, m))
 
-pair_deep : (a b : TypedTree) → max (depth a) (1 + depth b) ≤ 1 + width a + width b
-pair_deep a b =
-    let l = expression_deep a in
-    let m = expression_deep b in
-    max-least (depth a) (1 + depth b) (1 + width a + width b) (omega (arith, l)) (omega (arith, m))
+-- of statements that are added to one another
+twice-added : (a b m n : ℕ) → a + a ≤ m + 1 → b + b ≤ n + 1 → max a b + max a b ≤ m + n + 1
+twice-added a b m n h k = twice-least a b (m + n + 1) (omega (arith, h)) (omega (arith, k))
 
 mutual
-  statement_deep : (c : TypedStatementTree) → statement_depth c ≤ statement_width c
+  pub statement_deep : (c : TypedStatementTree) → statement_depth c + statement_depth c ≤ statement_width c + 1
   statement_deep empty_statement = omega arith
   statement_deep (block_statement cs) = statements_deep cs
   statement_deep (if_statement e a b) =
       let l = expression_deep e in
-      let m = max-added (statement_depth a) (statement_depth b) (statement_width a) (statement_width b) (statement_deep a) (statement_deep b) in
-      max-least (depth e) (max (statement_depth a) (statement_depth b)) (width e + statement_width a + statement_width b) (omega (arith, l)) (omega (arith, m))
+      let m = twice-added (statement_depth a) (statement_depth b) (statement_width a) (statement_width b) (statement_deep a) (statement_deep b) in
+      twice-least (depth e) (max (statement_depth a) (statement_depth b)) (width e + statement_width a + statement_width b + 1) (omega (arith, l))
+      (omega (arith, m))
   statement_deep (loop_statement e step body) =
       let l = expression_deep e in
-      let m = max-added (statement_depth step) (statement_depth body) (statement_width step) (statement_width body) (statement_deep step)
+      let m = twice-added (statement_depth step) (statement_depth body) (statement_width step) (statement_width body) (statement_deep step)
       (statement_deep body) in
-      max-least (depth e) (max (statement_depth step) (statement_depth body)) (statement_width body + statement_width step + width e)
+      twice-least (depth e) (max (statement_depth step) (statement_depth body)) (statement_width body + statement_width step + width e + 1)
       (omega (arith, l)) (omega (arith, m))
   statement_deep (do_statement body e) =
       let l = expression_deep e in
       let m = statement_deep body in
-      max-least (depth e) (statement_depth body) (statement_width body + width e) (omega (arith, l)) (omega (arith, m))
+      twice-least (depth e) (statement_depth body) (statement_width body + width e + 1) (omega (arith, l)) (omega (arith, m))
   statement_deep break_statement = omega arith
   statement_deep continue_statement = omega arith
   statement_deep (return_statement None) = omega arith
@@ -189,19 +216,19 @@ mutual
   statement_deep (assert_statement line e) = expression_deep e
   statement_deep (store_statement k e) = let l = expression_deep e in omega (arith, l)
   statement_deep (default_statement k) = omega arith
-  statement_deep (fill_statement line k n e) = pair_deep n e
+  statement_deep (fill_statement line k n e) = pair_deep n e (1 + width n + width e) (omega arith) (expression_deep n) (expression_deep e)
   statement_deep (input_statement line k text) = omega arith
-  statement_deep (element_statement line k i e) = pair_deep i e
+  statement_deep (element_statement line k i e) = pair_deep i e (1 + width i + width e) (omega arith) (expression_deep i) (expression_deep e)
   statement_deep (publish_statement text e) = expression_deep e
   statement_deep (evaluate_statement e) = expression_deep e
 
-  pub statements_deep : (cs : TypedStatementTrees) → statements_depth cs ≤ statements_width cs
+  pub statements_deep : (cs : TypedStatementTrees) → statements_depth cs + statements_depth cs ≤ statements_width cs + 1
   statements_deep Statements'.none = omega arith
   statements_deep (Statements'.also c cs) =
-      max-added (statement_depth c) (statements_depth cs) (statement_width c) (statements_width cs) (statement_deep c) (statements_deep cs)
+      twice-added (statement_depth c) (statements_depth cs) (statement_width c) (statements_width cs) (statement_deep c) (statements_deep cs)
 
 -- ---- REGISTERS
 
-pub rows_length : (n : ℕ) → length (rows_kinds n) ≡ 8 * n
+pub rows_length : (n : ℕ) → length (rows_kinds n) ≡ 12 * n
 rows_length zero = refl
 rows_length (suc n) = let more = rows_length n in omega (arith, more)

@@ -9,7 +9,7 @@ use Rattle.blind_evaluation.specs.Values.{Value, size, never_stored}
 use Rattle.blind_evaluation.specs.Operations as row
 use Rattle.blind_evaluation.specs.Evaluation.{Frame, put, array_elements, either, asked_for, input_named, nothing}
 use Rattle.bytecode.specs.declared.kind.Kind.{Kind}
-use Rattle.verified_code.specs.Steps.{kind_shape, Step, Literal, Move, Store, Binary, Not, Cast, Classify, Fill, At, Put, Size, Cat, Sum, Bits, Declassify}
+use Rattle.verified_code.specs.Steps.{kind_shape, Step, Literal, Move, Store, Binary, Not, Cast, Classify, Fill, At, Put, Size, Cat, Sum, Bits, Lookup, Declassify}
 use Rattle.verified_code.specs.Steps.{Argument, Publish, Assert, Branch, Jump, Call, Return, ReturnNone, Function}
 use Rattle.code_model.specs.Machine.{Caller, Machine, at, next, values_at, begun, filled_with, kinds_of, steps_of, entering, limit, received, resume}
 use Rattle.code_model.specs.Machine.{same_truth, step, begin_at, start}
@@ -18,7 +18,7 @@ use Rattle.code_model.specs.Kinded.{AreWithin, IsWithin}
 use Rattle.code_model.proofs.Places.{put_all}
 use Rattle.code_model.proofs.Makes.{Makes, makes_done, makes_end, makes_bind, makes_after}
 use Rattle.code_model.proofs.KindRows.{operated_kind, negated_kind, cast_kind, classified_kind}
-use Rattle.code_model.proofs.KindRows.{filled_kind, element_kind, with_element_kind, size_kind, concatenated_kind, summed_kind, bits_kind, declassified_kind}
+use Rattle.code_model.proofs.KindRows.{filled_kind, element_kind, with_element_kind, size_kind, concatenated_kind, summed_kind, bits_kind, looked_up_kind, declassified_kind}
 use Rattle.code_model.proofs.KindRows.{asked_kind}
 
 found : {A : Type 0} (xs : List A) (k : ℕ) → k < length xs → (x : A) × (slice_get xs k ≡ Some x)
@@ -132,6 +132,9 @@ module _ (w : World) (p : List Function) (fits : (f : Function) → IsIn p f →
         (concatenated_kind w line f.0 (m.registers a) (m.registers b) (h.registers a f.0 f.1) (h.registers b f.0 f.2) f.3)
     act (Sum d r) f g = sets d _ (row.summed (m.registers r)) (g refl) f.2 (summed_kind w f.0 (m.registers r) (h.registers r f.0 f.1))
     act (Bits line d r) f g = sets d _ (row.bits_extracted w line (m.registers r)) (g refl) f.2 (bits_kind w line f.0 (m.registers r) (h.registers r f.0 f.1))
+    act (Lookup line d a i) f g =
+        sets d _ (row.looked_up w line (m.registers a) (m.registers i)) (g refl) f.4
+        (looked_up_kind w line f.0 f.1 (m.registers a) (m.registers i) (h.registers a f.0 f.2) (h.registers i f.1 f.3))
     act (Declassify d r) f g = sets d _ (row.declassified w (m.registers r)) (g refl) f.2 (declassified_kind w f.0 (m.registers r) (h.registers r f.0 f.1))
     act (Argument line k text d) f g = sets d k (asked_for k.secret (kind_shape k) line (input_named w text)) (g refl) f (asked_kind w k line text singles)
     act (Publish text r) f g = makes_after (row.published w text (m.registers r)) _ (λ u. makes_done (moving (m.pc + 1) (g refl)))

@@ -1,6 +1,6 @@
 -- The code of an expression.
 --
--- Its registers are in rows of eight, the first of which begins at t. There its value stands, in the register of its kind, but that of a
+-- Its registers are in rows of twelve, the first of which begins at t. There its value stands, in the register of its kind, but that of a
 -- variable in its slot. Targets of branches are places in the function's code, so that the code hangs on the place pc where it stands.
 use Rattle.std.specs.Prelude.{ℕ, ◌+◌, Bool, true, false, not, ◌&&◌, List, [], ◌∷◌, ◌++◌, length, Option, Some, None}
 use Rattle.std.specs.List.{slice_get}
@@ -13,7 +13,7 @@ use Rattle.program_trees.specs.declared.operators.Operands.{Operands}
 use Rattle.program_trees.specs.declared.operators.Operands.TheVariants.{Scalars}
 use Rattle.program_trees.specs.declared.operators.Connective.{Connective}
 use Rattle.program_trees.specs.declared.operators.Connective.TheVariants.{AndAlso, OrElse}
-use Rattle.program_trees.specs.TypedTree.{TypedTree, TypedTrees, word_node, truth_node, slot_node, call_node, size_node, cat_node, sum_node, bits_node, element_node}
+use Rattle.program_trees.specs.TypedTree.{TypedTree, TypedTrees, word_node, truth_node, slot_node, call_node, size_node, cat_node, sum_node, bits_node, lookup_node, element_node}
 use Rattle.program_trees.specs.TypedTree.{not_node, cast_node, binary_node, cut_node, declassify_node}
 use Rattle.program_trees.specs.TypedTree as Tree'
 use Rattle.program_trees.specs.TypedPrograms.{TypedFunctionTree}
@@ -24,7 +24,7 @@ use Rattle.reached_instances.specs.Domains.{Setting, domains}
 use Rattle.blind_evaluation.specs.Words.{truth_word}
 use Rattle.blind_evaluation.specs.Operations.{is_product}
 use Rattle.blind_evaluation.specs.Evaluation.{gives_private, bound_at, slots_of, next_is_private, behind_next, connective, either}
-use Rattle.verified_code.specs.Steps.{Step, Literal, Move, Binary, Not, Cast, Classify, At, Size, Cat, Sum, Bits, Declassify, Branch, Jump, Call}
+use Rattle.verified_code.specs.Steps.{Step, Literal, Move, Binary, Not, Cast, Classify, At, Size, Cat, Sum, Bits, Lookup, Declassify, Branch, Jump, Call}
 use Rattle.code_model.specs.Kinds.{kind_in, private_kind_in, truth_kind, in_row}
 
 -- the number that the code gives to an instance
@@ -79,7 +79,7 @@ stands_at here e t = read_at e (own_at here e t)
 
 -- where the next row begins
 abbrev pub next_row : ℕ → ℕ
-next_row t = t + 8
+next_row t = t + 12
 
 -- ---- NODES WITH ONE OPERAND: c is its code, r the register where it stands
 
@@ -103,6 +103,11 @@ cat_code d m n v u pc line l r ca cb =
     let cl = classifying l m v in
     ca ++ (cl ++ (cb (pc + length ca + length cl)
     ++ (classifying r n u ++ Cat line d (picked l m v) (picked r n u) ∷ [])))
+
+-- both operands, and then the classification of each that is public
+abbrev pub lookup_code : (d m n v u pc line : ℕ) → (left right : Bool) → List Step → (ℕ → List Step) → List Step
+lookup_code d m n v u pc line l r ca cb =
+    ca ++ (cb (pc + length ca) ++ (classifying l m v ++ (classifying r n u ++ Lookup line d (picked l m v) (picked r n u) ∷ [])))
 
 abbrev pub element_code : (d v u pc line : ℕ) → List Step → (ℕ → List Step) → List Step
 element_code d v u pc line ca cb = ca ++ (cb (pc + length ca) ++ At line d v u ∷ [])
@@ -146,6 +151,10 @@ module _ (number : Numbers) where
         (lacks g (gives_private here a)) (lacks g (gives_private here b)) (expression_code here t pc a) (λ p. expression_code here tb p b)
     expression_code here t pc (sum_node e) = one_code (Sum (own_at here (sum_node e) t)) (stands_at here e t) (expression_code here t pc e)
     expression_code here t pc (bits_node line e) = one_code (Bits line (own_at here (bits_node line e) t)) (stands_at here e t) (expression_code here t pc e)
+    expression_code here t pc (lookup_node line a i) =
+        let ti = next_row t in
+        lookup_code (own_at here (lookup_node line a i) t) (classified_at here a t) (classified_at here i ti) (stands_at here a t) (stands_at here i ti) pc
+        line (lacks true (gives_private here a)) (lacks true (gives_private here i)) (expression_code here t pc a) (λ p. expression_code here ti p i)
     expression_code here t pc (element_node line a i) =
         let ti = next_row t in
         element_code (own_at here (element_node line a i) t) (stands_at here a t) (stands_at here i ti) pc line (expression_code here t pc a)

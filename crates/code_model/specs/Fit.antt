@@ -4,7 +4,7 @@ use Rattle.std.specs.Prelude.{◌≡◌, ◌<◌, ℕ, Bool, true, false, ◌&&�
 use Rattle.std.specs.List.{slice_get}
 use Rattle.sc_text.specs.Lists.{Among}
 use Rattle.program_trees.specs.declared.kinds.Slot.{Slot}
-use Rattle.program_trees.specs.TypedTree.{TypedTree, TypedTrees, word_node, truth_node, slot_node, call_node, size_node, cat_node, sum_node, bits_node, element_node}
+use Rattle.program_trees.specs.TypedTree.{TypedTree, TypedTrees, word_node, truth_node, slot_node, call_node, size_node, cat_node, sum_node, bits_node, lookup_node, element_node}
 use Rattle.program_trees.specs.TypedTree.{not_node, cast_node, binary_node, cut_node, declassify_node}
 use Rattle.program_trees.specs.TypedTree as Tree'
 use Rattle.program_trees.specs.TypedStatements.{TypedStatementTree, TypedStatementTrees, empty_statement, block_statement, if_statement, loop_statement, do_statement}
@@ -38,6 +38,7 @@ module _ (Known : ℕ → List BoundDomain → Type 0) where
     IsFit here (cat_node line a b) = IsFit here a × IsFit here b
     IsFit here (sum_node e) = IsFit here e
     IsFit here (bits_node line e) = IsFit here e
+    IsFit here (lookup_node line a i) = IsFit here a × IsFit here i × (gives_private here (lookup_node line a i) ≡ true)
     IsFit here (element_node line a i) = IsFit here a × IsFit here i
     IsFit here (not_node e) = IsFit here e
     IsFit here (cast_node c e) = IsFit here e

@@ -7,7 +7,7 @@ use Rattle.program_trees.specs.Operators.{sign_of}
 use Rattle.bytecode.specs.InMemory.{operator_byte}
 use Rattle.bytecode.specs.Raw.{Raw, RawFunction, RawCode}
 use Rattle.bytecode.specs.Raw as raw
-use Rattle.verified_code.specs.Steps.{Step, Function, Literal, Move, Store, Binary, Not, Cast, Classify, Fill, At, Put, Size, Cat, Sum, Bits, Declassify}
+use Rattle.verified_code.specs.Steps.{Step, Function, Literal, Move, Store, Binary, Not, Cast, Classify, Fill, At, Put, Size, Cat, Sum, Bits, Lookup, Declassify}
 use Rattle.verified_code.specs.Steps.{Argument, Publish, Assert, Branch, Jump, Call, Return, ReturnNone}
 use Rattle.code_model.specs.Words.{truth_word}
 
@@ -49,6 +49,7 @@ module _ (names : List (List ℕ)) where
   instruction (Cat line d a b) = raw.Cat d a b line
   instruction (Sum d r) = raw.Sum d r
   instruction (Bits line d r) = raw.Bits d r line
+  instruction (Lookup line d a i) = raw.Lookup d a i line
   instruction (Declassify d r) = raw.Declassify d r
   instruction (Argument line k text d) = raw.Argument d (place_among text names) line
   instruction (Publish text r) = raw.Publish (place_among text names) r

@@ -6,14 +6,14 @@ use Rattle.program_trees.specs.declared.expression.DataType.TheVariants.{Uint64}
 use Rattle.program_trees.specs.declared.expression.DataType.TheVariants as datatype
 use Rattle.sc_text.specs.Lists.{Among}
 use Rattle.program_trees.specs.declared.operators.Cast as casts
-use Rattle.program_trees.specs.declared.operators.Cast.TheVariants.{WordToWord, WordToBool, BoolToWord, BoolToBool}
 use Rattle.program_trees.specs.declared.operators.Operands.{Operands}
 use Rattle.program_trees.specs.declared.operators.Operands.TheVariants.{Scalars, ArrayAndScalar, ScalarAndArray, Arrays}
 use Rattle.blind_evaluation.specs.Effects.{GivenInput}
 use Rattle.blind_evaluation.specs.Values.{Value, is_secret}
 use Rattle.blind_evaluation.specs.Operations.{result_shape}
 use Rattle.bytecode.specs.declared.kind.Kind.{Kind}
-use Rattle.verified_code.specs.Steps.{kind_shape, Step, Literal, Move, Store, Binary, Not, Cast, Classify, Fill, At, Put, Size, Cat, Sum, Bits, Declassify}
+use Rattle.verified_code.specs.Fitting.{looked_up_of}
+use Rattle.verified_code.specs.Steps.{kind_shape, Step, Literal, Move, Store, Binary, Not, Cast, Classify, Fill, At, Put, Size, Cat, Sum, Bits, Lookup, Declassify}
 use Rattle.verified_code.specs.Steps.{Argument, Publish, Assert, Branch, Jump, Call, Return, ReturnNone, Function}
 use Rattle.blind_evaluation.specs.Evaluation.{Frame}
 use Rattle.code_model.specs.Machine.{Caller, Machine}
@@ -46,16 +46,10 @@ abbrev pub with_array : Bool → Kind → Kind
 with_array b k = record { secret = k.secret; element = k.element; array = b }
 
 abbrev pub cast_source : casts.Cast → DataType
-cast_source WordToWord = Uint64
-cast_source WordToBool = Uint64
-cast_source BoolToWord = datatype.Bool
-cast_source BoolToBool = datatype.Bool
+cast_source c = c.given
 
 abbrev pub cast_target : casts.Cast → DataType
-cast_target WordToWord = Uint64
-cast_target WordToBool = datatype.Bool
-cast_target BoolToWord = Uint64
-cast_target BoolToBool = datatype.Bool
+cast_target c = c.wanted
 
 abbrev pub left_array : Operands → Bool
 left_array Scalars = false
@@ -104,8 +98,9 @@ StepFits p f (At line d a i) = (k : Kind) × HasKind f.kinds a k × HasKind f.ki
 StepFits p f (Put line a i x) = (k : Kind) × HasKind f.kinds a k × (k.array ≡ true)
 StepFits p f (Size d r) = HasKind f.kinds d (public_scalar Uint64)
 StepFits p f (Cat line d a b) = (k : Kind) × HasKind f.kinds a k × HasKind f.kinds b k × (k.array ≡ true) × HasKind f.kinds d k
-StepFits p f (Sum d r) = (k : Kind) × HasKind f.kinds r k × HasKind f.kinds d (with_secret k.secret (public_scalar Uint64))
+StepFits p f (Sum d r) = (k : Kind) × HasKind f.kinds r k × HasKind f.kinds d (with_array false k)
 StepFits p f (Bits line d r) = (k : Kind) × HasKind f.kinds r k × HasKind f.kinds d (with_array true (with_secret k.secret (public_scalar datatype.Bool)))
+StepFits p f (Lookup line d a i) = (k : Kind) × (l : Kind) × HasKind f.kinds a k × HasKind f.kinds i l × HasKind f.kinds d (looked_up_of k l)
 StepFits p f (Declassify d r) = (k : Kind) × HasKind f.kinds r k × HasKind f.kinds d (with_secret false k)
 StepFits p f (Argument line k text d) = HasKind f.kinds d k
 StepFits p f (Publish text r) = Unit {0}

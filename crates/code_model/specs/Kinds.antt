@@ -1,18 +1,19 @@
 -- The registers of values on their way: how many, and of which kinds.
 --
--- Such a value stands in a row of eight registers, one for each kind. An expression has the row where its code begins for its own value
+-- Such a value stands in a row of twelve registers, one for each kind. An expression has the row where its code begins for its own value
 -- and for that of its first operand, and the rows after it for its further operands: so each row is used again and again. Where a value
 -- has to be classified, it is so within its row.
 use Rattle.std.specs.Prelude.{ℕ, zero, suc, ◌+◌, max, Bool, true, false, List, [], ◌∷◌, ◌++◌, Option, Some, None}
 use Rattle.std.specs.List.{slice_get}
-use Rattle.program_trees.specs.declared.expression.DataType.TheVariants.{Uint64}
+use Rattle.program_trees.specs.declared.expression.DataType.{DataType}
+use Rattle.program_trees.specs.declared.expression.DataType.TheVariants.{Uint64, Int64}
 use Rattle.program_trees.specs.declared.expression.DataType.TheVariants as datatype
 use Rattle.program_trees.specs.declared.kinds.Shape.{Shape}
 use Rattle.program_trees.specs.declared.kinds.Slot.{Slot}
 use Rattle.program_trees.specs.declared.typed_function.Returned.{Returned}
 use Rattle.program_trees.specs.declared.typed_function.Returned.TheVariants as given
 use Rattle.program_trees.specs.Shapes.{shape_of}
-use Rattle.program_trees.specs.TypedTree.{TypedTree, TypedTrees, truth_node, slot_node, call_node, size_node, cat_node, sum_node, bits_node, element_node}
+use Rattle.program_trees.specs.TypedTree.{TypedTree, TypedTrees, truth_node, slot_node, call_node, size_node, cat_node, sum_node, bits_node, lookup_node, element_node}
 use Rattle.program_trees.specs.TypedTree.{not_node, cast_node, binary_node, cut_node, declassify_node}
 use Rattle.program_trees.specs.TypedTree as Tree'
 use Rattle.program_trees.specs.TypedPrograms.{TypedFunctionTree}
@@ -21,7 +22,6 @@ use Rattle.reached_instances.specs.Domains.{Setting, domain_under}
 use Rattle.blind_evaluation.specs.Operations.{result_shape, cast_shape}
 use Rattle.blind_evaluation.specs.Evaluation.{is_private, gives_private, slot_shape, either}
 use Rattle.bytecode.specs.declared.kind.Kind.{Kind}
-use Rattle.bytecode.specs.Kinds.{element_bit}
 
 -- ---- HOW MANY
 
@@ -33,6 +33,7 @@ abbrev mutual
   depth (cat_node line a b) = max (depth a) (1 + depth b)
   depth (sum_node e) = depth e
   depth (bits_node line e) = depth e
+  depth (lookup_node line a i) = max (depth a) (1 + depth i)
   depth (element_node line a i) = max (depth a) (1 + depth i)
   depth (not_node e) = depth e
   depth (cast_node c e) = depth e
@@ -65,7 +66,9 @@ shape_in here (truth_node b) = shape_of datatype.Bool false
 shape_in here (slot_node k) = slot_shape here k
 shape_in here (call_node line k es) = called_shape (slice_get here.functions k)
 shape_in here (cat_node line a b) = shape_in here a
+shape_in here (sum_node e) = shape_of (shape_in here e).element false
 shape_in here (bits_node line e) = shape_of datatype.Bool true
+shape_in here (lookup_node line a i) = shape_of (shape_in here a).element (shape_in here i).array
 shape_in here (element_node line a i) = shape_of (shape_in here a).element false
 shape_in here (not_node e) = shape_in here e
 shape_in here (cast_node c e) = cast_shape c (shape_in here e).array
@@ -86,14 +89,20 @@ truth_kind secret = kind_of secret (shape_of datatype.Bool false)
 
 -- ---- ROWS
 
+-- the place of a data type in half a row
+abbrev pub element_number : DataType → ℕ
+element_number Uint64 = 0
+element_number Int64 = 2
+element_number datatype.Bool = 4
+
 -- the place of a kind in a row
 abbrev pub kind_number : Kind → ℕ
-kind_number k = either k.secret 4 0 + (element_bit k.element + either k.array 1 0)
+kind_number k = either k.secret 6 0 + (element_number k.element + either k.array 1 0)
 
 abbrev pub shape_kinds : (secret : Bool) → List Kind
 shape_kinds secret =
-    kind_of secret (shape_of Uint64 false) ∷ kind_of secret (shape_of Uint64 true) ∷ kind_of secret (shape_of datatype.Bool false)
-    ∷ kind_of secret (shape_of datatype.Bool true) ∷ []
+    kind_of secret (shape_of Uint64 false) ∷ kind_of secret (shape_of Uint64 true) ∷ kind_of secret (shape_of Int64 false)
+    ∷ kind_of secret (shape_of Int64 true) ∷ kind_of secret (shape_of datatype.Bool false) ∷ kind_of secret (shape_of datatype.Bool true) ∷ []
 
 -- the kinds of so many rows
 abbrev pub rows_kinds : ℕ → List Kind

@@ -10,7 +10,7 @@ use Rattle.blind_evaluation.specs.Operations as row
 use Rattle.blind_evaluation.specs.Evaluation.{Frame, put, nothing, array_elements, either, asked_for, input_named}
 pub use Rattle.blind_evaluation.specs.Evaluation.{same_truth}
 use Rattle.bytecode.specs.declared.kind.Kind.{Kind}
-use Rattle.verified_code.specs.Steps.{kind_shape, Step, Literal, Move, Store, Binary, Not, Cast, Classify, Fill, At, Put, Size, Cat, Sum, Bits, Declassify}
+use Rattle.verified_code.specs.Steps.{kind_shape, Step, Literal, Move, Store, Binary, Not, Cast, Classify, Fill, At, Put, Size, Cat, Sum, Bits, Lookup, Declassify}
 use Rattle.verified_code.specs.Steps.{Argument, Publish, Assert, Branch, Jump, Call, Return, ReturnNone, Function}
 
 -- where a call comes back to, and the register of its result
@@ -109,6 +109,7 @@ step w p (Some (Size d r)) m = row.size_told (m.registers r) >>= into d m
 step w p (Some (Cat line d a b)) m = row.concatenated line (m.registers a) (m.registers b) >>= into d m
 step w p (Some (Sum d r)) m = row.summed (m.registers r) >>= into d m
 step w p (Some (Bits line d r)) m = row.bits_extracted w line (m.registers r) >>= into d m
+step w p (Some (Lookup line d a i)) m = row.looked_up w line (m.registers a) (m.registers i) >>= into d m
 step w p (Some (Declassify d r)) m = row.declassified w (m.registers r) >>= into d m
 step w p (Some (Argument line kind text d)) m = asked_for kind.secret (kind_shape kind) line (input_named w text) >>= into d m
 step w p (Some (Publish text r)) m = do

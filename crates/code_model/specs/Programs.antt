@@ -40,7 +40,7 @@ module _ (number : Numbers) (fs : List TypedFunctionTree) where
         gives = given_kind b f.given;
         kinds = map (slot_kind b) f.slots ++ (defaults_behind f.slots ++ (rows_kinds (statements_depth f.body) ++ last_kinds b f.given));
         steps = statements_code number (place_in fs f b) (first_free f.slots) (body_end f b) (body_end f b) 0 f.body
-            ++ last_step f.given (first_free f.slots + 8 * statements_depth f.body) ∷ [];
+            ++ last_step f.given (first_free f.slots + 12 * statements_depth f.body) ∷ [];
       }
 
 -- ---- PROGRAMS

@@ -1,15 +1,16 @@
 -- Steps that are right: all that is asked of their instructions is so.
-use Rattle.std.specs.Prelude.{◌≡◌, ◌<◌, ◌≤◌, ℕ, ◌+◌, Bool, true, false, ◌||◌, IsTrue, List, [], ◌∷◌, length, take, Option, Some, None}
+use Rattle.std.specs.Prelude.{◌≡◌, ◌<◌, ◌≤◌, ℕ, ◌+◌, Bool, true, false, ◌||◌, IsTrue, List, [], ◌∷◌, length, take, Option, Some, None, is_some}
 use Rattle.std.specs.List.{slice_get}
 use Rattle.program_trees.specs.declared.expression.DataType.{DataType}
-use Rattle.program_trees.specs.declared.expression.DataType.TheVariants.{Uint64}
+use Rattle.program_trees.specs.declared.expression.DataType.TheVariants.{Uint64, Int64}
 use Rattle.program_trees.specs.declared.expression.DataType.TheVariants as datatype
 use Rattle.program_trees.specs.declared.operators.BinaryOperator.{BinaryOperator}
-use Rattle.program_trees.specs.declared.operators.BinaryOperator.TheVariants.{Words, Bools}
+use Rattle.program_trees.specs.declared.operators.BinaryOperator.TheVariants.{Words, Ints, Bools}
+use Rattle.program_trees.specs.Operators.{on_ints}
 use Rattle.code_model.specs.Operations.{result_shape}
 use Rattle.bytecode.specs.declared.kind.Kind.{Kind}
-use Rattle.verified_code.specs.Fitting.{secrecy_fits}
-use Rattle.verified_code.specs.Steps.{Step, Function, Literal, Move, Store, Binary, Not, Cast, Classify, Fill, At, Put, Size, Cat, Sum, Bits, Declassify}
+use Rattle.verified_code.specs.Fitting.{secrecy_fits, is_number, may_be_literal}
+use Rattle.verified_code.specs.Steps.{Step, Function, Literal, Move, Store, Binary, Not, Cast, Classify, Fill, At, Put, Size, Cat, Sum, Bits, Lookup, Declassify}
 use Rattle.verified_code.specs.Steps.{Argument, Publish, Assert, Branch, Jump, Call, Return, ReturnNone}
 use Rattle.code_model.specs.Kinds.{kind_of}
 use Rattle.code_model.specs.Kinded.{public_scalar, cast_source, cast_target, left_array, right_array, HasKind, ResultFits}
@@ -21,7 +22,14 @@ kind secret element array = record { secret = secret; element = element; array =
 
 abbrev pub operand_element : BinaryOperator → DataType
 operand_element (Words op) = Uint64
+operand_element (Ints op) = Int64
 operand_element (Bools op) = datatype.Bool
+
+-- numbers with a sign have no operator that works bit by bit
+abbrev pub has_operator : BinaryOperator → Bool
+has_operator (Words op) = true
+has_operator (Ints op) = is_some (on_ints op)
+has_operator (Bools op) = true
 
 -- registers of these kinds, one by one, and as many
 abbrev pub AreOf : List Kind → List ℕ → List Kind → Type 0
@@ -33,12 +41,12 @@ AreOf kinds (r ∷ rs) (k ∷ ks) = HasKind kinds r k × AreOf kinds rs ks
 -- in code of these functions, in a function that has registers of these kinds, gives this back, and has so many steps
 module _ (c : List Function) (kinds : List Kind) (gives : Option Kind) (count : ℕ) where
   abbrev pub IsRight : Step → Type 0
-  IsRight (Literal d e n) = HasKind kinds d (public_scalar e) × (e ≡ datatype.Bool → n < 2)
+  IsRight (Literal d e n) = HasKind kinds d (public_scalar e) × IsTrue (may_be_literal e n)
   IsRight (Move d r) = (k : Kind) × HasKind kinds r k × HasKind kinds d k
   IsRight (Store d r) = (k : Kind) × HasKind kinds r k × HasKind kinds d k
   IsRight (Binary line op ds d a b) =
       (x : Bool) × (y : Bool) × HasKind kinds a (kind x (operand_element op) (left_array ds)) × HasKind kinds b (kind y (operand_element op) (right_array ds))
-      × IsTrue (secrecy_fits op x y) × HasKind kinds d (kind_of (x || y) (result_shape op ds))
+      × IsTrue (has_operator op) × IsTrue (secrecy_fits op x y) × HasKind kinds d (kind_of (x || y) (result_shape op ds))
   IsRight (Not d r) = (s : Bool) × (a : Bool) × HasKind kinds r (kind s datatype.Bool a) × HasKind kinds d (kind s datatype.Bool a)
   IsRight (Cast x d r) = (s : Bool) × (a : Bool) × HasKind kinds r (kind s (cast_source x) a) × HasKind kinds d (kind s (cast_target x) a)
   IsRight (Classify d r) = (e : DataType) × (a : Bool) × HasKind kinds r (kind false e a) × HasKind kinds d (kind true e a)
@@ -50,8 +58,11 @@ module _ (c : List Function) (kinds : List Kind) (gives : Option Kind) (count : 
       (s : Bool) × (e : DataType) × HasKind kinds a (kind s e true) × HasKind kinds i (public_scalar Uint64) × HasKind kinds x (kind s e false)
   IsRight (Size d r) = (s : Bool) × (e : DataType) × HasKind kinds r (kind s e true) × HasKind kinds d (public_scalar Uint64)
   IsRight (Cat line d a b) = (s : Bool) × (e : DataType) × HasKind kinds a (kind s e true) × HasKind kinds b (kind s e true) × HasKind kinds d (kind s e true)
-  IsRight (Sum d r) = (s : Bool) × HasKind kinds r (kind s Uint64 true) × HasKind kinds d (kind s Uint64 false)
+  IsRight (Sum d r) = (s : Bool) × (e : DataType) × IsTrue (is_number e) × HasKind kinds r (kind s e true) × HasKind kinds d (kind s e false)
   IsRight (Bits line d r) = (s : Bool) × (a : Bool) × HasKind kinds r (kind s Uint64 a) × HasKind kinds d (kind s datatype.Bool true)
+  IsRight (Lookup line d a i) =
+      (e : DataType) × (m : Bool) × IsTrue (is_number e) × HasKind kinds a (kind true e true) × HasKind kinds i (kind true Uint64 m)
+      × HasKind kinds d (kind true e m)
   IsRight (Declassify d r) = (s : Bool) × (e : DataType) × (a : Bool) × HasKind kinds r (kind s e a) × HasKind kinds d (kind false e a)
   IsRight (Argument line k text d) = HasKind kinds d k
   IsRight (Publish text r) = (k : Kind) × HasKind kinds r k

@@ -11,9 +11,8 @@ use Rattle.program_trees.specs.TypedStatements.{fill_statement, input_statement,
 use Rattle.program_trees.specs.TypedStatements as Statements'
 use Rattle.blind_evaluation.specs.Evaluation.{StatementContext, gives_private, slot_is_private, slot_shape, either}
 use Rattle.bytecode.specs.declared.kind.Kind.{Kind}
-use Rattle.bytecode.specs.Kinds.{element_bit}
 use Rattle.verified_code.specs.Steps.{Step, Store, Fill, Put, Argument, Publish, Assert, Branch, Jump, Return, ReturnNone}
-use Rattle.code_model.specs.Kinds.{depth, kind_of, shape_kinds, in_row}
+use Rattle.code_model.specs.Kinds.{depth, element_number, kind_of, shape_kinds, in_row}
 use Rattle.code_model.specs.Expressions.{Numbers, classifying, picked, lacks, classified_at, stands_at, next_row, unread_code, expression_code}
 
 -- ---- DEFAULTS
@@ -21,7 +20,7 @@ use Rattle.code_model.specs.Expressions.{Numbers, classifying, picked, lacks, cl
 -- After its slots a function that has any has one public register of each shape, which no step writes: a declaration
 -- without a value stores what it begins as.
 abbrev pub shape_number : Shape → ℕ
-shape_number s = element_bit s.element + either s.array 1 0
+shape_number s = element_number s.element + either s.array 1 0
 
 abbrev pub default_kinds : List Kind
 default_kinds = shape_kinds false

@@ -10,7 +10,7 @@ use Rattle.language_model.specs.Values.{Value}
 use Rattle.language_model.specs.Evaluation.{either}
 use Rattle.language_model.specs.Reports.{Offered}
 use Rattle.verified_code.specs.Steps.{kind_shape, Step, Literal, Move, Store, Binary, Not, Cast, Classify, Fill, At, Put, Size, Cat, Sum, Bits}
-use Rattle.verified_code.specs.Steps.{Declassify}
+use Rattle.verified_code.specs.Steps.{Lookup, Declassify}
 use Rattle.verified_code.specs.Steps.{Argument, Publish, Assert, Branch, Jump, Call, Return, ReturnNone, Function}
 use Rattle.gate_laws.specs.Machine.{Caller, Machine, limit, same_truth, resume, step}
 use Rattle.blind_evaluation.proofs.Alike.{Alike, alike_bind, alike_done, same_bind, any_bind, end_alike, charge_alike, charge_equal, test_equal}
@@ -19,7 +19,7 @@ use Rattle.blind_evaluation.proofs.Rows.{clear, unseen, sized_alike, classified_
 use Rattle.blind_evaluation.proofs.Rows.{concatenated_alike, element_alike}
 use Rattle.blind_evaluation.proofs.Rows.{with_element_alike, filled_alike, tested_alike, asserted_alike, declassified_alike, operated_alike}
 use Rattle.blind_evaluation.proofs.Rows.{cast_to_alike}
-use Rattle.blind_evaluation.proofs.Rows.{bits_extracted_alike, published_alike}
+use Rattle.blind_evaluation.proofs.Rows.{bits_extracted_alike, looked_up_alike, published_alike}
 use Rattle.blind_evaluation.proofs.Inputs.{input_like, asked_for_alike}
 use Rattle.code_places.specs.Twins.{LikeCaller, LikeMachine}
 use Rattle.code_places.proofs.AlikeMachines.{like_at, like_elements, next_like, at_like, behind_like, entering_like, returned_like}
@@ -59,6 +59,8 @@ module _ (o : Offered) (c : List Function) {m m' : Machine} (l : LikeMachine m m
       alike_bind (concatenated_alike line (in_register a) (in_register b)) (λ v v' h. alike_done (next_like d h l))
   step_alike (Some (Sum d r)) = alike_bind (summed_alike (in_register r)) (λ v v' h. alike_done (next_like d h l))
   step_alike (Some (Bits line d r)) = alike_bind (bits_extracted_alike o line (in_register r)) (λ v v' h. alike_done (next_like d h l))
+  step_alike (Some (Lookup line d a i)) =
+      alike_bind (looked_up_alike o line (in_register a) (in_register i)) (λ v v' h. alike_done (next_like d h l))
   step_alike (Some (Declassify d r)) = alike_bind (declassified_alike o (in_register r)) (λ v v' h. alike_done (next_like d h l))
   step_alike (Some (Argument line kind text d)) =
       alike_bind (asked_for_alike kind.secret (kind_shape kind) line (input_like o text)) (λ v v' h. alike_done (next_like d h l))

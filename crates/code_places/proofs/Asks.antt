@@ -6,7 +6,7 @@ use Rattle.std.proofs.lemmas.Bool.Decides.{nat_tests}
 use Rattle.sc_text.specs.declared.event.Event.{Event}
 use Rattle.sc_text.specs.declared.event.Event.TheVariants as event
 use Rattle.program_trees.specs.declared.expression.DataType.{DataType}
-use Rattle.program_trees.specs.declared.expression.DataType.TheVariants.{Uint64}
+use Rattle.program_trees.specs.declared.expression.DataType.TheVariants.{Uint64, Int64}
 use Rattle.program_trees.specs.declared.expression.DataType.TheVariants as datatype
 use Rattle.gates.specs.declared.gate.Gate.{Gate}
 use Rattle.gates.specs.declared.gate.Gate.TheVariants.{Open}
@@ -134,6 +134,7 @@ no_words (x ∷ xs) e = absurd (omega (arith, e))
 
 none_read : (element : DataType) (words : List ℕ) → words ≡ [] → read_answer element words ≡ []
 none_read Uint64 words e = e
+none_read Int64 words e = e
 none_read datatype.Bool words e = ap (λ ws. read_answer datatype.Bool ws) e
 
 too_few : (x : ℕ) (xs : List ℕ) → nat_le (length (x ∷ xs)) 0 ≡ false

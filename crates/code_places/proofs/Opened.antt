@@ -6,7 +6,7 @@ use Rattle.std.proofs.lemmas.Nat.{mod_below}
 use Rattle.sc_text.specs.declared.event.Event.{Event}
 use Rattle.sc_text.specs.declared.event.Event.TheVariants as event
 use Rattle.program_trees.specs.declared.expression.DataType.{DataType}
-use Rattle.program_trees.specs.declared.expression.DataType.TheVariants.{Uint64}
+use Rattle.program_trees.specs.declared.expression.DataType.TheVariants.{Uint64, Int64}
 use Rattle.program_trees.specs.declared.expression.DataType.TheVariants as datatype
 use Rattle.gates.specs.declared.gate.Gate.TheVariants.{Open}
 use Rattle.gates.specs.Bits.{words_for}
@@ -20,7 +20,7 @@ use Rattle.language_model.specs.Reports.{Offered}
 use Rattle.verified_code.specs.Steps.{Step, Declassify}
 use Rattle.gate_laws.specs.Machine.{Machine}
 use Rattle.gate_laws.specs.Dealt.{InRange}
-use Rattle.gate_laws.proofs.GateWords.{learned_opened, learned_numbers}
+use Rattle.gate_laws.proofs.GateWords.{learned_opened, learned_numbers, learned_signed}
 use Rattle.gate_laws.proofs.Ranges.{Below, below_cons}
 use Rattle.blind_evaluation.proofs.Rows.{clear}
 use Rattle.code_places.specs.Places.{answers_told, elements_opened}
@@ -73,12 +73,14 @@ low (x ∷ xs) = below_cons 2 (x % 2) (map (λ x. x % 2) xs) (mod_below x 2 (ome
 
 pub read_length : (e : DataType) (words : List ℕ) → length (read_answer e words) ≡ length words
 read_length Uint64 words = refl
+read_length Int64 words = refl
 read_length datatype.Bool words = length-map words (λ x. x % 2)
 
 -- what is told of elements that were read is the words that the gates have opened
 pub learned_read : (events : List Event) (e : DataType) (words : List ℕ)
     → learned_of (events ++ event.Open (map (element_of e) (read_answer e words)) ∷ []) ≡ learned_of events ++ gate_words e (read_answer e words)
 learned_read events Uint64 words = learned_numbers events words
+learned_read events Int64 words = learned_signed events words
 learned_read events datatype.Bool words = learned_opened events datatype.Bool (read_answer datatype.Bool words) (low words)
 
 module _ (o : Offered) (v : Value) where
@@ -130,9 +132,12 @@ told_again e words n m d r o is element size many =
         → answers_told (gate_words e (read_answer e words)) (Some (Declassify d r)) m ≡ read_answer e words
     go Uint64 [] k f = refl
     go Uint64 (x ∷ xs) k f = ap (λ z. elements_opened z (length (m.registers r).words) (x ∷ xs)) f
+    go Int64 [] k f = refl
+    go Int64 (x ∷ xs) k f = ap (λ z. elements_opened z (length (m.registers r).words) (x ∷ xs)) f
     go datatype.Bool words k f =
         by (packed (read_answer datatype.Bool words)) (read_answer datatype.Bool words) refl (low words) (read_length datatype.Bool words ∙ k) f
 
 pub some_gate_words : (e : DataType) (x : ℕ) (xs : List ℕ) → gate_words e (x ∷ xs) ≢ []
 some_gate_words Uint64 x xs same = cc
+some_gate_words Int64 x xs same = cc
 some_gate_words datatype.Bool x xs same = omega (arith, ap length same, length-packed (x ∷ xs))

@@ -6,13 +6,15 @@ use Rattle.sc_text.specs.declared.end.Ending.TheVariants as ending
 use Rattle.sc_text.specs.declared.end.TrapKind.TheVariants as trap
 use Rattle.sc_text.specs.declared.event.Event.TheVariants as event
 use Rattle.program_trees.specs.declared.expression.DataType.{DataType}
-use Rattle.program_trees.specs.declared.expression.DataType.TheVariants.{Uint64}
+use Rattle.program_trees.specs.declared.expression.DataType.TheVariants.{Uint64, Int64}
 use Rattle.program_trees.specs.declared.expression.DataType.TheVariants as datatype
 use Rattle.gates.specs.declared.gate.Gate.TheVariants.{Const, Add, Sub, MulPub, Mul, Xor, And, Sum, Conv, Input, Result, Pack, Unpack}
 use Rattle.gates.specs.Clear.{bits_of, first_word}
 use Rattle.plans.specs.Equality.{eq_plan}
 use Rattle.plans.specs.BitExtract.{bits_plan}
 use Rattle.language_model.specs.Compare.{less_plan}
+use Rattle.language_model.specs.Signed.{signed_less_plan}
+use Rattle.language_model.specs.Lookup.{looked, lookup_plan}
 use Rattle.program_trees.specs.declared.kinds.Shape.{Shape}
 use Rattle.program_trees.specs.declared.operators.OperatorSign.{OperatorSign}
 use Rattle.program_trees.specs.declared.operators.OperatorSign.TheVariants as word
@@ -22,7 +24,6 @@ use Rattle.program_trees.specs.declared.operators.BinaryOperator.{BinaryOperator
 use Rattle.program_trees.specs.declared.operators.BinaryOperator.TheVariants as binary
 use Rattle.program_trees.specs.declared.operators.Operands.{Operands}
 use Rattle.program_trees.specs.declared.operators.Cast.{Cast}
-use Rattle.program_trees.specs.declared.operators.Cast.TheVariants.{WordToWord, WordToBool, BoolToWord, BoolToBool}
 use Rattle.program_trees.specs.Shapes.{shape_of}
 use Rattle.language_model.specs.Effects.{World, GivenInput, Effect, ◌>>=◌, words_each}
 use Rattle.language_model.specs.Values.{Secrecy, Plain, Private, Value, plain, hidden, size, visible_words, is_true, ring_for, gate_words, gate_size}
@@ -30,11 +31,12 @@ use Rattle.language_model.specs.Values.{elements_of}
 use Rattle.language_model.specs.Words as W
 use Rattle.language_model.specs.Operations.{charged, no_traps, not_too_large, number_from, number_of, made_private, classified_from}
 use Rattle.language_model.specs.Operations.{classified, repeated_gate, element_gate, stored_gate, joined_gate, stretched, is_scalar_left}
-use Rattle.language_model.specs.Operations.{is_scalar_right, flip, words_of_operator, zero_gates, equal_gates, less_gates, or_gates}
-use Rattle.language_model.specs.Operations.{operator_gates}
+use Rattle.language_model.specs.Operations.{is_scalar_right, flip, words_of_operator, zero_gates, equal_gates, less_gates, signed_less_gates, or_gates}
+use Rattle.language_model.specs.Operations.{number_gates, operator_gates}
 use Rattle.language_model.specs.Operations.{result_shape, private_result, product_with, combined_from, operator_traps, operated, negated_from}
 use Rattle.language_model.specs.Operations.{negated, words_of_cast}
-use Rattle.language_model.specs.Operations.{cast_shape, cast_gates, changed, cast_from, cast_to, scalar_word, size_told, summed_from, summed}
+use Rattle.language_model.specs.Operations.{cast_shape, truth_gates, conversion_gates, gates_between, changed, converted, relabelled, cast_from, cast_to, scalar_word, size_told}
+use Rattle.language_model.specs.Operations.{summed_from, summed, words_for_lookup, looked_up}
 use Rattle.language_model.specs.Operations.{words_for_bits, bits_from}
 use Rattle.language_model.specs.Operations.{bits_extracted, concatenated_from, concatenated, position, element_from, element_of_array}
 use Rattle.language_model.specs.Operations.{with_element_from, with_element}
@@ -95,17 +97,22 @@ module _ (told : Bool) where
   less_quiet : (n u v : ℕ) → Quiet told (less_gates n u v)
   less_quiet n u v = bind (quiet_planned told (λ first. less_plan first u v n)) (λ z. quiet_gate told (Pack z))
 
-  word_quiet : (op : OperatorSign) (n u v : ℕ) → Quiet told (operator_gates (binary.Words op) n u v)
-  word_quiet word.Add n u v = quiet_gate told (Add u v)
-  word_quiet word.Subtract n u v = quiet_gate told (Sub u v)
-  word_quiet word.Multiply n u v = quiet_gate told (Mul u v)
-  word_quiet word.Equal n u v = equal_quiet u v
-  word_quiet word.NotEqual n u v = bind (equal_quiet u v) (flip_quiet n)
-  word_quiet word.Less n u v = less_quiet n u v
-  word_quiet word.Greater n u v = less_quiet n v u
-  word_quiet word.GreaterOrEqual n u v = bind (less_quiet n u v) (flip_quiet n)
-  word_quiet word.LessOrEqual n u v = bind (less_quiet n v u) (flip_quiet n)
-  word_quiet op n u v = quiet_number told
+  signed_less_quiet : (n u v : ℕ) → Quiet told (signed_less_gates n u v)
+  signed_less_quiet n u v = bind (quiet_planned told (λ first. signed_less_plan first u v n)) (λ z. quiet_gate told (Pack z))
+
+  -- of numbers, by the gates that tell which of two is less
+  module _ (less : ℕ → ℕ → ℕ → Effect ℕ) (less_is : (n u v : ℕ) → Quiet told (less n u v)) where
+    number_gates_quiet : (op : OperatorSign) (n u v : ℕ) → Quiet told (number_gates less op n u v)
+    number_gates_quiet word.Add n u v = quiet_gate told (Add u v)
+    number_gates_quiet word.Subtract n u v = quiet_gate told (Sub u v)
+    number_gates_quiet word.Multiply n u v = quiet_gate told (Mul u v)
+    number_gates_quiet word.Equal n u v = equal_quiet u v
+    number_gates_quiet word.NotEqual n u v = bind (equal_quiet u v) (flip_quiet n)
+    number_gates_quiet word.Less n u v = less_is n u v
+    number_gates_quiet word.Greater n u v = less_is n v u
+    number_gates_quiet word.GreaterOrEqual n u v = bind (less_is n u v) (flip_quiet n)
+    number_gates_quiet word.LessOrEqual n u v = bind (less_is n v u) (flip_quiet n)
+    number_gates_quiet op n u v = quiet_number told
 
   or_quiet : (u v : ℕ) → Quiet told (or_gates u v)
   or_quiet u v =
@@ -119,7 +126,8 @@ module _ (told : Bool) where
   truth_quiet truth.Equal n u v = bind (quiet_gate told (Xor u v)) (flip_quiet n)
 
   operator_quiet : (op : BinaryOperator) (n u v : ℕ) → Quiet told (operator_gates op n u v)
-  operator_quiet (binary.Words op) n u v = word_quiet op n u v
+  operator_quiet (binary.Words op) n u v = number_gates_quiet less_gates less_quiet op n u v
+  operator_quiet (binary.Ints op) n u v = number_gates_quiet signed_less_gates signed_less_quiet op n u v
   operator_quiet (binary.Bools op) n u v = truth_quiet op n u v
 
   private_quiet : (w : World) (op : BinaryOperator) (ds : Operands) (x y : Value) → Quiet told (private_result w op ds x y)
@@ -159,35 +167,46 @@ module _ (told : Bool) where
   pub negated_quiet : (v : Value) → Quiet told (negated v)
   negated_quiet v = bind (untrapped_quiet (size v)) (λ _. negated_from_quiet v.secrecy v)
 
-  cast_gates_quiet : (c : Cast) (n u : ℕ) → Quiet told (cast_gates c n u)
-  cast_gates_quiet WordToBool n u = bind (zero_quiet u) (flip_quiet n)
-  cast_gates_quiet BoolToWord n u = bind (quiet_gate told (Unpack u n)) (λ z. quiet_gate told (Conv z))
-  cast_gates_quiet WordToWord n u = quiet_done told u
-  cast_gates_quiet BoolToBool n u = quiet_done told u
+  truth_gates_quiet : (n u : ℕ) → Quiet told (truth_gates n u)
+  truth_gates_quiet n u = bind (zero_quiet u) (flip_quiet n)
+
+  conversion_quiet : (n u : ℕ) → Quiet told (conversion_gates n u)
+  conversion_quiet n u = bind (quiet_gate told (Unpack u n)) (λ z. quiet_gate told (Conv z))
+
+  gates_between_quiet : (given wanted : DataType) (n u : ℕ) → Quiet told (gates_between given wanted n u)
+  gates_between_quiet Uint64 datatype.Bool n u = truth_gates_quiet n u
+  gates_between_quiet Int64 datatype.Bool n u = truth_gates_quiet n u
+  gates_between_quiet datatype.Bool Uint64 n u = conversion_quiet n u
+  gates_between_quiet datatype.Bool Int64 n u = conversion_quiet n u
+  gates_between_quiet given wanted n u = quiet_done told u
 
   changed_quiet : (w : World) (c : Cast) (v : Value) → Quiet told (changed w c v)
   changed_quiet w c v =
-      bind (quiet_draw told w (words_of_cast c (size v))) (λ _. bind (number_quiet v) (λ u. bind (cast_gates_quiet c (size v) u) (λ r.
+      bind (quiet_draw told w (words_of_cast c (size v))) (λ _. bind (number_quiet v) (λ u. bind (gates_between_quiet c.given c.wanted (size v) u) (λ r.
       made_quiet (cast_shape c v.shape.array) (map (W.cast_word c) v.words) r)))
 
-  cast_from_quiet : (w : World) (x : Secrecy) (c : Cast) (v : Value) → Quiet told (cast_from w x c v)
-  cast_from_quiet w x WordToWord v = quiet_done told v
-  cast_from_quiet w x BoolToBool v = quiet_done told v
-  cast_from_quiet w Plain WordToBool v = quiet_done told (plain (cast_shape WordToBool v.shape.array) (map (W.cast_word WordToBool) v.words))
-  cast_from_quiet w Plain BoolToWord v = quiet_done told (plain (cast_shape BoolToWord v.shape.array) (map (W.cast_word BoolToWord) v.words))
-  cast_from_quiet w (Private k) WordToBool v = changed_quiet w WordToBool v
-  cast_from_quiet w (Private k) BoolToWord v = changed_quiet w BoolToWord v
+  converted_quiet : (w : World) (x : Secrecy) (c : Cast) (v : Value) → Quiet told (converted w x c v)
+  converted_quiet w Plain c v = quiet_done told (plain (cast_shape c v.shape.array) (map (W.cast_word c) v.words))
+  converted_quiet w (Private k) c v = changed_quiet w c v
+
+  cast_from_quiet : (given wanted : DataType) (w : World) (c : Cast) (v : Value) → Quiet told (cast_from given wanted w c v)
+  cast_from_quiet Uint64 Uint64 w c v = quiet_done told v
+  cast_from_quiet Int64 Int64 w c v = quiet_done told v
+  cast_from_quiet datatype.Bool datatype.Bool w c v = quiet_done told v
+  cast_from_quiet Uint64 Int64 w c v = quiet_done told (relabelled c v)
+  cast_from_quiet Int64 Uint64 w c v = quiet_done told (relabelled c v)
+  cast_from_quiet given wanted w c v = converted_quiet w v.secrecy c v
 
   pub cast_quiet : (w : World) (c : Cast) (v : Value) → Quiet told (cast_to w c v)
-  cast_quiet w c v = bind (untrapped_quiet (size v)) (λ _. cast_from_quiet w v.secrecy c v)
+  cast_quiet w c v = bind (untrapped_quiet (size v)) (λ _. cast_from_quiet c.given c.wanted w c v)
 
   pub size_quiet : (v : Value) → Quiet told (size_told v)
   size_quiet v = bind (quiet_charge told 1) (λ _. quiet_done told (scalar_word (size v)))
 
   summed_from_quiet : (x : Secrecy) (v : Value) → Quiet told (summed_from x v)
-  summed_from_quiet Plain v = quiet_done told (scalar_word (sum v.words % 2 ^ 64))
+  summed_from_quiet Plain v = quiet_done told (plain (shape_of v.shape.element false) (sum v.words % 2 ^ 64 ∷ []))
   summed_from_quiet (Private k) v =
-      bind (number_quiet v) (λ u. bind (quiet_gate told (Sum u)) (λ r. made_quiet (shape_of Uint64 false) (sum v.words % 2 ^ 64 ∷ []) r))
+      bind (number_quiet v) (λ u. bind (quiet_gate told (Sum u)) (λ r. made_quiet (shape_of v.shape.element false) (sum v.words % 2 ^ 64 ∷ []) r))
 
   pub summed_quiet : (v : Value) → Quiet told (summed v)
   summed_quiet v = bind (quiet_charge told 1) (λ _. summed_from_quiet v.secrecy v)
@@ -203,6 +222,13 @@ module _ (told : Bool) where
   bits_quiet w line v = bind (large_quiet line (64 * size v)) (λ _. bits_from_quiet w v.secrecy v)
 
   -- ---- ARRAYS
+
+  pub looked_up_quiet : (w : World) (line : ℕ) (a i : Value) → Quiet told (looked_up w line a i)
+  looked_up_quiet w line a i =
+      bind (large_quiet line (size a * size i)) (λ _. bind (quiet_draw told w (words_for_lookup (size a * size i))) (λ _.
+      bind (number_quiet a) (λ u. bind (number_quiet i) (λ v.
+      bind (quiet_planned told (λ first. lookup_plan first u v (size a) (size i))) (λ r.
+      made_quiet (shape_of a.shape.element i.shape.array) (looked a.words i.words) r)))))
 
   cat_quiet : (x y : Value) → Quiet told (concatenated_from (Private None) Plain x y)
   cat_quiet x y =

@@ -7,12 +7,12 @@ use Rattle.language_model.specs.Effects.{World}
 use Rattle.language_model.specs.Values.{Value, size}
 use Rattle.language_model.specs.Evaluation.{nothing, array_elements, input_named}
 use Rattle.verified_code.specs.Steps.{kind_shape, Step, Literal, Move, Store, Binary, Not, Cast, Classify, Fill, At, Put, Size, Cat, Sum, Bits}
-use Rattle.verified_code.specs.Steps.{Declassify}
+use Rattle.verified_code.specs.Steps.{Lookup, Declassify}
 use Rattle.verified_code.specs.Steps.{Argument, Publish, Assert, Branch, Jump, Call, Return, ReturnNone, Function}
 use Rattle.gate_laws.specs.Machine.{Caller, Machine, values_at, limit, resume, step}
 use Rattle.code_places.proofs.Quiet.{Quiet, quiet_bind, quiet_done, quiet_end, quiet_charge, quiet_test}
 use Rattle.code_places.proofs.QuietRows.{untrapped_quiet, classified_quiet, operated_quiet, negated_quiet, cast_quiet, size_quiet}
-use Rattle.code_places.proofs.QuietRows.{summed_quiet, bits_quiet}
+use Rattle.code_places.proofs.QuietRows.{summed_quiet, bits_quiet, looked_up_quiet}
 use Rattle.code_places.proofs.QuietRows.{concatenated_quiet, element_quiet, with_element_quiet, filled_quiet, tested_quiet, asserted_quiet}
 use Rattle.code_places.proofs.QuietRows.{asked_quiet, published_quiet}
 
@@ -45,6 +45,8 @@ module _ (w : World) (c : List Function) (m : Machine) where
       inl (quiet_bind true (concatenated_quiet true line (m.registers a) (m.registers b)) (λ v. quiet_done true _))
   quiet_or_opening (Some (Sum d r)) = inl (quiet_bind true (summed_quiet true (m.registers r)) (λ v. quiet_done true _))
   quiet_or_opening (Some (Bits line d r)) = inl (quiet_bind true (bits_quiet true w line (m.registers r)) (λ v. quiet_done true _))
+  quiet_or_opening (Some (Lookup line d a i)) =
+      inl (quiet_bind true (looked_up_quiet true w line (m.registers a) (m.registers i)) (λ v. quiet_done true _))
   quiet_or_opening (Some (Declassify d r)) = inr (d, r, refl)
   quiet_or_opening (Some (Argument line kind text d)) =
       inl (quiet_bind true (asked_quiet true kind.secret (kind_shape kind) line (input_named w text)) (λ v. quiet_done true _))

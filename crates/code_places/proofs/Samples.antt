@@ -3,7 +3,7 @@ use Rattle.std.proofs.Common.{◌≡◌, List, [], ◌∷◌, None, Bool, true, 
 use Rattle.program_trees.specs.declared.expression.DataType.TheVariants.{Uint64}
 use Rattle.gates.specs.declared.gate.Gate.TheVariants.{Input, Open}
 use Rattle.gates.specs.declared.ring_kind.RingKind.TheVariants.{Arithmetic}
-use Rattle.proto_core.specs.Strand.{Words, Shown}
+use Rattle.proto_core.specs.Strand.{Unsigned, Shown}
 use Rattle.program_trees.specs.Shapes.{shape_of}
 use Rattle.language_model.specs.Effects.{words_each}
 use Rattle.language_model.specs.Reports.{Offered}
@@ -67,5 +67,5 @@ told = place_of ((when_told offer code).step asking (7 ∷ []))
 goes_on : (when_told offer code).step asking (7 ∷ []) ≡ On told
 goes_on = refl
 
-shows : notices_between asking told ((5 ∷ []) ∷ (7 ∷ []) ∷ []) ≡ Shown (record { element = Words; array = false }) (7 ∷ []) ∷ []
+shows : notices_between asking told ((5 ∷ []) ∷ (7 ∷ []) ∷ []) ≡ Shown (record { element = Unsigned; array = false }) (7 ∷ []) ∷ []
 shows = refl

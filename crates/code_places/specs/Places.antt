@@ -4,11 +4,11 @@ use Rattle.std.specs.Prelude.{ℕ, List, [], ◌∷◌, length, Option, Some, No
 use Rattle.gates.specs.Gathered.{unpacked}
 use Rattle.std.specs.List.{slice_get}
 use Rattle.program_trees.specs.declared.expression.DataType.{DataType}
-use Rattle.program_trees.specs.declared.expression.DataType.TheVariants.{Uint64}
+use Rattle.program_trees.specs.declared.expression.DataType.TheVariants.{Uint64, Int64}
 use Rattle.program_trees.specs.declared.expression.DataType.TheVariants as datatype
 use Rattle.sc_text.specs.declared.end.Ending.{Ending}
 use Rattle.sc_text.specs.declared.event.Event.{Event}
-use Rattle.proto_core.specs.Strand.{Field, Words, Bits, Form, Notice, Shown, Published, Handed}
+use Rattle.proto_core.specs.Strand.{ElementType, Unsigned, Signed, TruthValue, Form, Notice, Shown, Published, Handed}
 use Rattle.protocol_model.specs.Gates.{sizes_of}
 use Rattle.gates.specs.declared.gate.Gate.{Gate}
 use Rattle.gate_laws.specs.Model.{run_gates, sizes_after}
@@ -50,6 +50,7 @@ next_step m = slice_get m.steps m.pc
 -- the elements of a value of which the gates have opened these words
 abbrev pub elements_opened : DataType → ℕ → List ℕ → List ℕ
 elements_opened Uint64 n words = words
+elements_opened Int64 n words = words
 elements_opened datatype.Bool n words = unpacked words n
 
 -- what a step is told of the words that the gates have opened: told nothing it has no answer, and so wants them
@@ -68,12 +69,13 @@ first_place c budget = place None (start c) (beginning budget [])
 
 -- ---- WHAT A MINER TELLS
 
-abbrev pub field_of : DataType → Field
-field_of Uint64 = Words
-field_of datatype.Bool = Bits
+abbrev pub element_type_of : DataType → ElementType
+element_type_of Uint64 = Unsigned
+element_type_of Int64 = Signed
+element_type_of datatype.Bool = TruthValue
 
 abbrev pub form_of : Shape → Form
-form_of shape = record { element = field_of shape.element; array = shape.array }
+form_of shape = record { element = element_type_of shape.element; array = shape.array }
 
 -- a public value, or its own share of a private one, which it has made last
 abbrev pub publishing : Secrecy → (text : List ℕ) → Form → (words last : List ℕ) → Notice

@@ -4,9 +4,6 @@ use Rattle.std.proofs.Common.{arith, append_assoc, append-nil, length-append, le
 use Rattle.std.proofs.Math.ListN.{drop_of_length-le}
 use Rattle.std.proofs.lemmas.List.Elements.{length_all_zip}
 use Rattle.std.specs.List.{slice_get}
-use Rattle.program_trees.specs.declared.expression.DataType.{DataType}
-use Rattle.program_trees.specs.declared.expression.DataType.TheVariants.{Uint64}
-use Rattle.program_trees.specs.declared.expression.DataType.TheVariants as datatype
 use Rattle.sc_text.specs.declared.event.Event.{Event}
 use Rattle.sc_text.specs.declared.event.Event.TheVariants as event
 use Rattle.proto_core.specs.declared.party.Number.{Number}
@@ -35,30 +32,27 @@ use Rattle.gate_laws.specs.Dealt.{InRange, drawn_by, Dealt}
 use Rattle.gate_laws.proofs.Openings.{read_same}
 use Rattle.gate_laws.proofs.PlanRuns.{made-then}
 use Rattle.driven_nodes.specs.Steps.{gained, last_of}
-use Rattle.code_places.specs.Places.{Place, next_step, field_of, form_of, publishing, told_by, where_made, notices_between}
+use Rattle.code_places.specs.Places.{Place, next_step, form_of, publishing, told_by, where_made, notices_between}
 use Rattle.code_places.specs.Twins.{LikeWords, LikeStage, LikeMachine}
 use Rattle.code_places.proofs.AlikeMachines.{size_at}
 use Rattle.code_places.proofs.Turns.{gained_more}
-use Rattle.code_runs.specs.Telling.{type_of, elements_told, AreOf, Tells}
+use Rattle.code_runs.specs.Telling.{elements_told, AreOf, Tells}
 use Rattle.code_runs.specs.Telling as tells
 use Rattle.code_runs.proofs.Told.{TellsNothing, Opening, was_open, opens, NumberFor, Publishing, ToldBy}
 use Rattle.code_runs.proofs.Stays.{Stays, Along}
 use Rattle.code_runs.proofs.Values.{computed, last_value, last_held, last_kinded, last_made}
 use Rattle.code_runs.specs.Handing.{handed_in, kept_from}
+use Rattle.code_runs.proofs.Types.{same_type}
 use Rattle.code_runs.proofs.Shown.{behind}
 use Rattle.code_runs.proofs.Handing.{hands as all_hands, hands-opened, hands-published, kept-append, kept_at, kept-grown, kept-still}
 
 -- ---- FORMS
 
-type_same : (e : DataType) → type_of (field_of e) ≡ e
-type_same Uint64 = refl
-type_same datatype.Bool = refl
-
 told_same : (shape : Shape) (words : List ℕ) → elements_told (form_of shape) words ≡ map (element_of shape.element) words
-told_same shape words = ap (λ e. map (element_of e) words) (type_same shape.element)
+told_same shape words = ap (λ e. map (element_of e) words) (same_type shape.element)
 
 of_form : (shape : Shape) (words : List ℕ) → InRange shape.element words → AreOf (form_of shape) words
-of_form shape words h = subst (λ e. InRange e words) (sym (type_same shape.element)) h
+of_form shape words h = subst (λ e. InRange e words) (sym (same_type shape.element)) h
 
 pub retold : {events : List Event} {ns ms : Number → List Notice} → ((i : Number) → ns i ≡ ms i) → Tells events ns → Tells events ms
 retold {events = events} h t = subst (Tells events) (λ e. λ i. h i e) t
@@ -314,7 +308,7 @@ module _ (o : Offered) (d : Dealt) (c : List Function) (tapes : Tapes) (words : 
         (λ rest notices t.
         subst (λ z. Tells (event.Hand text z ∷ rest) (λ i. Handed text (form_of v.shape) (length v.words) (shares i) ∷ notices i)) (told_same v.shape v.words)
         (tells.handed text (form_of v.shape) v.words shares (of_form v.shape v.words (st.stands.registers r).1.range)
-        (subst (λ z. AreShares (ring_of (ring_for z)) (gate_words z v.words) shares) (sym (type_same v.shape.element)) held) t))
+        (subst (λ z. AreShares (ring_of (ring_for z)) (gate_words z v.words) shares) (sym (same_type v.shape.element)) held) t))
         (λ i. kept_last r made.before made.number made.gates j made.number_for i)
 
     by_step : (n : Option Step) → next_step p.machine ≡ n → ToldBy n p.machine p.stage q.stage → StepTells

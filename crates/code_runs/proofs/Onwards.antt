@@ -8,7 +8,7 @@ use Rattle.language_model.specs.Values.{Value, size}
 use Rattle.language_model.specs.Evaluation.{nothing, array_elements, input_named}
 use Rattle.language_model.proofs.Walk as walk
 use Rattle.language_model.proofs.Onward.{Onward, is_onward, onward_law, onward_bind, onward_done, onward_end, onward_charge, onward_test}
-use Rattle.verified_code.specs.Steps.{kind_shape, Step, Literal, Move, Store, Binary, Not, Cast, Classify, Fill, At, Put, Size, Cat, Sum, Bits, Declassify}
+use Rattle.verified_code.specs.Steps.{kind_shape, Step, Literal, Move, Store, Binary, Not, Cast, Classify, Fill, At, Put, Size, Cat, Sum, Bits, Lookup, Declassify}
 use Rattle.verified_code.specs.Steps.{Argument, Publish, Assert, Branch, Jump, Call, Return, ReturnNone, Function}
 use Rattle.code_model.specs.Machine.{Caller, Machine, values_at, limit, resume, step}
 
@@ -39,6 +39,8 @@ module _ (w : World) (c : List Function) (m : Machine) where
   step_onward (Some (Cat line d a b)) = onward_bind (walk.concatenated_holds w w (is_onward w) law line (m.registers a) (m.registers b)) (λ _. onward_done _)
   step_onward (Some (Sum d r)) = onward_bind (walk.summed_holds w w (is_onward w) law (m.registers r)) (λ _. onward_done _)
   step_onward (Some (Bits line d r)) = onward_bind (walk.bits_holds w w (is_onward w) law line (m.registers r)) (λ _. onward_done _)
+  step_onward (Some (Lookup line d a i)) =
+      onward_bind (walk.looked_up_holds w w (is_onward w) law line (m.registers a) (m.registers i)) (λ _. onward_done _)
   step_onward (Some (Declassify d r)) = onward_bind (walk.declassified_holds w w (is_onward w) law (m.registers r)) (λ _. onward_done _)
   step_onward (Some (Argument line k text d)) =
       onward_bind (walk.asked_holds w w (is_onward w) law k.secret (kind_shape k) line (input_named w text)) (λ _. onward_done _)

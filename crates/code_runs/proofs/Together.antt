@@ -7,7 +7,7 @@ use Rattle.proto_core.specs.declared.party.Number.TheVariants.{One, Two, Three}
 use Rattle.proto_core.specs.Ring.{Ring}
 use Rattle.proto_core.specs.Rings.{add_ring, xor_ring}
 use Rattle.proto_core.specs.Lists.{at}
-use Rattle.proto_core.specs.Strand.{Field, Words, Bits, Notice}
+use Rattle.proto_core.specs.Strand.{ElementType, Unsigned, Signed, TruthValue, Notice}
 use Rattle.gates.specs.Clear.{ring_of}
 use Rattle.gates.specs.Gathered.{packed, unpacked}
 use Rattle.gates.proofs.Packing.{unpacked-packed}
@@ -52,11 +52,12 @@ shared_words r words shares are =
 
 -- shares of the words of elements come to the elements
 shares_add_up :
-    (f : Field) (words : List ℕ) (shares : Number → List ℕ) → InRange (type_of f) words
+    (f : ElementType) (words : List ℕ) (shares : Number → List ℕ) → InRange (type_of f) words
     → AreShares (ring_of (ring_for (type_of f))) (gate_words (type_of f) words) shares
     → all_added_up f (length words) (shares One) (shares Two) (shares Three) ≡ words
-shares_add_up Words words shares range are = shared_words add_ring words shares are
-shares_add_up Bits words shares range are =
+shares_add_up Unsigned words shares range are = shared_words add_ring words shares are
+shares_add_up Signed words shares range are = shared_words add_ring words shares are
+shares_add_up TruthValue words shares range are =
     ap (λ ws. unpacked ws (length words)) (shared_words xor_ring (packed words) shares are) ∙ unpacked-packed words range
 
 -- ---- EVENTS

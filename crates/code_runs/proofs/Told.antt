@@ -21,11 +21,11 @@ use Rattle.language_model.specs.Operations.{charged, no_traps, number_from, read
 use Rattle.language_model.specs.Evaluation.{nothing, array_elements, input_named}
 use Rattle.language_model.specs.Reports.{Offered, world_of}
 use Rattle.language_model.proofs.Onward.{stage_of}
-use Rattle.verified_code.specs.Steps.{kind_shape, Step, Literal, Move, Store, Binary, Not, Cast, Classify, Fill, At, Put, Size, Cat, Sum, Bits, Declassify}
+use Rattle.verified_code.specs.Steps.{kind_shape, Step, Literal, Move, Store, Binary, Not, Cast, Classify, Fill, At, Put, Size, Cat, Sum, Bits, Lookup, Declassify}
 use Rattle.verified_code.specs.Steps.{Argument, Publish, Assert, Branch, Jump, Call, Return, ReturnNone, Function}
 use Rattle.code_model.specs.Machine.{Caller, Machine, values_at, limit, resume, step}
 use Rattle.code_places.proofs.Quiet.{KeptAt, Quiet, quiet_bind, quiet_done, quiet_end, quiet_charge, quiet_test}
-use Rattle.code_places.proofs.QuietRows.{untrapped_quiet, classified_quiet, operated_quiet, negated_quiet, cast_quiet, size_quiet, summed_quiet, bits_quiet}
+use Rattle.code_places.proofs.QuietRows.{untrapped_quiet, classified_quiet, operated_quiet, negated_quiet, cast_quiet, size_quiet, summed_quiet, bits_quiet, looked_up_quiet}
 use Rattle.code_places.proofs.QuietRows.{concatenated_quiet, element_quiet, with_element_quiet, filled_quiet, tested_quiet, asserted_quiet, asked_quiet}
 
 -- ---- WHAT A STEP TELLS
@@ -275,6 +275,8 @@ module _ (o : Offered) (c : List Function) (m : Machine) (s : Stage) where
   step_tells (Cat line d a b) = quietly (Some (Cat line d a b)) (then_done _ (concatenated_quiet false line (m.registers a) (m.registers b)))
   step_tells (Sum d r) = quietly (Some (Sum d r)) (then_done _ (summed_quiet false (m.registers r)))
   step_tells (Bits line d r) = quietly (Some (Bits line d r)) (then_done _ (bits_quiet false (world_of Clear o) line (m.registers r)))
+  step_tells (Lookup line d a i) =
+      quietly (Some (Lookup line d a i)) (then_done _ (looked_up_quiet false (world_of Clear o) line (m.registers a) (m.registers i)))
   step_tells (Declassify d r) =
       ends_then (Opening (m.registers r) s) s _ (declassified (world_of Clear o) (m.registers r) s) (declassified_tells o (m.registers r) s)
   step_tells (Argument line k text d) =

@@ -6,7 +6,7 @@ use Rattle.proto_core.specs.Ring.{Ring}
 use Rattle.proto_core.specs.Rings.{add_ring, xor_ring}
 use Rattle.proto_core.specs.declared.party.Number.{Number}
 use Rattle.proto_core.specs.declared.party.Number.TheVariants.{One, Two, Three}
-use Rattle.proto_core.specs.Strand.{Field, Words, Bits, Notice, Shown, Published, Handed}
+use Rattle.proto_core.specs.Strand.{ElementType, Unsigned, Signed, TruthValue, Notice, Shown, Published, Handed}
 use Rattle.gates.specs.Gathered.{unpacked}
 use Rattle.shared_gates.specs.Shares.{sum_of}
 use Rattle.code_runs.specs.Telling.{elements_told}
@@ -17,9 +17,10 @@ words_added_up r (x ∷ xs) (y ∷ ys) (z ∷ zs) = sum_of r x y z ∷ words_add
 words_added_up r xs ys zs = []
 
 -- the elements of three shares of so many: the numbers that they come to, or the bits of the words that they come to
-abbrev pub all_added_up : Field → (count : ℕ) → (xs ys zs : List ℕ) → List ℕ
-all_added_up Words count xs ys zs = words_added_up add_ring xs ys zs
-all_added_up Bits count xs ys zs = unpacked (words_added_up xor_ring xs ys zs) count
+abbrev pub all_added_up : ElementType → (count : ℕ) → (xs ys zs : List ℕ) → List ℕ
+all_added_up Unsigned count xs ys zs = words_added_up add_ring xs ys zs
+all_added_up Signed count xs ys zs = words_added_up add_ring xs ys zs
+all_added_up TruthValue count xs ys zs = unpacked (words_added_up xor_ring xs ys zs) count
 
 -- one event, by what the first miner tells and the words that the others tell beside it
 abbrev pub told_by_three : Notice → (second third : List ℕ) → Event

@@ -1,22 +1,23 @@
 -- What three miners tell beside the events of the run in the clear.
 use Rattle.std.specs.Prelude.{ℕ, List, [], ◌∷◌, length, map}
 use Rattle.program_trees.specs.declared.expression.DataType.{DataType}
-use Rattle.program_trees.specs.declared.expression.DataType.TheVariants.{Uint64}
+use Rattle.program_trees.specs.declared.expression.DataType.TheVariants.{Uint64, Int64}
 use Rattle.program_trees.specs.declared.expression.DataType.TheVariants as datatype
 use Rattle.sc_text.specs.declared.elements.Element.{Element}
 use Rattle.sc_text.specs.declared.event.Event.{Event}
 use Rattle.sc_text.specs.declared.event.Event.TheVariants.{Open, Publish, Hand}
 use Rattle.proto_core.specs.Ring.{Ring}
 use Rattle.proto_core.specs.declared.party.Number.{Number}
-use Rattle.proto_core.specs.Strand.{Field, Words, Bits, Form, Notice, Shown, Published, Handed}
+use Rattle.proto_core.specs.Strand.{ElementType, Unsigned, Signed, TruthValue, Form, Notice, Shown, Published, Handed}
 use Rattle.gates.specs.Clear.{ring_of}
 use Rattle.shared_gates.specs.Shares.{AreShares}
 use Rattle.language_model.specs.Values.{ring_for, gate_words, element_of}
 use Rattle.gate_laws.specs.Dealt.{InRange}
 
-abbrev pub type_of : Field → DataType
-type_of Words = Uint64
-type_of Bits = datatype.Bool
+abbrev pub type_of : ElementType → DataType
+type_of Unsigned = Uint64
+type_of Signed = Int64
+type_of TruthValue = datatype.Bool
 
 -- words of a form as they are printed, and the ring in which they are shared
 abbrev pub elements_told : Form → List ℕ → List Element

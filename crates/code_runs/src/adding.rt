@@ -3,7 +3,7 @@ ghost use Rattle.std.specs.Prelude.{◌≡◌, IfOk};
 ghost use Rattle.gates.specs.Clear.{ring_of};
 ghost use Rattle.shared_gates.specs.Shares.{sum_of};
 ghost use Rattle.language_model.specs.Values.{ring_for};
-ghost use Rattle.code_places.specs.Places.{field_of};
+ghost use Rattle.code_places.specs.Places.{element_type_of};
 ghost use Rattle.code_runs.specs.ClientTold as C;
 
 use bit_words::unpacked;
@@ -16,7 +16,7 @@ fn word_added_up(element: DataType, x: u64, y: u64, z: u64) -> u64
     ensures { result ≡ sum_of (ring_of (ring_for element)) x y z }
 {
     match element {
-        DataType::Uint64 => AddRing::add(AddRing::add(x, y), z),
+        DataType::Uint64 | DataType::Int64 => AddRing::add(AddRing::add(x, y), z),
         DataType::Bool => XorRing::add(XorRing::add(x, y), z),
     }
 }
@@ -49,11 +49,11 @@ pub fn all_added_up(
     second: &[u64],
     third: &[u64],
 ) -> Result<Vec<u64>, AllocError>
-    ensures { IfOk result (λ elements. elements.items ≡ C.all_added_up (field_of element) count first.now second.now third.now) }
+    ensures { IfOk result (λ elements. elements.items ≡ C.all_added_up (element_type_of element) count first.now second.now third.now) }
 {
     let words = words_added_up(alloc, element, first, second, third)?;
     match element {
-        DataType::Uint64 => Ok(words),
+        DataType::Uint64 | DataType::Int64 => Ok(words),
         DataType::Bool => unpacked(alloc, &words, count as usize),
     }
 }

@@ -2,7 +2,7 @@
 use Rattle.std.specs.Prelude.{ℕ, ◌+◌, Bool, false, ◌&&◌, ◌||◌, if◌then◌else◌, List, [], ◌∷◌, Option, Some, None, codes, bytes_eq, option_map}
 use Rattle.program_trees.specs.Programs.{FunctionTree, ItemTree, imports, kind, domain as domains_item, defines, ProgramTree}
 use Rattle.declarations.specs.declared.built_in.BuiltIn.{BuiltIn}
-use Rattle.declarations.specs.declared.built_in.BuiltIn.TheVariants.{Size, Cat, Sum, BitExtract}
+use Rattle.declarations.specs.declared.built_in.BuiltIn.TheVariants.{Size, Cat, Sum, BitExtract, Lookup}
 
 -- what the whole program declares, wherever it stands: which modules are imported, whether the kind `shared3p` is declared,
 -- the names of the private domains and the functions, both in order
@@ -69,6 +69,7 @@ built_in_named d x =
     else if bytes_eq x (codes "cat") then Some Cat
     else if bytes_eq x (codes "sum") && (d.stdlib || d.shared3p) then Some Sum
     else if bytes_eq x (codes "bitExtract") && d.shared3p then Some BitExtract
+    else if bytes_eq x (codes "lookup") && d.shared3p then Some Lookup
     else None
 
 -- the first function of this name, numbered from n on

@@ -5,4 +5,5 @@ pub enum BuiltIn {
     Cat,
     Sum,
     BitExtract,
+    Lookup,
 }

@@ -89,6 +89,8 @@ impl<'p> Declarations<'p> {
             Some(BuiltInFunction::Sum)
         } else if name == "bitExtract" && self.shared3p {
             Some(BuiltInFunction::BitExtract)
+        } else if name == "lookup" && self.shared3p {
+            Some(BuiltInFunction::Lookup)
         } else {
             None
         }

@@ -1,6 +1,6 @@
 -- The rules of calls: where a call has a type, and where it has no fault of its own.
 use Rattle.std.proofs.Common.{◌≡◌, ℕ, List, [], ◌∷◌, ◌++◌, refl, sym, ap, ap₂, subst, ◌∙◌, Option, Some, None, Bool, true, false, length, ◌+◌, suc, arith}
-use Rattle.std.specs.Prelude.{nat_eq, not, ◌&&◌, if◌then◌else◌, option_map, option_and_then, bytes_eq}
+use Rattle.std.specs.Prelude.{◌≢◌, nat_eq, not, ◌&&◌, if◌then◌else◌, option_map, option_and_then, bytes_eq}
 use Rattle.std.specs.List.{slice_get}
 use Rattle.std.proofs.lemmas.Bool.{eqb-true, eq-eqb, and_parts, not-false}
 use Rattle.std.proofs.lemmas.Option.{none-some, same_Some}
@@ -19,18 +19,20 @@ use Rattle.domain_types.specs.declared.value_type.ValueType.{ValueType}
 use Rattle.domain_types.specs.declared.value_type.ExpressionType.{ExpressionType}
 use Rattle.domain_types.specs.declared.value_type.ExpressionType.TheVariants.{Value}
 use Rattle.declarations.specs.declared.built_in.BuiltIn.{BuiltIn}
-use Rattle.declarations.specs.declared.built_in.BuiltIn.TheVariants.{Size, Cat, Sum, BitExtract}
-use Rattle.domain_types.specs.Types.{fault_at, fault_if, of_typed, meet, mix_faults, is_uint64, same_element, store_faults, scalar_of, public_scalar}
+use Rattle.declarations.specs.declared.built_in.BuiltIn.TheVariants.{Size, Cat, Sum, BitExtract, Lookup}
+use Rattle.domain_types.specs.Types.{fault_at, fault_if, of_typed, is_private, meet, mix_faults, is_uint64, is_number, same_element, store_faults}
+use Rattle.domain_types.specs.Types.{scalar_of, public_scalar}
 use Rattle.declarations.specs.Declarations.{Declared, Callee, built_in, defined, built_in_named, function_named}
 use Rattle.domain_types.specs.Settings.{Setting, type_written}
 use Rattle.declarations.specs.Declarations.{callee_or_function, callee}
-use Rattle.domain_types.specs.ExpressionTypes.{array_of, built_in_faults, built_in_result}
+use Rattle.domain_types.specs.ExpressionTypes.{one_private, array_of, may_look_up, looked_up, built_in_faults, built_in_result}
 use Rattle.domain_types.specs.ExpressionTypes.{bound_by, binding_by, bound_faults, binding_faults, argument_faults, within}
 use Rattle.domain_types.specs.ExpressionTypes.{defined_faults, result_type, callee_faults, callee_type, call_faults, call_type}
-use Rattle.domain_types.specs.Typing.{Meets, IsBuiltInCall, IsOfKind, AreBound, ParameterTakes, ParametersTake, IsDefinedCall, IsCall}
+use Rattle.domain_types.specs.Typing.{Meets, IsNumber, IsBuiltInCall, IsOfKind, AreBound, ParameterTakes, ParametersTake, IsDefinedCall, IsCall}
 use Rattle.domain_types.proofs.Bindings.{with_domain}
 use Rattle.domain_types.proofs.TypingSteps.{mapped, followed, not_refused, passes, some_fault, parts, joined, not_so, said, says_nothing}
 use Rattle.domain_types.proofs.TypingRules.{meets, meet_from, no_mix, meeting, same_type, element_same, same_elements, no_store_fault, fits_into, word}
+use Rattle.domain_types.proofs.TypingRules.{counted, counts, private_result}
 
 -- BUILT-IN FUNCTIONS
 
@@ -50,11 +52,40 @@ cat_takes p a b x y e =
     ap₂ (λ s t. fault_if (not (s && t && same_element a.element b.element)) p TypeMismatch) x y
     ∙ ap (λ t. fault_if (not t) p TypeMismatch) (element_same a.element b.element e)
 
-sum_taken : (p : Span) (a : ValueType) → fault_if (not (a.array && is_uint64 a.element)) p TypeMismatch ≡ [] → (a.array ≡ true) × (a.element ≡ datatype.Uint64)
+sum_taken : (p : Span) (a : ValueType) → fault_if (not (a.array && is_number a.element)) p TypeMismatch ≡ [] → (a.array ≡ true) × IsNumber a.element
 sum_taken p a h =
-    let both = and_parts a.array (is_uint64 a.element)
-    (not-false (a.array && is_uint64 a.element) (not_so (not (a.array && is_uint64 a.element)) p TypeMismatch h)) in
-    (both.0, word a.element both.1)
+    let both = and_parts a.array (is_number a.element)
+    (not-false (a.array && is_number a.element) (not_so (not (a.array && is_number a.element)) p TypeMismatch h)) in
+    (both.0, counted a.element both.1)
+
+-- an array of numbers and uint64 indices, of which one is private
+record LooksUp (a i : ValueType) : Type 0 where
+  array : a.array ≡ true
+  numbers : IsNumber a.element
+  indices : i.element ≡ datatype.Uint64
+  hidden : one_private a i ≡ true
+
+lookup_taken : (p : Span) (a i : ValueType) → fault_if (not (may_look_up a i)) p TypeMismatch ≡ [] → LooksUp a i
+lookup_taken p a i h =
+    let all = not-false (may_look_up a i) (not_so (not (may_look_up a i)) p TypeMismatch h) in
+    let three = and_parts (a.array && is_number a.element && is_uint64 i.element) (one_private a i) all in
+    let two = and_parts (a.array && is_number a.element) (is_uint64 i.element) three.0 in
+    let first = and_parts a.array (is_number a.element) two.0 in
+    record { array = first.0; numbers = counted a.element first.1; indices = word i.element two.1; hidden = three.1 }
+
+lookup_takes : (p : Span) (a i : ValueType) → LooksUp a i → fault_if (not (may_look_up a i)) p TypeMismatch ≡ []
+lookup_takes p a i h =
+    ap₂ (λ s n. fault_if (not (s && n && is_uint64 i.element && one_private a i)) p TypeMismatch) h.array (counts a.element h.numbers)
+    ∙ ap₂ (λ w o. fault_if (not (w && o)) p TypeMismatch) (ap is_uint64 h.indices) h.hidden
+
+-- a private domain isn't public
+not_public : (d : Protection) → is_private d ≡ true → d ≢ Public
+not_public Public h = cc
+not_public (Private k) h = λ e. cc
+
+is_hidden : (d : Protection) → d ≢ Public → is_private d ≡ true
+is_hidden Public h = absurd (h refl)
+is_hidden (Private k) h = refl
 
 pub built_in_call : (p : Span) (b : BuiltIn) (gs : List Argument) (t : ValueType) → built_in_faults p b gs ≡ [] → built_in_result b gs ≡ Some t
     → IsBuiltInCall b gs t
@@ -87,6 +118,23 @@ built_in_call p BitExtract (a ∷ []) t h r = (
   sym (same_Some (array_of datatype.Bool a.given.domain) t r),
 )
 built_in_call p BitExtract (a ∷ b ∷ gs) t h r = absurd (some_fault (record { place = p; problem = BadArity }) [] h)
+built_in_call p Lookup [] t h r = absurd (some_fault (record { place = p; problem = BadArity }) [] h)
+built_in_call p Lookup (a ∷ []) t h r = absurd (some_fault (record { place = p; problem = BadArity }) [] h)
+built_in_call p Lookup (a ∷ i ∷ []) t h r =
+    let hs = parts (fault_if (not (may_look_up a.given i.given)) p TypeMismatch) (mix_faults p a.given.domain i.given.domain) h in
+    let taken = lookup_taken p a.given i.given hs.0 in
+    let m = mapped (looked_up a.given i.given) (meet a.given.domain i.given.domain) t r in
+    let met : Meets a.given.domain i.given.domain t.domain =
+    subst (Meets a.given.domain i.given.domain) (sym (ap (λ z. z.domain) m.2)) (meets a.given.domain i.given.domain m.0 m.1) in (
+      taken.array,
+      taken.numbers,
+      taken.indices,
+      ap (λ z. z.element) m.2,
+      ap (λ z. z.array) m.2,
+      met,
+      not_public t.domain (sym (private_result a.given.domain i.given.domain t.domain met) ∙ taken.hidden),
+    )
+built_in_call p Lookup (a ∷ i ∷ b ∷ gs) t h r = absurd (some_fault (record { place = p; problem = BadArity }) [] h)
 
 pub built_in_from : (p : Span) (b : BuiltIn) (gs : List Argument) (t : ValueType) → IsBuiltInCall b gs t
     → (built_in_faults p b gs ≡ []) × (built_in_result b gs ≡ Some t)
@@ -106,11 +154,26 @@ built_in_from p Cat (a ∷ b ∷ []) t h = (
 )
 built_in_from p Cat (a ∷ b ∷ c ∷ gs) t h = absurd h
 built_in_from p Sum [] t h = absurd h
-built_in_from p Sum (a ∷ []) t h = (ap₂ (λ s e. fault_if (not (s && is_uint64 e)) p TypeMismatch) h.0 h.1, ap Some (sym h.2))
+built_in_from p Sum (a ∷ []) t h = (
+  ap₂ (λ s n. fault_if (not (s && n)) p TypeMismatch) h.0 (counts a.given.element h.1),
+  ap Some (sym h.2),
+)
 built_in_from p Sum (a ∷ b ∷ gs) t h = absurd h
 built_in_from p BitExtract [] t h = absurd h
 built_in_from p BitExtract (a ∷ []) t h = (ap (λ e. fault_if (not (is_uint64 e)) p TypeMismatch) h.0, ap Some (sym h.1))
 built_in_from p BitExtract (a ∷ b ∷ gs) t h = absurd h
+built_in_from p Lookup [] t h = absurd h
+built_in_from p Lookup (a ∷ []) t h = absurd h
+built_in_from p Lookup (a ∷ i ∷ []) t h =
+    let hidden : one_private a.given i.given ≡ true =
+    private_result a.given.domain i.given.domain t.domain h.5 ∙ is_hidden t.domain h.6 in (
+      joined (fault_if (not (may_look_up a.given i.given)) p TypeMismatch) (mix_faults p a.given.domain i.given.domain)
+          (lookup_takes p a.given i.given (record { array = h.0; numbers = h.1; indices = h.2; hidden = hidden }))
+          (no_mix p a.given.domain i.given.domain t.domain h.5),
+      ap (option_map (looked_up a.given i.given)) (meet_from a.given.domain i.given.domain t.domain h.5)
+          ∙ ap Some (same_type (looked_up a.given i.given t.domain) t refl (sym h.3) (sym h.4)),
+    )
+built_in_from p Lookup (a ∷ i ∷ b ∷ gs) t h = absurd h
 
 pub built_in_typed : (p : Span) (b : BuiltIn) (gs : List Argument) → built_in_faults p b gs ≡ [] → (t : ValueType) × (built_in_result b gs ≡ Some t)
 unfolding built_in_faults built_in_result
@@ -129,6 +192,13 @@ built_in_typed p Sum (a ∷ b ∷ gs) h = absurd (some_fault (record { place = p
 built_in_typed p BitExtract [] h = absurd (some_fault (record { place = p; problem = BadArity }) [] h)
 built_in_typed p BitExtract (a ∷ []) h = (array_of datatype.Bool a.given.domain, refl)
 built_in_typed p BitExtract (a ∷ b ∷ gs) h = absurd (some_fault (record { place = p; problem = BadArity }) [] h)
+built_in_typed p Lookup [] h = absurd (some_fault (record { place = p; problem = BadArity }) [] h)
+built_in_typed p Lookup (a ∷ []) h = absurd (some_fault (record { place = p; problem = BadArity }) [] h)
+built_in_typed p Lookup (a ∷ i ∷ []) h =
+    let hs = parts (fault_if (not (may_look_up a.given i.given)) p TypeMismatch) (mix_faults p a.given.domain i.given.domain) h in
+    let m = meeting p a.given.domain i.given.domain hs.1 in
+    (looked_up a.given i.given m.0, ap (option_map (looked_up a.given i.given)) m.1)
+built_in_typed p Lookup (a ∷ i ∷ b ∷ gs) h = absurd (some_fault (record { place = p; problem = BadArity }) [] h)
 
 -- DOMAIN VARIABLES
 

@@ -14,11 +14,11 @@ use Rattle.domain_types.specs.declared.fault.TypeProblem.TheVariants.{TypeMismat
 use Rattle.domain_types.specs.declared.value_type.Protection.{Protection}
 use Rattle.domain_types.specs.declared.value_type.Protection.TheVariants.{Public, Private}
 use Rattle.domain_types.specs.declared.value_type.ValueType.{ValueType}
-use Rattle.domain_types.specs.Types.{fault_if, is_private, meet, mix_faults, is_uint64, same_element, same_dimension, flow_faults, store_faults}
-use Rattle.domain_types.specs.Types.{scalar_faults, scalar_of, public_scalar}
+use Rattle.domain_types.specs.Types.{fault_if, is_private, meet, mix_faults, is_uint64, is_number, same_element, same_dimension, flow_faults}
+use Rattle.domain_types.specs.Types.{store_faults, scalar_faults, scalar_of, public_scalar}
 use Rattle.domain_types.specs.ExpressionTypes.{element_result, is_division, one_private, element_of, operator_faults, result_of, operator_type}
 use Rattle.domain_types.specs.ExpressionTypes.{negation_faults, negation_type, index_faults, index_type}
-use Rattle.domain_types.specs.Typing.{Meets, GoesTo, FitsInto, OperatesOn, IsOperation, IsPublicScalar}
+use Rattle.domain_types.specs.Typing.{Meets, GoesTo, FitsInto, IsNumber, OperatesOn, IsOperation, IsPublicScalar}
 use Rattle.domain_types.proofs.TypingSteps.{mapped, followed, not_refused, passes, some_fault, parts, joined, not_so, nothing_if, there}
 
 -- DOMAINS
@@ -52,7 +52,7 @@ meeting p (Private k) (Private m) h = go (nat_eq k m) h
     go false h = absurd (some_fault (record { place = p; problem = DomainMix }) [] h)
 
 -- the result is private where one of the two is
-private_result : (d e r : Protection) → Meets d e r → (is_private d || is_private e) ≡ is_private r
+pub private_result : (d e r : Protection) → Meets d e r → (is_private d || is_private e) ≡ is_private r
 private_result Public e r h = ap is_private (sym h)
 private_result (Private k) Public r h = ap is_private (sym h)
 private_result (Private k) (Private m) r h = ap is_private (sym h.1)
@@ -64,6 +64,7 @@ same_type t u d e a = λ i. record { domain = d i; element = e i; array = a i }
 
 element_itself : (a : DataType) → same_element a a ≡ true
 element_itself datatype.Uint64 = refl
+element_itself datatype.Int64 = refl
 element_itself datatype.Bool = refl
 
 pub element_same : (a b : DataType) → a ≡ b → same_element a b ≡ true
@@ -71,8 +72,13 @@ element_same a b e = ap (same_element a) (sym e) ∙ element_itself a
 
 pub same_elements : (a b : DataType) → same_element a b ≡ true → a ≡ b
 same_elements datatype.Uint64 datatype.Uint64 h = refl
+same_elements datatype.Uint64 datatype.Int64 h = cc
 same_elements datatype.Uint64 datatype.Bool h = cc
+same_elements datatype.Int64 datatype.Uint64 h = cc
+same_elements datatype.Int64 datatype.Int64 h = refl
+same_elements datatype.Int64 datatype.Bool h = cc
 same_elements datatype.Bool datatype.Uint64 h = cc
+same_elements datatype.Bool datatype.Int64 h = cc
 same_elements datatype.Bool datatype.Bool h = refl
 
 dimension_itself : (a : Bool) → same_dimension a a ≡ true
@@ -117,7 +123,7 @@ fits_into p wanted given h =
 
 -- PUBLIC SCALARS
 
-not_private : (d : Protection) → is_private d ≡ false → d ≡ Public
+pub not_private : (d : Protection) → is_private d ≡ false → d ≡ Public
 not_private Public h = refl
 not_private (Private k) h = cc
 
@@ -144,27 +150,47 @@ public_scalar_from element problem p given h =
 
 operates : (op : Operator) (a b : DataType) (d : Protection) (r : DataType) → element_result op (is_private d) a b ≡ Some r
     → is_division op && is_private d ≡ false → (a ≡ b) × OperatesOn op a d r
+operates op datatype.Uint64 datatype.Int64 d r e n = absurd (none-some r e)
 operates op datatype.Uint64 datatype.Bool d r e n = absurd (none-some r e)
+operates op datatype.Int64 datatype.Uint64 d r e n = absurd (none-some r e)
+operates op datatype.Int64 datatype.Bool d r e n = absurd (none-some r e)
 operates op datatype.Bool datatype.Uint64 d r e n = absurd (none-some r e)
-operates Add datatype.Uint64 datatype.Uint64 d r e n = (refl, (refl, sym (same_Some datatype.Uint64 r e)))
-operates Subtract datatype.Uint64 datatype.Uint64 d r e n = (refl, (refl, sym (same_Some datatype.Uint64 r e)))
-operates Multiply datatype.Uint64 datatype.Uint64 d r e n = (refl, (refl, sym (same_Some datatype.Uint64 r e)))
-operates Divide datatype.Uint64 datatype.Uint64 d r e n = (refl, (refl, sym (same_Some datatype.Uint64 r e), not_private d n))
-operates Remainder datatype.Uint64 datatype.Uint64 d r e n = (refl, (refl, sym (same_Some datatype.Uint64 r e), not_private d n))
+operates op datatype.Bool datatype.Int64 d r e n = absurd (none-some r e)
+operates Add datatype.Uint64 datatype.Uint64 d r e n = (refl, (inl refl, sym (same_Some datatype.Uint64 r e)))
+operates Subtract datatype.Uint64 datatype.Uint64 d r e n = (refl, (inl refl, sym (same_Some datatype.Uint64 r e)))
+operates Multiply datatype.Uint64 datatype.Uint64 d r e n = (refl, (inl refl, sym (same_Some datatype.Uint64 r e)))
+operates Divide datatype.Uint64 datatype.Uint64 d r e n = (refl, (inl refl, sym (same_Some datatype.Uint64 r e), not_private d n))
+operates Remainder datatype.Uint64 datatype.Uint64 d r e n = (refl, (inl refl, sym (same_Some datatype.Uint64 r e), not_private d n))
 operates Equal datatype.Uint64 datatype.Uint64 d r e n = (refl, sym (same_Some datatype.Bool r e))
 operates NotEqual datatype.Uint64 datatype.Uint64 d r e n = (refl, sym (same_Some datatype.Bool r e))
-operates Less datatype.Uint64 datatype.Uint64 d r e n = (refl, (refl, sym (same_Some datatype.Bool r e)))
-operates LessOrEqual datatype.Uint64 datatype.Uint64 d r e n = (refl, (refl, sym (same_Some datatype.Bool r e)))
-operates Greater datatype.Uint64 datatype.Uint64 d r e n = (refl, (refl, sym (same_Some datatype.Bool r e)))
-operates GreaterOrEqual datatype.Uint64 datatype.Uint64 d r e n = (refl, (refl, sym (same_Some datatype.Bool r e)))
-operates And datatype.Uint64 datatype.Uint64 Public r e n = (refl, (sym (same_Some datatype.Uint64 r e), inr refl))
+operates Less datatype.Uint64 datatype.Uint64 d r e n = (refl, (inl refl, sym (same_Some datatype.Bool r e)))
+operates LessOrEqual datatype.Uint64 datatype.Uint64 d r e n = (refl, (inl refl, sym (same_Some datatype.Bool r e)))
+operates Greater datatype.Uint64 datatype.Uint64 d r e n = (refl, (inl refl, sym (same_Some datatype.Bool r e)))
+operates GreaterOrEqual datatype.Uint64 datatype.Uint64 d r e n = (refl, (inl refl, sym (same_Some datatype.Bool r e)))
+operates And datatype.Uint64 datatype.Uint64 Public r e n = (refl, (sym (same_Some datatype.Uint64 r e), inr (refl, refl)))
 operates And datatype.Uint64 datatype.Uint64 (Private k) r e n = absurd (none-some r e)
-operates Or datatype.Uint64 datatype.Uint64 Public r e n = (refl, (sym (same_Some datatype.Uint64 r e), inr refl))
+operates Or datatype.Uint64 datatype.Uint64 Public r e n = (refl, (sym (same_Some datatype.Uint64 r e), inr (refl, refl)))
 operates Or datatype.Uint64 datatype.Uint64 (Private k) r e n = absurd (none-some r e)
-operates Xor datatype.Uint64 datatype.Uint64 Public r e n = (refl, (sym (same_Some datatype.Uint64 r e), inr refl))
+operates Xor datatype.Uint64 datatype.Uint64 Public r e n = (refl, (sym (same_Some datatype.Uint64 r e), inr (refl, refl)))
 operates Xor datatype.Uint64 datatype.Uint64 (Private k) r e n = absurd (none-some r e)
 operates AndAlso datatype.Uint64 datatype.Uint64 d r e n = absurd (none-some r e)
 operates OrElse datatype.Uint64 datatype.Uint64 d r e n = absurd (none-some r e)
+operates Add datatype.Int64 datatype.Int64 d r e n = (refl, (inr refl, sym (same_Some datatype.Int64 r e)))
+operates Subtract datatype.Int64 datatype.Int64 d r e n = (refl, (inr refl, sym (same_Some datatype.Int64 r e)))
+operates Multiply datatype.Int64 datatype.Int64 d r e n = (refl, (inr refl, sym (same_Some datatype.Int64 r e)))
+operates Divide datatype.Int64 datatype.Int64 d r e n = (refl, (inr refl, sym (same_Some datatype.Int64 r e), not_private d n))
+operates Remainder datatype.Int64 datatype.Int64 d r e n = (refl, (inr refl, sym (same_Some datatype.Int64 r e), not_private d n))
+operates Equal datatype.Int64 datatype.Int64 d r e n = (refl, sym (same_Some datatype.Bool r e))
+operates NotEqual datatype.Int64 datatype.Int64 d r e n = (refl, sym (same_Some datatype.Bool r e))
+operates Less datatype.Int64 datatype.Int64 d r e n = (refl, (inr refl, sym (same_Some datatype.Bool r e)))
+operates LessOrEqual datatype.Int64 datatype.Int64 d r e n = (refl, (inr refl, sym (same_Some datatype.Bool r e)))
+operates Greater datatype.Int64 datatype.Int64 d r e n = (refl, (inr refl, sym (same_Some datatype.Bool r e)))
+operates GreaterOrEqual datatype.Int64 datatype.Int64 d r e n = (refl, (inr refl, sym (same_Some datatype.Bool r e)))
+operates And datatype.Int64 datatype.Int64 d r e n = absurd (none-some r e)
+operates Or datatype.Int64 datatype.Int64 d r e n = absurd (none-some r e)
+operates Xor datatype.Int64 datatype.Int64 d r e n = absurd (none-some r e)
+operates AndAlso datatype.Int64 datatype.Int64 d r e n = absurd (none-some r e)
+operates OrElse datatype.Int64 datatype.Int64 d r e n = absurd (none-some r e)
 operates Add datatype.Bool datatype.Bool d r e n = absurd (none-some r e)
 operates Subtract datatype.Bool datatype.Bool d r e n = absurd (none-some r e)
 operates Multiply datatype.Bool datatype.Bool d r e n = absurd (none-some r e)
@@ -186,12 +212,20 @@ operates OrElse datatype.Bool datatype.Bool d r e n = (refl, (refl, sym (same_So
 abbrev Operated : Operator → DataType → Protection → DataType → Type 0
 Operated op a d r = (element_result op (is_private d) a a ≡ Some r) × (is_division op && is_private d ≡ false)
 
-no_truth : (datatype.Bool ≡ datatype.Uint64) → ⊥
-no_truth e = cc
+no_number : IsNumber datatype.Bool → ⊥
+no_number (inl e) = cc
+no_number (inr e) = cc
 
-only_public : (k : ℕ) → (datatype.Uint64 ≡ datatype.Bool) ⊎ (Private k ≡ Public) → ⊥
+no_truth : (t : DataType) → IsNumber t → t ≡ datatype.Bool → ⊥
+no_truth t n e = no_number (subst IsNumber e n)
+
+only_public : (k : ℕ) → (datatype.Uint64 ≡ datatype.Bool) ⊎ ((datatype.Uint64 ≡ datatype.Uint64) × (Private k ≡ Public)) → ⊥
 only_public k (inl e) = cc
-only_public k (inr e) = cc
+only_public k (inr e) = let f = e.1 in cc
+
+no_bits : (d : Protection) → (datatype.Int64 ≡ datatype.Bool) ⊎ ((datatype.Int64 ≡ datatype.Uint64) × (d ≡ Public)) → ⊥
+no_bits d (inl e) = cc
+no_bits d (inr e) = let f = e.0 in cc
 
 no_public : (k : ℕ) → Private k ≡ Public → ⊥
 no_public k e = cc
@@ -216,19 +250,37 @@ operated Or datatype.Uint64 Public r h = (ap Some (sym h.0), refl)
 operated Or datatype.Uint64 (Private k) r h = absurd (only_public k h.1)
 operated Xor datatype.Uint64 Public r h = (ap Some (sym h.0), refl)
 operated Xor datatype.Uint64 (Private k) r h = absurd (only_public k h.1)
-operated AndAlso datatype.Uint64 d r h = absurd (no_truth (sym h.0))
-operated OrElse datatype.Uint64 d r h = absurd (no_truth (sym h.0))
-operated Add datatype.Bool d r h = absurd (no_truth h.0)
-operated Subtract datatype.Bool d r h = absurd (no_truth h.0)
-operated Multiply datatype.Bool d r h = absurd (no_truth h.0)
-operated Divide datatype.Bool d r h = absurd (no_truth h.0)
-operated Remainder datatype.Bool d r h = absurd (no_truth h.0)
+operated AndAlso datatype.Uint64 d r h = absurd (no_truth datatype.Uint64 (inl refl) h.0)
+operated OrElse datatype.Uint64 d r h = absurd (no_truth datatype.Uint64 (inl refl) h.0)
+operated Add datatype.Int64 d r h = (ap Some (sym h.1), refl)
+operated Subtract datatype.Int64 d r h = (ap Some (sym h.1), refl)
+operated Multiply datatype.Int64 d r h = (ap Some (sym h.1), refl)
+operated Divide datatype.Int64 Public r h = (ap Some (sym h.1), refl)
+operated Divide datatype.Int64 (Private k) r h = absurd (no_public k h.2)
+operated Remainder datatype.Int64 Public r h = (ap Some (sym h.1), refl)
+operated Remainder datatype.Int64 (Private k) r h = absurd (no_public k h.2)
+operated Equal datatype.Int64 d r h = (ap Some (sym h), refl)
+operated NotEqual datatype.Int64 d r h = (ap Some (sym h), refl)
+operated Less datatype.Int64 d r h = (ap Some (sym h.1), refl)
+operated LessOrEqual datatype.Int64 d r h = (ap Some (sym h.1), refl)
+operated Greater datatype.Int64 d r h = (ap Some (sym h.1), refl)
+operated GreaterOrEqual datatype.Int64 d r h = (ap Some (sym h.1), refl)
+operated And datatype.Int64 d r h = absurd (no_bits d h.1)
+operated Or datatype.Int64 d r h = absurd (no_bits d h.1)
+operated Xor datatype.Int64 d r h = absurd (no_bits d h.1)
+operated AndAlso datatype.Int64 d r h = absurd (no_truth datatype.Int64 (inr refl) h.0)
+operated OrElse datatype.Int64 d r h = absurd (no_truth datatype.Int64 (inr refl) h.0)
+operated Add datatype.Bool d r h = absurd (no_number h.0)
+operated Subtract datatype.Bool d r h = absurd (no_number h.0)
+operated Multiply datatype.Bool d r h = absurd (no_number h.0)
+operated Divide datatype.Bool d r h = absurd (no_number h.0)
+operated Remainder datatype.Bool d r h = absurd (no_number h.0)
 operated Equal datatype.Bool d r h = (ap Some (sym h), refl)
 operated NotEqual datatype.Bool d r h = (ap Some (sym h), refl)
-operated Less datatype.Bool d r h = absurd (no_truth h.0)
-operated LessOrEqual datatype.Bool d r h = absurd (no_truth h.0)
-operated Greater datatype.Bool d r h = absurd (no_truth h.0)
-operated GreaterOrEqual datatype.Bool d r h = absurd (no_truth h.0)
+operated Less datatype.Bool d r h = absurd (no_number h.0)
+operated LessOrEqual datatype.Bool d r h = absurd (no_number h.0)
+operated Greater datatype.Bool d r h = absurd (no_number h.0)
+operated GreaterOrEqual datatype.Bool d r h = absurd (no_number h.0)
 operated And datatype.Bool d r h = (ap Some (sym h.0), refl)
 operated Or datatype.Bool d r h = (ap Some (sym h.0), refl)
 operated Xor datatype.Bool d r h = (ap Some (sym h.0), refl)
@@ -318,21 +370,32 @@ operator_typed p op a b h =
 
 pub word : (t : DataType) → is_uint64 t ≡ true → t ≡ datatype.Uint64
 word datatype.Uint64 h = refl
+word datatype.Int64 h = cc
 word datatype.Bool h = cc
 
-not_word : (t : DataType) → is_uint64 t ≡ false → t ≡ datatype.Bool
-not_word datatype.Uint64 h = cc
-not_word datatype.Bool h = refl
+pub counted : (t : DataType) → is_number t ≡ true → IsNumber t
+counted datatype.Uint64 h = inl refl
+counted datatype.Int64 h = inr refl
+counted datatype.Bool h = cc
+
+pub counts : (t : DataType) → IsNumber t → is_number t ≡ true
+counts t (inl e) = ap is_number e
+counts t (inr e) = ap is_number e
+
+not_counted : (t : DataType) → is_number t ≡ false → t ≡ datatype.Bool
+not_counted datatype.Uint64 h = cc
+not_counted datatype.Int64 h = cc
+not_counted datatype.Bool h = refl
 
 pub negated : (p : Span) (t x : ValueType) → negation_type p t ≡ Some x → (t.element ≡ datatype.Bool) × (x ≡ t)
 unfolding negation_type negation_faults
 negated p t x h =
     let n = not_refused (negation_faults p t) (Some t) x h in
-    (not_word t.element (not_so (is_uint64 t.element) p TypeMismatch n.0), sym (same_Some t x n.1))
+    (not_counted t.element (not_so (is_number t.element) p TypeMismatch n.0), sym (same_Some t x n.1))
 
 pub no_negation_fault : (p : Span) (t : ValueType) → t.element ≡ datatype.Bool → negation_faults p t ≡ []
 unfolding negation_faults
-no_negation_fault p t h = ap (λ e. fault_if (is_uint64 e) p TypeMismatch) h
+no_negation_fault p t h = ap (λ e. fault_if (is_number e) p TypeMismatch) h
 
 pub negation_typed : (p : Span) (t : ValueType) → negation_faults p t ≡ [] → negation_type p t ≡ Some t
 unfolding negation_type

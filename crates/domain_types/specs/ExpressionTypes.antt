@@ -28,8 +28,8 @@ use Rattle.domain_types.specs.declared.value_type.ExpressionType.{ExpressionType
 use Rattle.domain_types.specs.declared.value_type.Argument.{Argument}
 use Rattle.domain_types.specs.declared.value_type.ExpressionType.TheVariants.{Void, Value}
 use Rattle.declarations.specs.declared.built_in.BuiltIn.{BuiltIn}
-use Rattle.declarations.specs.declared.built_in.BuiltIn.TheVariants.{Size, Cat, Sum, BitExtract}
-use Rattle.domain_types.specs.Types.{fault_at, fault_if, of_typed, unless_refused, value_of, void_faults, is_private, meet, mix_faults, is_uint64}
+use Rattle.declarations.specs.declared.built_in.BuiltIn.TheVariants.{Size, Cat, Sum, BitExtract, Lookup}
+use Rattle.domain_types.specs.Types.{fault_at, fault_if, of_typed, unless_refused, value_of, void_faults, is_private, meet, mix_faults, is_uint64, is_number}
 use Rattle.domain_types.specs.Types.{same_element, store_faults, scalar_faults, scalar_of, public_scalar}
 use Rattle.declarations.specs.Declarations.{Declared, Callee, built_in, defined, callee}
 use Rattle.domain_types.specs.Settings.{bind, Setting, type_written}
@@ -64,6 +64,21 @@ uint64_result Xor s = if s then None else Some datatype.Uint64
 uint64_result AndAlso s = None
 uint64_result OrElse s = None
 
+-- of int64 operands the same, but that no operator works on their bits
+abbrev pub int64_result : Operator → Option DataType
+int64_result Add = Some datatype.Int64
+int64_result Subtract = Some datatype.Int64
+int64_result Multiply = Some datatype.Int64
+int64_result Divide = Some datatype.Int64
+int64_result Remainder = Some datatype.Int64
+int64_result Equal = Some datatype.Bool
+int64_result NotEqual = Some datatype.Bool
+int64_result Less = Some datatype.Bool
+int64_result LessOrEqual = Some datatype.Bool
+int64_result Greater = Some datatype.Bool
+int64_result GreaterOrEqual = Some datatype.Bool
+int64_result _ = None
+
 -- and of bool operands
 abbrev pub bool_result : Operator → Option DataType
 bool_result Equal = Some datatype.Bool
@@ -78,6 +93,7 @@ bool_result _ = None
 -- both operands are of one data type
 abbrev pub element_result : Operator → (private_one : Bool) → DataType → DataType → Option DataType
 element_result op s datatype.Uint64 datatype.Uint64 = uint64_result op s
+element_result op s datatype.Int64 datatype.Int64 = int64_result op
 element_result op s datatype.Bool datatype.Bool = bool_result op
 element_result op s _ _ = None
 
@@ -111,7 +127,7 @@ operator_type p op a b =
 -- NOT, CASTS, DECLASSIFY, INDICES
 
 unfoldable pub negation_faults : Span → ValueType → List TypeFault
-negation_faults p t = fault_if (is_uint64 t.element) p TypeMismatch
+negation_faults p t = fault_if (is_number t.element) p TypeMismatch
 
 unfoldable pub negation_type : Span → ValueType → Option ValueType
 negation_type p t = unless_refused (negation_faults p t) (Some t)
@@ -149,14 +165,24 @@ and_argument None p t = None
 and_argument (Some gs) p None = None
 and_argument (Some gs) p (Some t) = Some (gs ++ record { place = p; given = t } ∷ [])
 
+-- an array of numbers and uint64 indices, of which one is private
+abbrev pub may_look_up : (array index : ValueType) → Bool
+may_look_up a i = a.array && is_number a.element && is_uint64 i.element && one_private a i
+
+-- what stands in the array at each index
+abbrev pub looked_up : (array index : ValueType) → Protection → ValueType
+looked_up a i domain = record { domain = domain; element = a.element; array = i.array }
+
 -- the rules of the built-in functions; p is the call
 unfoldable pub built_in_faults : Span → BuiltIn → List Argument → List TypeFault
 built_in_faults p Size (a ∷ []) = fault_if (not a.given.array) p TypeMismatch
 built_in_faults p Cat (a ∷ b ∷ []) =
     fault_if (not (a.given.array && b.given.array && same_element a.given.element b.given.element)) p TypeMismatch
     ++ mix_faults p a.given.domain b.given.domain
-built_in_faults p Sum (a ∷ []) = fault_if (not (a.given.array && is_uint64 a.given.element)) p TypeMismatch
+built_in_faults p Sum (a ∷ []) = fault_if (not (a.given.array && is_number a.given.element)) p TypeMismatch
 built_in_faults p BitExtract (a ∷ []) = fault_if (not (is_uint64 a.given.element)) p TypeMismatch
+built_in_faults p Lookup (a ∷ i ∷ []) =
+    fault_if (not (may_look_up a.given i.given)) p TypeMismatch ++ mix_faults p a.given.domain i.given.domain
 built_in_faults p _ _ = fault_at p BadArity
 
 abbrev pub array_of : DataType → Protection → ValueType
@@ -168,6 +194,7 @@ built_in_result Size gs = Some (public_scalar datatype.Uint64)
 built_in_result Cat (a ∷ b ∷ []) = option_map (array_of a.given.element) (meet a.given.domain b.given.domain)
 built_in_result Sum (a ∷ []) = Some (scalar_of a.given)
 built_in_result BitExtract (a ∷ []) = Some (array_of datatype.Bool a.given.domain)
+built_in_result Lookup (a ∷ i ∷ []) = option_map (looked_up a.given i.given) (meet a.given.domain i.given.domain)
 built_in_result _ _ = None
 
 -- whether a parameter's domain is written with this name

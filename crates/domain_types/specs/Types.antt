@@ -62,11 +62,20 @@ mix_faults p _ _ = []
 
 abbrev pub is_uint64 : DataType → Bool
 is_uint64 datatype.Uint64 = true
+is_uint64 datatype.Int64 = false
 is_uint64 datatype.Bool = false
 
+-- with a sign or without
+abbrev pub is_number : DataType → Bool
+is_number datatype.Uint64 = true
+is_number datatype.Int64 = true
+is_number datatype.Bool = false
+
 abbrev pub same_element : DataType → DataType → Bool
-same_element datatype.Uint64 d = is_uint64 d
-same_element datatype.Bool d = not (is_uint64 d)
+same_element datatype.Uint64 datatype.Uint64 = true
+same_element datatype.Int64 datatype.Int64 = true
+same_element datatype.Bool datatype.Bool = true
+same_element _ _ = false
 
 abbrev pub same_dimension : Bool → Bool → Bool
 same_dimension true b = b

@@ -2,7 +2,7 @@
 use Rattle.std.specs.Prelude.{ℕ, ◌≡◌, ◌≢◌, ◌⊎◌, true, false, ◌&&◌, ◌||◌, List, [], ◌∷◌, map, Option, Some, None, codes, bytes_eq, IsTrue, is_some}
 use Rattle.std.specs.List.{slice_get}
 use Rattle.program_trees.specs.declared.expression.DataType.{DataType}
-use Rattle.program_trees.specs.declared.expression.DataType.TheVariants.{Uint64}
+use Rattle.program_trees.specs.declared.expression.DataType.TheVariants.{Uint64, Int64}
 use Rattle.program_trees.specs.declared.expression.DataType.TheVariants as datatype
 use Rattle.program_trees.specs.declared.expression.Operator.{Operator}
 use Rattle.program_trees.specs.declared.expression.Operator.TheVariants.{Add, Subtract, Multiply, Divide, Remainder, Equal, NotEqual, Less, LessOrEqual}
@@ -28,7 +28,7 @@ use Rattle.domain_types.specs.declared.value_type.ValueType.{ValueType}
 use Rattle.domain_types.specs.declared.value_type.ExpressionType.{ExpressionType}
 use Rattle.domain_types.specs.declared.value_type.ExpressionType.TheVariants.{Void, Value}
 use Rattle.declarations.specs.declared.built_in.BuiltIn.{BuiltIn}
-use Rattle.declarations.specs.declared.built_in.BuiltIn.TheVariants.{Size, Cat, Sum, BitExtract}
+use Rattle.declarations.specs.declared.built_in.BuiltIn.TheVariants.{Size, Cat, Sum, BitExtract, Lookup}
 use Rattle.domain_types.specs.Types.{scalar_of, public_scalar}
 use Rattle.declarations.specs.Declarations.{Declared, declared_by, functions_of, is_known_kind, built_in_named, Callee}
 use Rattle.domain_types.specs.Settings.{Setting, type_written}
@@ -60,22 +60,26 @@ FitsInto wanted given = (wanted.element ≡ given.element) × (wanted.array ≡ 
 
 -- EXPRESSIONS
 
+-- a number, with a sign or without
+abbrev pub IsNumber : DataType → Type 0
+IsNumber t = (t ≡ Uint64) ⊎ (t ≡ Int64)
+
 -- the operators on operands of one data type; d is the domain of the result, public where both operands are
 abbrev pub OperatesOn : Operator → DataType → (d : Protection) → (result : DataType) → Type 0
-OperatesOn Add t d r = (t ≡ Uint64) × (r ≡ Uint64)
-OperatesOn Subtract t d r = (t ≡ Uint64) × (r ≡ Uint64)
-OperatesOn Multiply t d r = (t ≡ Uint64) × (r ≡ Uint64)
-OperatesOn Divide t d r = (t ≡ Uint64) × (r ≡ Uint64) × (d ≡ Public)
-OperatesOn Remainder t d r = (t ≡ Uint64) × (r ≡ Uint64) × (d ≡ Public)
+OperatesOn Add t d r = IsNumber t × (r ≡ t)
+OperatesOn Subtract t d r = IsNumber t × (r ≡ t)
+OperatesOn Multiply t d r = IsNumber t × (r ≡ t)
+OperatesOn Divide t d r = IsNumber t × (r ≡ t) × (d ≡ Public)
+OperatesOn Remainder t d r = IsNumber t × (r ≡ t) × (d ≡ Public)
 OperatesOn Equal t d r = r ≡ datatype.Bool
 OperatesOn NotEqual t d r = r ≡ datatype.Bool
-OperatesOn Less t d r = (t ≡ Uint64) × (r ≡ datatype.Bool)
-OperatesOn LessOrEqual t d r = (t ≡ Uint64) × (r ≡ datatype.Bool)
-OperatesOn Greater t d r = (t ≡ Uint64) × (r ≡ datatype.Bool)
-OperatesOn GreaterOrEqual t d r = (t ≡ Uint64) × (r ≡ datatype.Bool)
-OperatesOn And t d r = (r ≡ t) × ((t ≡ datatype.Bool) ⊎ (d ≡ Public))
-OperatesOn Or t d r = (r ≡ t) × ((t ≡ datatype.Bool) ⊎ (d ≡ Public))
-OperatesOn Xor t d r = (r ≡ t) × ((t ≡ datatype.Bool) ⊎ (d ≡ Public))
+OperatesOn Less t d r = IsNumber t × (r ≡ datatype.Bool)
+OperatesOn LessOrEqual t d r = IsNumber t × (r ≡ datatype.Bool)
+OperatesOn Greater t d r = IsNumber t × (r ≡ datatype.Bool)
+OperatesOn GreaterOrEqual t d r = IsNumber t × (r ≡ datatype.Bool)
+OperatesOn And t d r = (r ≡ t) × ((t ≡ datatype.Bool) ⊎ ((t ≡ Uint64) × (d ≡ Public)))
+OperatesOn Or t d r = (r ≡ t) × ((t ≡ datatype.Bool) ⊎ ((t ≡ Uint64) × (d ≡ Public)))
+OperatesOn Xor t d r = (r ≡ t) × ((t ≡ datatype.Bool) ⊎ ((t ≡ Uint64) × (d ≡ Public)))
 OperatesOn AndAlso t d r = (t ≡ datatype.Bool) × (r ≡ datatype.Bool)
 OperatesOn OrElse t d r = (t ≡ datatype.Bool) × (r ≡ datatype.Bool)
 
@@ -97,10 +101,14 @@ IsBuiltInCall Cat (a ∷ b ∷ []) t =
     (a.given.array ≡ true) × (b.given.array ≡ true) × (a.given.element ≡ b.given.element)
     × (t.element ≡ a.given.element) × (t.array ≡ true) × Meets a.given.domain b.given.domain t.domain
 IsBuiltInCall Cat _ t = ⊥
-IsBuiltInCall Sum (a ∷ []) t = (a.given.array ≡ true) × (a.given.element ≡ Uint64) × (t ≡ scalar_of a.given)
+IsBuiltInCall Sum (a ∷ []) t = (a.given.array ≡ true) × IsNumber a.given.element × (t ≡ scalar_of a.given)
 IsBuiltInCall Sum _ t = ⊥
 IsBuiltInCall BitExtract (a ∷ []) t = (a.given.element ≡ Uint64) × (t ≡ array_of datatype.Bool a.given.domain)
 IsBuiltInCall BitExtract _ t = ⊥
+IsBuiltInCall Lookup (a ∷ i ∷ []) t =
+    (a.given.array ≡ true) × IsNumber a.given.element × (i.given.element ≡ Uint64)
+    × (t.element ≡ a.given.element) × (t.array ≡ i.given.array) × Meets a.given.domain i.given.domain t.domain × (t.domain ≢ Public)
+IsBuiltInCall Lookup _ t = ⊥
 
 -- a domain variable is bound to this domain, a private one where a kind is wanted
 abbrev pub IsOfKind : Option Identifier → Protection → Type 0

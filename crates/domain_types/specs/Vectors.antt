@@ -3,7 +3,7 @@ use Rattle.std.specs.Prelude.{ℕ, ◌≡◌, ◌+◌, Bool, true, false, List, 
 use Rattle.sc_text.specs.declared.span.Span.{Span}
 use Rattle.program_trees.specs.declared.expression.DataType.{DataType}
 use Rattle.program_trees.specs.declared.expression.DataType.TheVariants as datatype
-use Rattle.program_trees.specs.declared.expression.Operator.TheVariants.{Add, Multiply, Divide, Equal, Less}
+use Rattle.program_trees.specs.declared.expression.Operator.TheVariants.{Add, Multiply, Divide, Equal, Less, And}
 use Rattle.program_trees.specs.declared.statement.Domain.TheVariants as domain
 use Rattle.program_trees.specs.declared.statement.Identifier.{Identifier}
 use Rattle.program_trees.specs.declared.statement.DeclaredType.{DeclaredType}
@@ -18,7 +18,8 @@ use Rattle.domain_types.specs.declared.fault.TypeProblem.TheVariants.{PrivateToP
 use Rattle.domain_types.specs.declared.fault.TypeFault.{TypeFault}
 use Rattle.domain_types.specs.declared.value_type.Protection.TheVariants.{Public, Private}
 use Rattle.declarations.specs.Declarations.{declared_by}
-use Rattle.domain_types.specs.ExpressionTypes.{within, operator_faults, operator_type, index_faults, index_type, defined_faults, call_faults, call_type}
+use Rattle.domain_types.specs.ExpressionTypes.{within, operator_faults, operator_type, index_faults, index_type, built_in_faults, built_in_result}
+use Rattle.domain_types.specs.ExpressionTypes.{defined_faults, call_faults, call_type}
 use Rattle.domain_types.specs.StatementTypes.{sized_faults}
 use Rattle.domain_types.specs.FunctionTypes.{function_faults}
 use Rattle.domain_types.specs.Reached.{function_calls}
@@ -134,6 +135,59 @@ product : faults_of (input 1 (codes "a") ∷ input 29 (codes "b")
 unfolding operator_faults operator_type
 product = refl
 
+-- line 2 begins with `p int64 a = argument("a"); `
+abbrev int_input : StatementTree
+int_input =
+    declaration
+    (record {
+      declared = p_type (at 2 1) datatype.Int64 false;
+      variable = named (at 2 9) (codes "a");
+      size = None;
+      value = Some (argument (at 2 13) (codes "a"));
+    })
+
+-- p int64 a = argument("a"); publish("q", a / a);
+private_signed_division : told (int_input ∷ evaluation (publish (at 2 28) (codes "q") (binary (at 2 41) Divide (a_at 41) (a_at 45))) ∷ [])
+    ≡ fault 41 PrivateDivision
+unfolding operator_faults operator_type
+private_signed_division = refl
+
+-- p int64 a = argument("a"); publish("q", a / 1); the wrong type is told before the division
+two_types_of_numbers : told (int_input ∷ evaluation (publish (at 2 28) (codes "q") (binary (at 2 41) Divide (a_at 41) (number (at 2 45) 1))) ∷ [])
+    ≡ fault 41 TypeMismatch
+unfolding operator_faults operator_type
+two_types_of_numbers = refl
+
+-- p int64 a = argument("a"); publish("q", a & a); int64 has no operator on bits
+bits_of_signed : told (int_input ∷ evaluation (publish (at 2 28) (codes "q") (binary (at 2 41) And (a_at 41) (a_at 45))) ∷ []) ≡ fault 41 TypeMismatch
+unfolding operator_faults operator_type
+bits_of_signed = refl
+
+-- p int64 a = argument("a"); publish("r", a < a); has no fault
+signed_order : faults_of (int_input ∷ evaluation (publish (at 2 28) (codes "r") (binary (at 2 41) Less (a_at 41) (a_at 45))) ∷ []) ≡ []
+unfolding operator_faults operator_type
+signed_order = refl
+
+abbrev lookup_at : (place array : ℕ) → List ℕ → Tree → Tree
+lookup_at c d x i = call (at 2 c) (codes "lookup") (Tree'.also (variable (at 2 d) x) (Tree'.also i Tree'.none))
+
+-- p int64[[1]] a = argument("a"); publish("v", lookup(a, 0)); has no fault
+looked_up_at_a_public_index : faults_of (declaration (record {
+  declared = p_type (at 2 1) datatype.Int64 true;
+  variable = named (at 2 14) (codes "a");
+  size = None;
+  value =
+      Some (argument (at 2 18) (codes "a"));
+}) ∷ evaluation (publish (at 2 33) (codes "v") (lookup_at 46 53 (codes "a") (number (at 2 56) 0))) ∷ []) ≡ []
+unfolding call_faults call_type built_in_faults built_in_result
+looked_up_at_a_public_index = refl
+
+-- uint64[[1]] b (2); publish("v", lookup(b, 0));
+nothing_private : told (a_array 1 (Some (number (at 2 16) 2)) None
+    ∷ evaluation (publish (at 2 20) (codes "v") (lookup_at 33 40 (codes "b") (number (at 2 43) 0))) ∷ []) ≡ fault 33 TypeMismatch
+unfolding sized_faults call_faults call_type built_in_faults built_in_result
+nothing_private = refl
+
 -- a name that is declared again and an initialiser of an unknown name: uint64 x; uint64 x = y;
 twice : told (declaration (record {
   declared = public_type (at 2 1) datatype.Uint64 false;
@@ -173,6 +227,16 @@ one_way =
             statements_of (branch (at 1 14) (truth (at 1 18) true) (block (at 1 24) (statements_of (returns (at 1 26) (Some (number (at 1 33) 1)) ∷ []))) ∷ []);
       };
     }
+
+-- uint64 lookup() { .. }, beside the import of `shared3p` and without it
+abbrev lookup_again : FunctionTree
+lookup_again = record one_way { function = named (at 4 8) (codes "lookup") }
+
+lookup_is_brought : declaring_faults (program_with (defines lookup_again ∷ []) []) ≡ record { place = at 4 8; problem = Twice } ∷ []
+lookup_is_brought = refl
+
+lookup_is_free : declaring_faults (record { items = defines (main_with []) ∷ defines lookup_again ∷ []; end = at 5 1 }) ≡ []
+lookup_is_free = refl
 
 missing_return : function_faults (within (declared_by (program_with (defines one_way ∷ []) [])) one_way []) one_way
     ≡ record { place = at 1 8; problem = MissingReturn } ∷ []

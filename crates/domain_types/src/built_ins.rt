@@ -2,12 +2,12 @@
 ghost use Rattle.std.specs.Prelude.{◌≡◌};
 ghost use Rattle.domain_types.specs.Types.{unless_refused};
 ghost use Rattle.domain_types.specs.ExpressionTypes.{built_in_faults, built_in_result};
-ghost use Rattle.declarations.specs.declared.built_in.BuiltIn.TheVariants.{Size, Cat, Sum, BitExtract};
+ghost use Rattle.declarations.specs.declared.built_in.BuiltIn.TheVariants.{Size, Cat, Sum, BitExtract, Lookup};
 ghost use Rattle.domain_types.specs.inner.LeastFault.{least};
 
 use crate::fault::{TypeFault, TypeProblem};
 use crate::least_fault::{note, note_if};
-use crate::rules::{is_uint64, meet, mix, same_element};
+use crate::rules::{is_number, is_private, is_uint64, meet, mix, same_element};
 use crate::value_type::{Argument, Protection, ValueType};
 use declarations::BuiltIn;
 use program_trees::DataType;
@@ -83,9 +83,9 @@ fn sum(
         return None;
     };
     let a = a.given;
-    let words = a.array && is_uint64(a.element);
-    note_if(least_fault, !words, place, TypeProblem::TypeMismatch);
-    if !words {
+    let numbers = a.array && is_number(a.element);
+    note_if(least_fault, !numbers, place, TypeProblem::TypeMismatch);
+    if !numbers {
         return None;
     }
     Some(ValueType {
@@ -120,6 +120,34 @@ fn bit_extract(
     })
 }
 
+#[tactic(auto, using(crate::proofs::Faults::joins), unfolding(crate::specs::ExpressionTypes::built_in_faults, crate::specs::ExpressionTypes::built_in_result))]
+fn lookup(
+    least_fault: &mut Option<TypeFault>,
+    place: Span,
+    arguments: &[Argument],
+) -> Option<ValueType>
+    ensures kind { result ≡ unless_refused (built_in_faults place Lookup arguments.now) (built_in_result Lookup arguments.now) }
+    ensures least_fault { least_fault.new ≡ least least_fault.old (built_in_faults place Lookup arguments.now) }
+{
+    let [array, index] = arguments else {
+        note(least_fault, place, TypeProblem::BadArity);
+        return None;
+    };
+    let (array, index) = (array.given, index.given);
+    let private_one = is_private(array.domain) || is_private(index.domain);
+    let fits = array.array && is_number(array.element) && is_uint64(index.element) && private_one;
+    note_if(least_fault, !fits, place, TypeProblem::TypeMismatch);
+    let meets = mix(least_fault, place, array.domain, index.domain);
+    if !fits || !meets {
+        return None;
+    }
+    Some(ValueType {
+        domain: meet(array.domain, index.domain)?,
+        element: array.element,
+        array: index.array,
+    })
+}
+
 /// The rule of a built-in function, whose call begins at the place.
 pub fn built_in(
     least_fault: &mut Option<TypeFault>,
@@ -135,5 +163,6 @@ pub fn built_in(
         BuiltIn::Cat => cat(least_fault, place, arguments),
         BuiltIn::Sum => sum(least_fault, place, arguments),
         BuiltIn::BitExtract => bit_extract(least_fault, place, arguments),
+        BuiltIn::Lookup => lookup(least_fault, place, arguments),
     }
 }

@@ -1,13 +1,13 @@
 // The rules of operators, `!` and indices, on the types of their operands.
 ghost use Rattle.std.specs.Prelude.{◌≡◌, option_map, option_and_then};
 ghost use Rattle.domain_types.specs.Types.{of_typed};
-ghost use Rattle.domain_types.specs.ExpressionTypes.{uint64_result, bool_result, element_result, element_of, is_division, operator_faults};
-ghost use Rattle.domain_types.specs.ExpressionTypes.{operator_type, negation_faults, negation_type, index_faults, index_type, of_two};
+ghost use Rattle.domain_types.specs.ExpressionTypes.{uint64_result, int64_result, bool_result, element_result, element_of, is_division};
+ghost use Rattle.domain_types.specs.ExpressionTypes.{operator_faults, operator_type, negation_faults, negation_type, index_faults, index_type, of_two};
 ghost use Rattle.domain_types.specs.inner.LeastFault.{least};
 
 use crate::fault::{TypeFault, TypeProblem};
 use crate::least_fault::note_if;
-use crate::rules::{is_private, is_uint64, meet, mix, scalar};
+use crate::rules::{is_number, is_private, meet, mix, scalar};
 use crate::value_type::ValueType;
 use program_trees::{DataType, Operator};
 use sc_text::Span;
@@ -33,6 +33,25 @@ fn uint64_result(op: Operator, private_one: bool) -> Option<DataType>
             Some(DataType::Uint64)
         },
         Operator::AndAlso | Operator::OrElse => None,
+    }
+}
+
+fn int64_result(op: Operator) -> Option<DataType>
+    ensures { result ≡ int64_result op }
+{
+    match op {
+        Operator::Add
+        | Operator::Subtract
+        | Operator::Multiply
+        | Operator::Divide
+        | Operator::Remainder => Some(DataType::Int64),
+        Operator::Equal
+        | Operator::NotEqual
+        | Operator::Less
+        | Operator::LessOrEqual
+        | Operator::Greater
+        | Operator::GreaterOrEqual => Some(DataType::Bool),
+        Operator::And | Operator::Or | Operator::Xor | Operator::AndAlso | Operator::OrElse => None,
     }
 }
 
@@ -64,6 +83,7 @@ fn element_result(op: Operator, private_one: bool, a: DataType, b: DataType) -> 
 {
     match (a, b) {
         (DataType::Uint64, DataType::Uint64) => uint64_result(op, private_one),
+        (DataType::Int64, DataType::Int64) => int64_result(op),
         (DataType::Bool, DataType::Bool) => bool_result(op),
         _ => None,
     }
@@ -140,7 +160,7 @@ pub fn negation(
     ensures least_fault { least_fault.new ≡ least least_fault.old (of_typed operand (negation_faults place)) }
 {
     let operand = operand?;
-    let wrong = is_uint64(operand.element);
+    let wrong = is_number(operand.element);
     note_if(least_fault, wrong, place, TypeProblem::TypeMismatch);
     if wrong { None } else { Some(operand) }
 }

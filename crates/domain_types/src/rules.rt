@@ -1,6 +1,6 @@
 // Where a value may go. Each rule notes its faults and says whether there is none.
 ghost use Rattle.std.specs.Prelude.{◌≡◌};
-ghost use Rattle.domain_types.specs.Types.{is_without, of_typed, is_private, is_uint64, same_element, same_dimension, meet, mix_faults};
+ghost use Rattle.domain_types.specs.Types.{is_without, of_typed, is_private, is_uint64, is_number, same_element, same_dimension, meet, mix_faults};
 ghost use Rattle.domain_types.specs.Types.{flow_faults, store_faults, scalar_faults};
 ghost use Rattle.domain_types.specs.inner.LeastFault.{least};
 
@@ -20,12 +20,22 @@ pub fn is_private(domain: Protection) -> bool
     }
 }
 
-/// Whether the elements are numbers, and not truth values.
+/// Whether the elements are numbers without a sign.
 pub fn is_uint64(element: DataType) -> bool
     ensures { result ≡ is_uint64 element }
 {
     match element {
         DataType::Uint64 => true,
+        DataType::Int64 | DataType::Bool => false,
+    }
+}
+
+/// Whether the elements are numbers, and not truth values.
+pub fn is_number(element: DataType) -> bool
+    ensures { result ≡ is_number element }
+{
+    match element {
+        DataType::Uint64 | DataType::Int64 => true,
         DataType::Bool => false,
     }
 }

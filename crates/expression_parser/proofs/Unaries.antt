@@ -132,7 +132,7 @@ sign_kind : (k : Sign) (x : Token) → sign k (x ∷ []) → x.kind ≡ kinds.Si
 sign_kind k x v = ap (λ (t : Token). t.kind) (cons_head v.1)
 
 -- the type that a token names
-type_of_sign : Sign → Option DataType
+abbrev type_of_sign : Sign → Option DataType
 type_of_sign signs.Uint64 = Some types.Uint64
 type_of_sign signs.Uint = Some types.Uint64
 type_of_sign signs.Int64 = Some types.Int64
@@ -140,7 +140,7 @@ type_of_sign signs.Int = Some types.Int64
 type_of_sign signs.Bool = Some types.Bool
 type_of_sign k = None
 
-type_of_kind : TokenKind → Option DataType
+abbrev type_of_kind : TokenKind → Option DataType
 type_of_kind (kinds.Sign k) = type_of_sign k
 type_of_kind k = None
 
@@ -177,7 +177,7 @@ type_good t x m k e here en =
 sign_here : (k : Sign) (x : Token) → x.kind ≡ kinds.Sign k → sign k (x ∷ [])
 sign_here k x e = (x.place, ap (λ z. token x.place z ∷ []) e)
 
-begins_type : TokenKind → Bool
+abbrev begins_type : TokenKind → Bool
 begins_type k = begins_data_type (token origin k ∷ [])
 
 -- what begins a type is told by the test of it

@@ -12,7 +12,7 @@ use Rattle.language_model.specs.Words as W
 use Rattle.language_model.specs.Operations as row
 use Rattle.language_model.specs.Evaluation.{nothing, array_elements, input_named}
 use Rattle.language_model.proofs.Walk as walk
-use Rattle.verified_code.specs.Steps.{kind_shape, Step, Literal, Move, Store, Binary, Not, Cast, Classify, Fill, At, Put, Size, Cat, Sum, Bits, Declassify}
+use Rattle.verified_code.specs.Steps.{kind_shape, Step, Literal, Move, Store, Binary, Not, Cast, Classify, Fill, At, Put, Size, Cat, Sum, Bits, Lookup, Declassify}
 use Rattle.verified_code.specs.Steps.{Argument, Publish, Assert, Branch, Jump, Call, Return, ReturnNone, Function}
 use Rattle.code_model.specs.Machine.{Caller, Machine, values_at, limit, resume, step}
 use Rattle.first_version.specs.Rows as first
@@ -95,6 +95,8 @@ module _ (w : World) where
     step_beside (Some (Cat line d a b)) = beside_bind (walk.concatenated_holds w w is_beside law line (m.registers a) (m.registers b)) (λ _. beside_done _)
     step_beside (Some (Sum d r)) = beside_bind (walk.summed_holds w w is_beside law (m.registers r)) (λ _. beside_done _)
     step_beside (Some (Bits line d r)) = beside_bind (walk.bits_holds w w is_beside law line (m.registers r)) (λ _. beside_done _)
+    step_beside (Some (Lookup line d a i)) =
+        beside_bind (walk.looked_up_holds w w is_beside law line (m.registers a) (m.registers i)) (λ _. beside_done _)
     step_beside (Some (Declassify d r)) = beside_bind (declassified_beside (m.registers r)) (λ _. beside_done _)
     step_beside (Some (Argument line k text d)) =
         beside_bind (walk.asked_holds w w is_beside law k.secret (kind_shape k) line (input_named w text)) (λ _. beside_done _)

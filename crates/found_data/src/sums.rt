@@ -42,7 +42,7 @@ pub(crate) fn sums(
     ensures { IfOk result (λ sums. sums.items ≡ sums_of (ring_of data_type) one.now two.now three.now) }
 {
     match data_type {
-        DataType::Uint64 => sums_in::<AddRing>(alloc, one, two, three),
+        DataType::Uint64 | DataType::Int64 => sums_in::<AddRing>(alloc, one, two, three),
         DataType::Bool => sums_in::<XorRing>(alloc, one, two, three),
     }
 }
@@ -66,7 +66,7 @@ fn are_of_type(
     ensures { IfOk result (λ are. are ≡ are_of_type data_type count words.now) }
 {
     match data_type {
-        DataType::Uint64 => Ok(true),
+        DataType::Uint64 | DataType::Int64 => Ok(true),
         DataType::Bool => are_truths(alloc, count, words),
     }
 }

@@ -36,7 +36,7 @@ fn elements_in(
     ensures { IfOk result (λ elements. elements.items ≡ elements_in data_type count words.items) }
 {
     match data_type {
-        DataType::Uint64 => Ok(words),
+        DataType::Uint64 | DataType::Int64 => Ok(words),
         DataType::Bool => unpacked(alloc, &words, count as usize),
     }
 }
@@ -53,6 +53,8 @@ fn value_of(
     match (data_type, shape) {
         (DataType::Uint64, Shape::Scalar) => Ok(Value::Number(first(&elements))),
         (DataType::Uint64, Shape::Array(_)) => Ok(Value::Numbers(Words::new(elements))),
+        (DataType::Int64, Shape::Scalar) => Ok(Value::Integer(first(&elements))),
+        (DataType::Int64, Shape::Array(_)) => Ok(Value::Integers(Words::new(elements))),
         (DataType::Bool, Shape::Scalar) => Ok(Value::Truth(first(&elements) == 1)),
         (DataType::Bool, Shape::Array(_)) => {
             Ok(Value::Truths(Bits::new(truths(alloc, &elements)?)))

@@ -13,7 +13,7 @@ use Rattle.proto_core.specs.declared.party.Number.TheVariants.{One, Two, Three}
 use Rattle.proto_core.specs.Parties.{of_three}
 use Rattle.value_file.specs.declared.value.Domain.TheVariants as domain
 use Rattle.value_file.specs.declared.value.DataType.{DataType}
-use Rattle.value_file.specs.declared.value.DataType.TheVariants.{Uint64, Bool as Truths_}
+use Rattle.value_file.specs.declared.value.DataType.TheVariants.{Uint64, Int64, Bool as Truths_}
 use Rattle.value_file.specs.declared.value.Shape.{Shape}
 use Rattle.value_file.specs.declared.value.Shape.TheVariants.{Scalar, Array}
 use Rattle.value_file.specs.declared.value.Value.{Value}
@@ -80,12 +80,15 @@ record HasElements (kind : DataType) (shape : Shape) (es : List ℕ) (v : Value)
 
 abbrev AreTruths : DataType → List ℕ → Type 0
 AreTruths Uint64 es = Unit {0}
+AreTruths Int64 es = Unit {0}
 AreTruths Truths_ es = All (λ e. e < 2) es
 
 has_elements : (kind : DataType) (shape : Shape) (es : List ℕ) → length es ≡ size_of shape → AreTruths kind es
     → HasElements kind shape es (value_of kind shape es)
 has_elements Uint64 Scalar es size bits = record { kinded = refl; shaped = refl; elements = single es size }
 has_elements Uint64 (Array count) es size bits = record { kinded = refl; shaped = ap Array size; elements = refl }
+has_elements Int64 Scalar es size bits = record { kinded = refl; shaped = refl; elements = single es size }
+has_elements Int64 (Array count) es size bits = record { kinded = refl; shaped = ap Array size; elements = refl }
 has_elements Truths_ Scalar es size bits =
     record { kinded = refl; shaped = refl; elements = ap (λ n. n ∷ []) (bit_of (get_or es 0 0) (first_small es size bits)) ∙ single es size }
 has_elements Truths_ (Array count) es size bits =
@@ -94,10 +97,12 @@ has_elements Truths_ (Array count) es size bits =
 -- the elements that words hold
 elements_long : (kind : DataType) (n : ℕ) (ws : List ℕ) → length ws ≡ shared_size kind n → length (elements_in kind n ws) ≡ n
 elements_long Uint64 n ws size = size
+elements_long Int64 n ws size = size
 elements_long Truths_ n ws size = length-unpacked ws n
 
 elements_small : (kind : DataType) (n : ℕ) (ws : List ℕ) → AreTruths kind (elements_in kind n ws)
 elements_small Uint64 n ws = tt
+elements_small Int64 n ws = tt
 elements_small Truths_ n ws = All-from_get_or (λ e. e < 2) (unpacked ws n) 0 (λ k h. unpacked-bits ws n k)
 
 -- a value of this type and shape that is shared in these words

@@ -10,7 +10,7 @@ use Rattle.bit_words.proofs.Packing.{unpacked-packed}
 use Rattle.value_file.specs.declared.value.Domain.{Domain}
 use Rattle.value_file.specs.declared.value.Domain.TheVariants as domain
 use Rattle.value_file.specs.declared.value.Value.{Value}
-use Rattle.value_file.specs.declared.value.Value.TheVariants.{Number, Truth, Numbers, Truths}
+use Rattle.value_file.specs.declared.value.Value.TheVariants.{Number, Integer, Truth, Numbers, Integers, Truths}
 use Rattle.value_file.specs.declared.inputs.Entry.{Entry}
 use Rattle.value_file.specs.Values.{type_of, shape_of, size_of, count_of}
 use Rattle.value_file.specs.Public.{part_of}
@@ -34,8 +34,10 @@ bits_again (b ∷ bs) = ap (λ x. x ∷ map (λ w. w == 1) (map bit_word bs)) (b
 
 elements_again : (v : Value) → value_of (type_of v) (shape_of v) (elements_of v) ≡ v
 elements_again (Number n) = refl
+elements_again (Integer x) = refl
 elements_again (Truth b) = ap Truth (bit_again b)
 elements_again (Numbers ns) = refl
+elements_again (Integers xs) = refl
 elements_again (Truths bs) = ap Truths (bits_again bs)
 
 bit_small : (b : Bool) → bit_word b < 2
@@ -53,8 +55,10 @@ bits_of bs n e = ap (unpacked (packed (map bit_word bs))) e ∙ unpacked-packed 
 -- the words of a value hold its elements
 pub words_again : (v : Value) → elements_in (type_of v) (size_of (shape_of v)) (shared_words v) ≡ elements_of v
 words_again (Number n) = refl
+words_again (Integer x) = refl
 words_again (Truth b) = bits_of (b ∷ []) 1 refl
 words_again (Numbers ns) = refl
+words_again (Integers xs) = refl
 words_again (Truths bs) = bits_of bs (length bs) (sym (length-map bs bit_word))
 
 pub words_are : (v : Value) → IsSumOf (type_of v) (size_of (shape_of v)) (shared_words v)

@@ -3,11 +3,11 @@ use Rattle.std.specs.Prelude.{◌≡◌, ℕ, ◌<◌, ◌^◌, ◌==◌, List, 
 use Rattle.bit_words.specs.Gathered.{unpacked}
 use Rattle.value_file.specs.declared.value.Domain.TheVariants as domain
 use Rattle.value_file.specs.declared.value.DataType.{DataType}
-use Rattle.value_file.specs.declared.value.DataType.TheVariants.{Uint64, Bool as Truths_}
+use Rattle.value_file.specs.declared.value.DataType.TheVariants.{Uint64, Int64, Bool as Truths_}
 use Rattle.value_file.specs.declared.value.Shape.{Shape}
 use Rattle.value_file.specs.declared.value.Shape.TheVariants.{Scalar, Array}
 use Rattle.value_file.specs.declared.value.Value.{Value}
-use Rattle.value_file.specs.declared.value.Value.TheVariants.{Number, Truth, Numbers, Truths}
+use Rattle.value_file.specs.declared.value.Value.TheVariants.{Number, Integer, Truth, Numbers, Integers, Truths}
 use Rattle.value_file.specs.declared.inputs.Entry.{Entry}
 use Rattle.value_file.specs.declared.public.PublicValue.{PublicValue}
 use Rattle.value_file.specs.declared.public.PublicValue.TheVariants.{Known, Hidden}
@@ -45,12 +45,15 @@ rest_of (s ∷ ss) = ss
 -- the elements that words hold: a number in each word, a truth value in each bit
 abbrev pub elements_in : DataType → (count : ℕ) → List ℕ → List ℕ
 elements_in Uint64 count ws = ws
+elements_in Int64 count ws = ws
 elements_in Truths_ count ws = unpacked ws count
 
 -- the value of this type and shape that has these elements; a truth value is true where the element is 1
 abbrev pub value_of : DataType → Shape → List ℕ → Value
 value_of Uint64 Scalar es = Number (get_or es 0 0)
 value_of Uint64 (Array count) es = Numbers es
+value_of Int64 Scalar es = Integer (get_or es 0 0)
+value_of Int64 (Array count) es = Integers es
 value_of Truths_ Scalar es = Truth (get_or es 0 0 == 1)
 value_of Truths_ (Array count) es = Truths (map (λ e. e == 1) es)
 

@@ -4,7 +4,7 @@ use Rattle.std.specs.Str.{bytes_eq}
 use Rattle.bit_words.specs.Gathered.{packed, unpacked}
 use Rattle.value_file.specs.declared.value.Domain.TheVariants as domain
 use Rattle.value_file.specs.declared.value.DataType.{DataType}
-use Rattle.value_file.specs.declared.value.DataType.TheVariants.{Uint64, Bool as Truths_}
+use Rattle.value_file.specs.declared.value.DataType.TheVariants.{Uint64, Int64, Bool as Truths_}
 use Rattle.value_file.specs.declared.inputs.Entry.{Entry}
 use Rattle.value_file.specs.declared.public.PublicValue.{PublicValue}
 use Rattle.value_file.specs.declared.public.PublicValue.TheVariants.{Known, Hidden}
@@ -35,6 +35,7 @@ masks_of (Hidden kind shape) one two = one ++ two
 -- the words of as many elements of this type
 abbrev pub are_of_type : DataType → (count : ℕ) → List ℕ → Bool
 are_of_type Uint64 count ws = true
+are_of_type Int64 count ws = true
 are_of_type Truths_ count ws = bytes_eq (packed (unpacked ws count)) ws
 
 abbrev pub are_right : PublicValue → (one two three : List ℕ) → Bool

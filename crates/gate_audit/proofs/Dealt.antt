@@ -14,7 +14,7 @@ use Rattle.value_file.specs.declared.value.Domain.{Domain}
 use Rattle.value_file.specs.declared.value.Domain.TheVariants as domain
 use Rattle.value_file.specs.declared.value.Value.{Value}
 use Rattle.value_file.specs.declared.value.DataType.{DataType}
-use Rattle.value_file.specs.declared.value.DataType.TheVariants.{Uint64, Bool as Truths_}
+use Rattle.value_file.specs.declared.value.DataType.TheVariants.{Uint64, Int64, Bool as Truths_}
 use Rattle.value_file.specs.declared.inputs.Entry.{Entry}
 use Rattle.value_file.specs.Values.{count_of, shape_of, size_of, type_of}
 use Rattle.value_file.specs.Public.{part_of}
@@ -40,6 +40,7 @@ use Rattle.found_inputs.proofs.Found.{words_are}
 
 pub of_type_from : (kind : DataType) (count : ℕ) (ws : List ℕ) → IsSumOf kind count ws → are_of_type kind count ws ≡ true
 of_type_from Uint64 count ws e = refl
+of_type_from Int64 count ws e = refl
 of_type_from Truths_ count ws e = (bytes_eq-Decides _ ws).1 e
 
 value_of_type : (v : Value) → are_of_type (type_of v) (size_of (shape_of v)) (shared_words v) ≡ true

@@ -7,7 +7,7 @@ use Rattle.std.proofs.lemmas.Slice.Eq.{bytes_eq-Decides}
 use Rattle.std.specs.Prelude.{option_map}
 use Rattle.std.specs.Str.{bytes_eq}
 use Rattle.value_file.specs.declared.value.DataType.{DataType}
-use Rattle.value_file.specs.declared.value.DataType.TheVariants.{Uint64, Bool as Truths_}
+use Rattle.value_file.specs.declared.value.DataType.TheVariants.{Uint64, Int64, Bool as Truths_}
 use Rattle.value_file.specs.declared.public.PublicValue.{PublicValue}
 use Rattle.value_file.specs.declared.public.PublicValue.TheVariants.{Known, Hidden}
 use Rattle.value_file.specs.declared.public.PublicEntry.{PublicEntry}
@@ -72,6 +72,7 @@ lines_are (p ∷ ps) ss h e = line_is p.name p.value ps ss (lines_are ps) h e
 
 of_type : (kind : DataType) (count : ℕ) (ws : List ℕ) → are_of_type kind count ws ≡ true → IsSumOf kind count ws
 of_type Uint64 count ws e = refl
+of_type Int64 count ws e = refl
 of_type Truths_ count ws e = (bytes_eq-Decides _ ws).0 e
 
 rest_is : (ss : List InputShare) → rest_of ss ≡ drop 1 ss

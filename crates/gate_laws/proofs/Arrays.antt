@@ -22,7 +22,7 @@ use Rattle.gate_laws.proofs.Parts.{tell_same, tell_first, charged_suits, number_
 use Rattle.gate_laws.proofs.Ranges.{Below, below_head, below_tail, one_below, append_below, set_below, replicate_below, first_below, length_replicated}
 use Rattle.gate_laws.proofs.Meanings.{some_bound}
 
-element_below : (b i : ℕ) (xs : List ℕ) → 0 < b → Below b xs → get_or xs i 0 < b
+pub element_below : (b i : ℕ) (xs : List ℕ) → 0 < b → Below b xs → get_or xs i 0 < b
 element_below b i [] some h = some
 element_below b zero (x ∷ xs) some h = below_head b x xs h
 element_below b (suc i) (x ∷ xs) some h = element_below b i xs some (below_tail b x xs h)
@@ -37,7 +37,7 @@ few_words n h = omega (arith, h)
 
 module _ (w : World) (d : Dealt) where
   -- the test that an array is not too large
-  large_suits : (fs : List Fact) (line n : ℕ) → Suits w d fs none_of (charged (not_too_large line n) n) none_of (NoFacts {A = Unit {0}})
+  pub large_suits : (fs : List Fact) (line n : ℕ) → Suits w d fs none_of (charged (not_too_large line n) n) none_of (NoFacts {A = Unit {0}})
       (λ u. nat_le n largest ≡ true)
   large_suits fs line n = charged_suits w d fs (not_too_large line n) n (nat_le n largest ≡ true) (test_suits w d fs (nat_le n largest) trap.Large line)
 

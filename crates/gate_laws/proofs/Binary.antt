@@ -4,7 +4,7 @@ use Rattle.std.proofs.lemmas.Bool.{eqb-true}
 use Rattle.shared_plans.proofs.Models.{length-each_two}
 use Rattle.sc_text.specs.declared.end.TrapKind.TheVariants as trap
 use Rattle.program_trees.specs.declared.expression.DataType.{DataType}
-use Rattle.program_trees.specs.declared.expression.DataType.TheVariants.{Uint64}
+use Rattle.program_trees.specs.declared.expression.DataType.TheVariants.{Uint64, Int64}
 use Rattle.program_trees.specs.declared.expression.DataType.TheVariants as datatype
 use Rattle.proto_core.specs.RingsKeepLaws.{add_ring_laws, xor_ring_laws}
 use Rattle.gates.specs.declared.gate.Gate.TheVariants.{MulPub}
@@ -12,7 +12,7 @@ use Rattle.gates.specs.Clear.{each_two, first_word, ring_of}
 use Rattle.program_trees.specs.declared.operators.OperatorSign.TheVariants as word
 use Rattle.program_trees.specs.declared.operators.BoolOperator.TheVariants as truth
 use Rattle.program_trees.specs.declared.operators.BinaryOperator.{BinaryOperator}
-use Rattle.program_trees.specs.declared.operators.BinaryOperator.TheVariants.{Words, Bools}
+use Rattle.program_trees.specs.declared.operators.BinaryOperator.TheVariants.{Words, Ints, Bools}
 use Rattle.program_trees.specs.declared.operators.Operands.{Operands}
 use Rattle.program_trees.specs.declared.operators.Operands.TheVariants.{Scalars, ArrayAndScalar, ScalarAndArray, Arrays}
 use Rattle.program_trees.specs.Operators.{element_made}
@@ -177,50 +177,26 @@ module _ (op : BinaryOperator) (ds : Operands) (x y : Value) (h : OperandsSuit o
 product_words : (e : DataType) (us known : List ℕ) → length us ≡ length known → InRange e us → InRange e known
     → each_two (ring_of (ring_for e)).mul (gate_words e us) (gate_words e known) ≡ gate_words e (each_two (ring_of (ring_for e)).mul us known)
 product_words Uint64 us known same p q = refl
+product_words Int64 us known same p q = refl
 product_words datatype.Bool us known same p q = sym (packed-and xor_ring.mul us known same (λ k l. and_parity (at us k) (at known k) (p k) (q k)))
 
 -- the product of the ring is what the operator means
 product_meaning : (op : BinaryOperator) → is_product op ≡ true → (x y : ℕ) → x < bound (element_taken op) → y < bound (element_taken op)
     → (ring_of (ring_for (element_taken op))).mul x y ≡ W.meaning op x y
 product_meaning (Words word.Multiply) h x y p q = refl
+product_meaning (Ints word.Multiply) h x y p q = refl
 product_meaning (Bools truth.And) h x y p q = and_bits x y p q
-product_meaning (Words word.Add) h x y p q = cc
-product_meaning (Words word.Subtract) h x y p q = cc
-product_meaning (Words word.Divide) h x y p q = cc
-product_meaning (Words word.Remainder) h x y p q = cc
-product_meaning (Words word.Equal) h x y p q = cc
-product_meaning (Words word.NotEqual) h x y p q = cc
-product_meaning (Words word.Less) h x y p q = cc
-product_meaning (Words word.LessOrEqual) h x y p q = cc
-product_meaning (Words word.Greater) h x y p q = cc
-product_meaning (Words word.GreaterOrEqual) h x y p q = cc
-product_meaning (Words word.And) h x y p q = cc
-product_meaning (Words word.Or) h x y p q = cc
-product_meaning (Words word.Xor) h x y p q = cc
-product_meaning (Bools truth.Equal) h x y p q = cc
-product_meaning (Bools truth.NotEqual) h x y p q = cc
-product_meaning (Bools truth.Or) h x y p q = cc
-product_meaning (Bools truth.Xor) h x y p q = cc
+product_meaning op h x y p q = cc
 
 product_element : (op : BinaryOperator) → is_product op ≡ true → element_made op ≡ element_taken op
 product_element (Words word.Multiply) h = refl
+product_element (Ints word.Multiply) h = refl
 product_element (Bools op) h = refl
-product_element (Words word.Add) h = cc
-product_element (Words word.Subtract) h = cc
-product_element (Words word.Divide) h = cc
-product_element (Words word.Remainder) h = cc
-product_element (Words word.Equal) h = cc
-product_element (Words word.NotEqual) h = cc
-product_element (Words word.Less) h = cc
-product_element (Words word.LessOrEqual) h = cc
-product_element (Words word.Greater) h = cc
-product_element (Words word.GreaterOrEqual) h = cc
-product_element (Words word.And) h = cc
-product_element (Words word.Or) h = cc
-product_element (Words word.Xor) h = cc
+product_element op h = cc
 
 product_swaps : (e : DataType) (x y : ℕ) → (ring_of (ring_for e)).mul x y ≡ (ring_of (ring_for e)).mul y x
 product_swaps Uint64 x y = add_ring_laws.mul_comm x y
+product_swaps Int64 x y = add_ring_laws.mul_comm x y
 product_swaps datatype.Bool x y = xor_ring_laws.mul_comm x y
 
 module _ (w : World) (d : Dealt) (op : BinaryOperator) (ds : Operands) where

@@ -2,7 +2,7 @@
 use Rattle.std.proofs.Common.{◌≡◌, ℕ, ◌<◌, List, [], ◌∷◌, ◌++◌, length, refl, sym, subst, ap, ◌∙◌, zero, suc, arith}
 use Rattle.std.specs.Prelude.{replicate, get_or, set, take, drop}
 use Rattle.program_trees.specs.declared.expression.DataType.{DataType}
-use Rattle.program_trees.specs.declared.expression.DataType.TheVariants.{Uint64}
+use Rattle.program_trees.specs.declared.expression.DataType.TheVariants.{Uint64, Int64}
 use Rattle.program_trees.specs.declared.expression.DataType.TheVariants as datatype
 use Rattle.gates.specs.declared.ring_kind.RingKind.{RingKind}
 use Rattle.gates.specs.declared.ring_kind.RingKind.TheVariants.{Arithmetic, Boolean}
@@ -27,18 +27,22 @@ gain_in {r = r} {gs = gs} {ring = ring} e h = subst (λ z. Gain r gs (Shared rin
 
 pub one_repeated : (e : DataType) (u n : ℕ) → made_by (repeated_gate e u n) ≡ 1
 one_repeated Uint64 u n = refl
+one_repeated Int64 u n = refl
 one_repeated datatype.Bool u n = refl
 
 pub one_element : (e : DataType) (u i : ℕ) → made_by (element_gate e u i) ≡ 1
 one_element Uint64 u i = refl
+one_element Int64 u i = refl
 one_element datatype.Bool u i = refl
 
 pub one_stored : (e : DataType) (u i v : ℕ) → made_by (stored_gate e u i v) ≡ 1
 one_stored Uint64 u i v = refl
+one_stored Int64 u i v = refl
 one_stored datatype.Bool u i v = refl
 
 pub one_joined : (e : DataType) (u n v m : ℕ) → made_by (joined_gate e u n v m) ≡ 1
 one_joined Uint64 u n v m = refl
+one_joined Int64 u n v m = refl
 one_joined datatype.Bool u n v m = refl
 
 -- the element at an index as a part
@@ -56,6 +60,7 @@ module _ (r : GateRun) (good : IsWellFormed r) where
 
   pub repeated_gain : (e : DataType) (u n : ℕ) (us : List ℕ) → Has u e us → length us ≡ 1 → Gains (repeated_gate e u n) e (replicate n (first_word us))
   repeated_gain Uint64 u n us h single = rep_gain r good u Arithmetic us h n single
+  repeated_gain Int64 u n us h single = rep_gain r good u Arithmetic us h n single
   repeated_gain datatype.Bool u n [] h single = absurd (omega (arith, single))
   repeated_gain datatype.Bool u n (x ∷ []) h single =
       gain_in (sym (packed-replicate n x)) (repbit_gain r good u (packed (x ∷ [])) h n (length-packed (x ∷ [])))
@@ -63,12 +68,14 @@ module _ (r : GateRun) (good : IsWellFormed r) where
 
   pub element_gain : (e : DataType) (u i : ℕ) (us : List ℕ) → InRange e us → Has u e us → i < length us → Gains (element_gate e u i) e (get_or us i 0 ∷ [])
   element_gain Uint64 u i us low h inside = gain_in (part_of_one us i inside) (part_gain r good u Arithmetic us h i 1 (omega (arith, inside)))
+  element_gain Int64 u i us low h inside = gain_in (part_of_one us i inside) (part_gain r good u Arithmetic us h i 1 (omega (arith, inside)))
   element_gain datatype.Bool u i us low h inside =
       gain_in (sym (packed-taken us i low inside)) (partbit_gain r good u (packed us) h i (omega (arith, inside, length-packed us)))
 
   pub stored_gain : (e : DataType) (u i v : ℕ) (us vs : List ℕ) → Has u e us → Has v e vs → i < length us → length vs ≡ 1
       → Gains (stored_gate e u i v) e (set us i (first_word vs))
   stored_gain Uint64 u i v us vs h k inside single = put_gain r good u v Arithmetic us vs h k i inside single
+  stored_gain Int64 u i v us vs h k inside single = put_gain r good u v Arithmetic us vs h k i inside single
   stored_gain datatype.Bool u i v us [] h k inside single = absurd (omega (arith, single))
   stored_gain datatype.Bool u i v us (x ∷ []) h k inside single =
       gain_in (sym (packed-set us i x inside))
@@ -78,6 +85,7 @@ module _ (r : GateRun) (good : IsWellFormed r) where
   pub joined_gain : (e : DataType) (u v : ℕ) (us vs : List ℕ) → Has u e us → Has v e vs
       → Gains (joined_gate e u (length us) v (length vs)) e (us ++ vs)
   joined_gain Uint64 u v us vs h k = cat_gain r good u v Arithmetic us vs h k
+  joined_gain Int64 u v us vs h k = cat_gain r good u v Arithmetic us vs h k
   joined_gain datatype.Bool u v us vs h k =
       gain_in (sym (packed-append us vs))
       (catbit_gain r good u v Boolean (packed us) (packed vs) h k refl (length us) (length vs) (length-packed us) (length-packed vs))

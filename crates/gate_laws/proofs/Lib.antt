@@ -11,6 +11,7 @@ pub mod Operators
 pub mod Binary
 pub mod Unary
 pub mod Arrays
+pub mod Lookups
 pub mod Openings
 pub mod Told
 pub mod Steps

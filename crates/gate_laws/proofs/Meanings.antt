@@ -1,6 +1,6 @@
 -- What gates make of words is what operators mean on them.
 use Rattle.std.proofs.Common.{◌≡◌, ℕ, zero, suc, ◌+◌, ◌<◌, ◌^◌, ◌%◌, min, List, [], ◌∷◌, length, map, Bool, true, false, not, refl, ap, ◌∙◌, arith, inl, inr}
-use Rattle.std.specs.Prelude.{nat_eq, nat_lt, nat_le, ◌==◌, replicate, bit_and, bit_or, bit_xor, if◌then◌else◌}
+use Rattle.std.specs.Prelude.{nat_eq, nat_lt, nat_le, int_lt, ◌==◌, replicate, bit_and, bit_or, bit_xor, if◌then◌else◌}
 use Rattle.std.proofs.lemmas.Bool.{cases_lt}
 use Rattle.std.proofs.lemmas.Bool.Decides.{nat_tests}
 use Rattle.proto_core.specs.Rings.{add_ring, xor_ring}
@@ -9,7 +9,7 @@ use Rattle.gates.specs.WordTests.{zero_test, less_test}
 use Rattle.language_model.specs.Words.{truth_word, flipped}
 use Rattle.language_model.specs.Words.{meaning}
 use Rattle.program_trees.specs.declared.expression.DataType.{DataType}
-use Rattle.program_trees.specs.declared.expression.DataType.TheVariants.{Uint64}
+use Rattle.program_trees.specs.declared.expression.DataType.TheVariants.{Uint64, Int64}
 use Rattle.program_trees.specs.declared.expression.DataType.TheVariants as datatype
 use Rattle.proto_core.specs.RingsKeepLaws.{add_ring_laws}
 use Rattle.std.proofs.Math.Nat.{div-le_self, mod-le}
@@ -19,8 +19,10 @@ use Rattle.program_trees.specs.declared.operators.OperatorSign.TheVariants as wo
 use Rattle.program_trees.specs.declared.operators.BoolOperator.{BoolOperator}
 use Rattle.program_trees.specs.declared.operators.BoolOperator.TheVariants as truth
 use Rattle.program_trees.specs.declared.operators.BinaryOperator.{BinaryOperator}
-use Rattle.program_trees.specs.declared.operators.BinaryOperator.TheVariants.{Words, Bools}
+use Rattle.program_trees.specs.declared.operators.BinaryOperator.TheVariants.{Words, Ints, Bools}
 use Rattle.program_trees.specs.Operators.{element_made}
+use Rattle.signed_words.specs.Signed.{signed, signed_less}
+use Rattle.signed_words.proofs.Quotients.{quotients_are_words}
 use Rattle.gate_laws.specs.Dealt.{bound}
 use Rattle.gate_laws.specs.Rows.{element_taken}
 use Rattle.gate_laws.proofs.Ranges.{Below, below_head, below_tail, two_below, truth_below}
@@ -89,6 +91,15 @@ not_less x y =
 
 pub at_most_word : (x y : ℕ) → flipped (truth_word (nat_lt x y)) ≡ truth_word (nat_le y x)
 at_most_word x y = flipped_truth (nat_lt x y) ∙ ap truth_word (not_less x y)
+
+-- ---- numbers with a sign
+
+pub signed_below : (x y : ℕ) → signed_less x y < 2
+signed_below x y = go (int_lt (signed x) (signed y))
+  where
+    go : (b : Bool) → (if b then 1 else 0) < 2
+    go true = omega arith
+    go false = omega arith
 
 pub zero_flipped : (x : ℕ) → flipped (zero_test x) ≡ truth_word (not (x == 0))
 zero_flipped x = go (x == 0)
@@ -170,6 +181,7 @@ bits_low f a b c e x y h k = of_bit (λ x. f x y < 2) (of_bit (λ y. f 0 y < 2) 
 
 pub some_bound : (e : DataType) → 0 < bound e
 some_bound Uint64 = omega arith
+some_bound Int64 = omega arith
 some_bound datatype.Bool = omega arith
 
 and_lt : (x y : ℕ) → x < 2 ^ 64 → bit_and x y < 2 ^ 64
@@ -191,6 +203,22 @@ word_range word.And x y h k = and_lt x y h
 word_range word.Or x y h k = or_lt 64 x y h k
 word_range word.Xor x y h k = xor_lt 64 x y h k
 
+pub int_range : (op : OperatorSign) (x y : ℕ) → x < 2 ^ 64 → y < 2 ^ 64 → meaning (Ints op) x y < bound (element_made (Ints op))
+int_range word.Add x y h k = add_ring_laws.add_word x y
+int_range word.Subtract x y h k = add_ring_laws.sub_word x y
+int_range word.Multiply x y h k = add_ring_laws.mul_word x y
+int_range word.Divide x y h k = quotients_are_words.quotient x y h k
+int_range word.Remainder x y h k = quotients_are_words.remainder x y h k
+int_range word.Equal x y h k = truth_below (nat_eq x y)
+int_range word.NotEqual x y h k = truth_below (not (nat_eq x y))
+int_range word.Less x y h k = signed_below x y
+int_range word.LessOrEqual x y h k = truth_below (signed_less y x == 0)
+int_range word.Greater x y h k = signed_below y x
+int_range word.GreaterOrEqual x y h k = truth_below (signed_less x y == 0)
+int_range word.And x y h k = and_lt x y h
+int_range word.Or x y h k = or_lt 64 x y h k
+int_range word.Xor x y h k = xor_lt 64 x y h k
+
 pub truth_range : (op : BoolOperator) (x y : ℕ) → x < 2 → y < 2 → meaning (Bools op) x y < 2
 truth_range truth.Equal x y h k = truth_below (nat_eq x y)
 truth_range truth.NotEqual x y h k = truth_below (not (nat_eq x y))
@@ -202,4 +230,6 @@ pub operator_range : (op : BinaryOperator) (us vs : List ℕ) → Below (bound (
     → Below (bound (element_made op)) (each_two (meaning op) us vs)
 operator_range (Words op) us vs p q = two_below (2 ^ 64) (bound (element_made (Words op))) (meaning (Words op)) us vs (some_bound (element_made (Words op)))
     (word_range op) p q
+operator_range (Ints op) us vs p q =
+    two_below (2 ^ 64) (bound (element_made (Ints op))) (meaning (Ints op)) us vs (some_bound (element_made (Ints op))) (int_range op) p q
 operator_range (Bools op) us vs p q = two_below 2 2 (meaning (Bools op)) us vs (omega arith) (truth_range op) p q

@@ -6,7 +6,7 @@ use Rattle.std.proofs.lemmas.List.{length-map, get_or_append_left}
 use Rattle.std.proofs.lemmas.Nat.{mod_below}
 use Rattle.sc_text.specs.declared.event.Event.TheVariants as event
 use Rattle.program_trees.specs.declared.expression.DataType.{DataType}
-use Rattle.program_trees.specs.declared.expression.DataType.TheVariants.{Uint64}
+use Rattle.program_trees.specs.declared.expression.DataType.TheVariants.{Uint64, Int64}
 use Rattle.program_trees.specs.declared.expression.DataType.TheVariants as datatype
 use Rattle.proto_core.specs.declared.party.Number.{Number}
 use Rattle.proto_core.specs.Lists.{AreWords}
@@ -92,6 +92,7 @@ module _ (r : GateRun) (good : IsWellFormed r) (u : ℕ) (ring : RingKind) (us :
 
 read_low : (e : DataType) (words : List ℕ) → AreWords words → InRange e (read_answer e words)
 read_low Uint64 words h = h
+read_low Int64 words h = h
 read_low datatype.Bool words h = low words
   where
     low : (xs : List ℕ) → Below 2 (map (λ x. x % 2) xs)
@@ -100,10 +101,12 @@ read_low datatype.Bool words h = low words
 
 read_length : (e : DataType) (words : List ℕ) → length (read_answer e words) ≡ length words
 read_length Uint64 words = refl
+read_length Int64 words = refl
 read_length datatype.Bool words = length-map words (λ x. x % 2)
 
 pub read_same : (e : DataType) (words : List ℕ) → InRange e words → read_answer e words ≡ words
 read_same Uint64 words h = refl
+read_same Int64 words h = refl
 read_same datatype.Bool words h = map_itself 2 (λ x. x % 2) words (λ x lt. omega (arith, lt)) h
 
 no_answers : Answers ≡ Clear → ⊥

@@ -13,19 +13,21 @@ use Rattle.plans.specs.Equality.{eq_plan}
 use Rattle.plans.specs.EqualityLaw as equality
 use Rattle.plans.specs.Compare.{less_plan}
 use Rattle.plans.specs.CompareLaw as compare
-use Rattle.shared_plans.specs.Plans.{zero_test_kinds, comparison_kinds}
+use Rattle.plans.specs.Signed.{signed_less_plan}
+use Rattle.signed_words.specs.Signed.{signed_less}
+use Rattle.shared_plans.specs.Plans.{zero_test_kinds, comparison_kinds, signed_comparison_kinds}
 use Rattle.program_trees.specs.declared.operators.OperatorSign.{OperatorSign}
 use Rattle.program_trees.specs.declared.operators.OperatorSign.TheVariants as word
 use Rattle.program_trees.specs.declared.operators.BoolOperator.{BoolOperator}
 use Rattle.program_trees.specs.declared.operators.BoolOperator.TheVariants as truth
 use Rattle.program_trees.specs.declared.operators.BinaryOperator.{BinaryOperator}
-use Rattle.program_trees.specs.declared.operators.BinaryOperator.TheVariants.{Words, Bools}
+use Rattle.program_trees.specs.declared.operators.BinaryOperator.TheVariants.{Words, Ints, Bools}
 use Rattle.program_trees.specs.Operators.{element_made}
 use Rattle.language_model.specs.Effects.{World, Effect, ◌>>=◌, gate, words_each}
 use Rattle.language_model.specs.Values.{ring_for, gate_words}
 use Rattle.language_model.specs.Words.{flipped, meaning}
 use Rattle.language_model.specs.Operations.{flip, words_for_equality, words_for_order, words_of_operator}
-use Rattle.language_model.specs.Operations.{zero_gates, equal_gates, less_gates, or_gates, operator_gates}
+use Rattle.language_model.specs.Operations.{zero_gates, equal_gates, less_gates, signed_less_gates, or_gates, operator_gates}
 use Rattle.gate_laws.specs.Facts.{none_of, Fact, Suits}
 use Rattle.gate_laws.specs.Dealt.{InRange, drawn_by, Dealt}
 use Rattle.gate_laws.specs.Rows.{element_taken, has_gates}
@@ -36,11 +38,11 @@ use Rattle.gates.specs.Bits.{words_for}
 use Rattle.gates.specs.Gathered.{packed}
 use Rattle.gates.proofs.Packing.{length-packed, packed-words, packed-flip, packed-xor, packed-and}
 use Rattle.proto_core.specs.Lists.{at}
-use Rattle.gate_laws.proofs.Plans.{zero_gain, less_gain}
+use Rattle.gate_laws.proofs.Plans.{zero_gain, less_gain, signed_less_gain}
 use Rattle.gate_laws.proofs.Parts.{tell_first, const_suits}
 use Rattle.gate_laws.proofs.Ranges.{Below, two_same, two_below, replicate_below, length_replicated, below_more, truth_below}
 use Rattle.gate_laws.proofs.Meanings.{map_two, two_of_two, two_ext, two_swapped, equal_word, less_word, flipped_truth, at_most_word}
-use Rattle.gate_laws.proofs.Meanings.{flip_parity, xor_parity, differ_parity, and_word_parity, or_words, equal_words, xor_small, and_small}
+use Rattle.gate_laws.proofs.Meanings.{signed_below, flip_parity, xor_parity, differ_parity, and_word_parity, or_words, equal_words, xor_small, and_small}
 
 packed_alike : (xs ys : List ℕ) → length xs ≡ length ys → length (packed xs) ≡ length (packed ys)
 packed_alike xs ys e = length-packed xs ∙ ap words_for e ∙ sym (length-packed ys)
@@ -103,9 +105,41 @@ module _ (w : World) (d : Dealt) where
     abbrev same : length us ≡ length vs
     same = left ∙ sym right
 
+    -- ---- the order of numbers
+
+    -- gates of an order, and what they tell of each two words
+    abbrev Compares : (ℕ → ℕ → ℕ → Effect ℕ) → (ℕ → ℕ → ℕ) → Type 0
+    Compares less f =
+        (a b : ℕ) (xs ys : List ℕ) → Both fs a b Arithmetic xs ys → length xs ≡ n → length ys ≡ n → Below (2 ^ 64) xs → Below (2 ^ 64) ys
+        → Suits w d fs (drawn_by (words_for_order n)) (less n a b) none_of (Numbered Boolean (packed (each_two f xs ys))) (Any {A = ℕ})
+
+    unsigned_suits : Compares less_gates less_test
+    unsigned_suits a b xs ys s e f p q =
+        suits_bind w d
+        (planned_suits w d fs (drawn_by (words_for_order n)) (λ m. compare.words_taken m n) none_of (λ first. less_plan first a b n) comparison_kinds
+        109 Boolean (each_two less_test xs ys) (λ m. let g = order_words n m in omega (arith, g)) (λ first. refl)
+        (λ r good facts. less_gain r good n a b xs ys (s.from r facts).0 (s.from r facts).1.0 e f)) (λ z _.
+        gate_suits w d (fact z Boolean (each_two less_test xs ys) ∷ fs) none_of none_of none_of (gates.Pack z) Boolean
+        (packed (each_two less_test xs ys)) (λ m. refl) refl
+        (λ r good facts. pack_gain r good z (each_two less_test xs ys) facts.0))
+
+    signed_suits : Compares signed_less_gates signed_less
+    signed_suits a b xs ys s e f p q =
+        suits_bind w d
+        (planned_suits w d fs (drawn_by (words_for_order n)) (λ m. compare.words_taken m n) none_of (λ first. signed_less_plan first a b n)
+        signed_comparison_kinds
+        112 Boolean (each_two signed_less xs ys) (λ m. let g = order_words n m in omega (arith, g)) (λ first. refl)
+        (λ r good facts. signed_less_gain r good n a b xs ys p q (s.from r facts).0 (s.from r facts).1.0 e f)) (λ z _.
+        gate_suits w d (fact z Boolean (each_two signed_less xs ys) ∷ fs) none_of none_of none_of (gates.Pack z) Boolean
+        (packed (each_two signed_less xs ys)) (λ m. refl) refl
+        (λ r good facts. pack_gain r good z (each_two signed_less xs ys) facts.0))
+
     -- ---- numbers
 
     module _ (t : Both fs u v Arithmetic us vs) (p : Below (2 ^ 64) us) (q : Below (2 ^ 64) vs) where
+      exchanged : Both fs v u Arithmetic vs us
+      exchanged = record { from = λ r facts. ((t.from r facts).1.0, ((t.from r facts).0, tt)) }
+
       equal_suits : Suits w d fs (drawn_by (words_for_equality n)) (equal_gates u v) none_of
           (Numbered Boolean (packed (each_two (meaning (Words word.Equal)) us vs)))
           (Any {A = ℕ})
@@ -121,28 +155,24 @@ module _ (w : World) (d : Dealt) where
           (zero_suits (fact k Arithmetic ds ∷ fs) n k ds (tell_first (fact k Arithmetic ds) fs) size))
 
       -- the first of each two is less
-      compared_suits : (a b : ℕ) (xs ys : List ℕ) → Both fs a b Arithmetic xs ys → length xs ≡ n → length ys ≡ n
-          → Suits w d fs (drawn_by (words_for_order n)) (less_gates n a b) none_of (Numbered Boolean (packed (each_two less_test xs ys))) (Any {A = ℕ})
-      compared_suits a b xs ys s e f =
-          suits_bind w d
-          (planned_suits w d fs (drawn_by (words_for_order n)) (λ m. compare.words_taken m n) none_of (λ first. less_plan first a b n) comparison_kinds
-          109 Boolean (each_two less_test xs ys) (λ m. let g = order_words n m in omega (arith, g)) (λ first. refl)
-          (λ r good facts. less_gain r good n a b xs ys (s.from r facts).0 (s.from r facts).1.0 e f)) (λ z _.
-          gate_suits w d (fact z Boolean (each_two less_test xs ys) ∷ fs) none_of none_of none_of (gates.Pack z) Boolean
-          (packed (each_two less_test xs ys)) (λ m. refl) refl
-          (λ r good facts. pack_gain r good z (each_two less_test xs ys) facts.0))
-
       less_suits : Suits w d fs (drawn_by (words_for_order n)) (less_gates n u v) none_of
           (Numbered Boolean (packed (each_two (meaning (Words word.Less)) us vs)))
           (Any {A = ℕ})
-      less_suits =
-          in_terms (ap packed (two_ext less_test (meaning (Words word.Less)) us vs less_word)) (compared_suits u v us vs t left right)
+      less_suits = in_terms (ap packed (two_ext less_test (meaning (Words word.Less)) us vs less_word)) (unsigned_suits u v us vs t left right p q)
 
       greater_suits : Suits w d fs (drawn_by (words_for_order n)) (less_gates n v u) none_of
           (Numbered Boolean (packed (each_two (meaning (Words word.Greater)) us vs))) (Any {A = ℕ})
       greater_suits =
           in_terms (ap packed (two_ext less_test (meaning (Words word.Less)) vs us less_word ∙ two_swapped (meaning (Words word.Less)) us vs))
-          (compared_suits v u vs us (record { from = λ r facts. ((t.from r facts).1.0, ((t.from r facts).0, tt)) }) right left)
+          (unsigned_suits v u vs us exchanged right left q p)
+
+      signed_less_suits : Suits w d fs (drawn_by (words_for_order n)) (signed_less_gates n u v) none_of
+          (Numbered Boolean (packed (each_two signed_less us vs))) (Any {A = ℕ})
+      signed_less_suits = signed_suits u v us vs t left right p q
+
+      signed_greater_suits : Suits w d fs (drawn_by (words_for_order n)) (signed_less_gates n v u) none_of
+          (Numbered Boolean (packed (each_two (meaning (Ints word.Greater)) us vs))) (Any {A = ℕ})
+      signed_greater_suits = in_terms (ap packed (two_swapped signed_less us vs)) (signed_suits v u vs us exchanged right left q p)
 
       -- turned after
       turned_suits : (before : Miner → ℕ) (c : Effect ℕ) (f g : ℕ → ℕ → ℕ)
@@ -157,23 +187,38 @@ module _ (w : World) (d : Dealt) where
           (length-each_two f us vs same ∙ left)
           (two_below (2 ^ 64) 2 f us vs (omega arith) (λ x y a b. low x y) p q)))
 
-      word_suits : (op : OperatorSign) → has_gates (Words op) ≡ true
-          → Suits w d fs (drawn_by (words_of_operator (Words op) n)) (operator_gates (Words op) n u v) none_of
-          (Numbered (ring_for (element_made (Words op))) (gate_words (element_made (Words op)) (each_two (meaning (Words op)) us vs))) (Any {A = ℕ})
-      word_suits word.Add h =
+      differ_suits : Suits w d fs (drawn_by (words_for_equality n)) (equal_gates u v >>= flip n) none_of
+          (Numbered Boolean (packed (each_two (meaning (Words word.NotEqual)) us vs))) (Any {A = ℕ})
+      differ_suits =
+          turned_suits (drawn_by (words_for_equality n)) (equal_gates u v) (meaning (Words word.Equal)) (meaning (Words word.NotEqual)) equal_suits
+          (λ x y. truth_below (nat_eq x y)) (λ x y. flipped_truth (nat_eq x y))
+
+      sum_suits : Suits w d fs (drawn_by (words_each 0)) (gate (gates.Add u v)) none_of (Numbered Arithmetic (each_two add_ring.add us vs)) (Any {A = ℕ})
+      sum_suits =
           gate_suits w d fs (drawn_by (words_each 0)) (λ m. 0 * length us) none_of (gates.Add u v) Arithmetic (each_two add_ring.add us vs)
           (λ m. let e = same_each 0 m in omega (arith, e)) refl (λ r good facts. add_gain r good u v us vs same (t.from r facts).0 (t.from r facts).1.0)
-      word_suits word.Subtract h =
+
+      difference_suits : Suits w d fs (drawn_by (words_each 0)) (gate (gates.Sub u v)) none_of
+          (Numbered Arithmetic (each_two add_ring.sub us vs)) (Any {A = ℕ})
+      difference_suits =
           gate_suits w d fs (drawn_by (words_each 0)) (λ m. 0 * length us) none_of (gates.Sub u v) Arithmetic (each_two add_ring.sub us vs)
           (λ m. let e = same_each 0 m in omega (arith, e)) refl (λ r good facts. sub_gain r good u v us vs same (t.from r facts).0 (t.from r facts).1.0)
-      word_suits word.Multiply h =
+
+      product_suits : Suits w d fs (drawn_by (words_each (3 * n))) (gate (gates.Mul u v)) none_of
+          (Numbered Arithmetic (each_two add_ring.mul us vs)) (Any {A = ℕ})
+      product_suits =
           gate_suits w d fs (drawn_by (words_each (3 * n))) (λ m. 3 * length us) none_of (gates.Mul u v) Arithmetic (each_two add_ring.mul us vs)
           (λ m. let e = same_each (3 * n) m in omega (arith, e, left)) refl
           (λ r good facts. mul_gain r good u v us vs same (t.from r facts).0 (t.from r facts).1.0)
+
+      word_suits : (op : OperatorSign) → has_gates (Words op) ≡ true
+          → Suits w d fs (drawn_by (words_of_operator (Words op) n)) (operator_gates (Words op) n u v) none_of
+          (Numbered (ring_for (element_made (Words op))) (gate_words (element_made (Words op)) (each_two (meaning (Words op)) us vs))) (Any {A = ℕ})
+      word_suits word.Add h = sum_suits
+      word_suits word.Subtract h = difference_suits
+      word_suits word.Multiply h = product_suits
       word_suits word.Equal h = equal_suits
-      word_suits word.NotEqual h =
-          turned_suits (drawn_by (words_for_equality n)) (equal_gates u v) (meaning (Words word.Equal)) (meaning (Words word.NotEqual)) equal_suits
-          (λ x y. truth_below (nat_eq x y)) (λ x y. flipped_truth (nat_eq x y))
+      word_suits word.NotEqual h = differ_suits
       word_suits word.Less h = less_suits
       word_suits word.Greater h = greater_suits
       word_suits word.GreaterOrEqual h =
@@ -187,6 +232,29 @@ module _ (w : World) (d : Dealt) where
       word_suits word.And h = absurd (false_true h)
       word_suits word.Or h = absurd (false_true h)
       word_suits word.Xor h = absurd (false_true h)
+
+      -- the order alone is another one
+      int_suits : (op : OperatorSign) → has_gates (Ints op) ≡ true
+          → Suits w d fs (drawn_by (words_of_operator (Ints op) n)) (operator_gates (Ints op) n u v) none_of
+          (Numbered (ring_for (element_made (Ints op))) (gate_words (element_made (Ints op)) (each_two (meaning (Ints op)) us vs))) (Any {A = ℕ})
+      int_suits word.Add h = sum_suits
+      int_suits word.Subtract h = difference_suits
+      int_suits word.Multiply h = product_suits
+      int_suits word.Equal h = equal_suits
+      int_suits word.NotEqual h = differ_suits
+      int_suits word.Less h = signed_less_suits
+      int_suits word.Greater h = signed_greater_suits
+      int_suits word.GreaterOrEqual h =
+          turned_suits (drawn_by (words_for_order n)) (signed_less_gates n u v) signed_less (meaning (Ints word.GreaterOrEqual)) signed_less_suits
+          signed_below (λ x y. refl)
+      int_suits word.LessOrEqual h =
+          turned_suits (drawn_by (words_for_order n)) (signed_less_gates n v u) (meaning (Ints word.Greater)) (meaning (Ints word.LessOrEqual))
+          signed_greater_suits (λ x y. signed_below y x) (λ x y. refl)
+      int_suits word.Divide h = absurd (false_true h)
+      int_suits word.Remainder h = absurd (false_true h)
+      int_suits word.And h = absurd (false_true h)
+      int_suits word.Or h = absurd (false_true h)
+      int_suits word.Xor h = absurd (false_true h)
 
     -- ---- truth values
 
@@ -262,4 +330,5 @@ module _ (w : World) (d : Dealt) where
         → Suits w d fs (drawn_by (words_of_operator op n)) (operator_gates op n u v) none_of
         (Numbered (ring_for (element_made op)) (gate_words (element_made op) (each_two (meaning op) us vs))) (Any {A = ℕ})
     operator_suits (Words op) h t p q = word_suits t p q op h
+    operator_suits (Ints op) h t p q = int_suits t p q op h
     operator_suits (Bools op) h t p q = bool_suits t p q op

@@ -1,11 +1,12 @@
 -- The parts of a row: charges, numbers of values, scalars beside arrays, and the value that is given.
 use Rattle.std.proofs.Common.{◌≡◌, ℕ, ◌-◌, ◌<◌, ◌^◌, List, [], ◌∷◌, length, Some, None, Bool, true, false, refl, sym, subst, arith}
-use Rattle.std.specs.Prelude.{replicate}
+use Rattle.std.specs.Prelude.{replicate, IsTrue}
 use Rattle.program_trees.specs.declared.expression.DataType.{DataType}
-use Rattle.program_trees.specs.declared.expression.DataType.TheVariants.{Uint64}
+use Rattle.program_trees.specs.declared.expression.DataType.TheVariants.{Uint64, Int64}
 use Rattle.program_trees.specs.declared.expression.DataType.TheVariants as datatype
 use Rattle.proto_core.specs.Lists.{at, AreWords}
 use Rattle.gates.specs.declared.ring_kind.RingKind.{RingKind}
+use Rattle.gates.specs.declared.ring_kind.RingKind.TheVariants.{Arithmetic}
 use Rattle.gates.specs.declared.gate.Gate.TheVariants.{Const}
 use Rattle.gates.specs.Clear.{first_word}
 use Rattle.gates.specs.Counts.{Miner}
@@ -13,6 +14,7 @@ use Rattle.program_trees.specs.declared.kinds.Shape.{Shape}
 use Rattle.language_model.specs.Effects.{World, Effect, done, gate}
 use Rattle.language_model.specs.Values.{Secrecy, Plain, Private, Value, plain, size, ring_for, gate_words}
 use Rattle.language_model.specs.Operations.{charged, no_traps, number_from, number_of, repeated_gate, stretched, made_private, classified_from, classified}
+use Rattle.verified_code.specs.Fitting.{is_number}
 use Rattle.gate_laws.specs.Facts.{HasRange, IsProper, none_of, Fact, fact_from, facts_of, Suits}
 use Rattle.gate_laws.specs.Dealt.{InRange, Dealt}
 use Rattle.gate_laws.proofs.Effects.{Tell, Any, NoFacts, suits_bind, suits_with, suits_done, charge_suits}
@@ -23,7 +25,28 @@ use Rattle.gate_laws.proofs.GateWords.{gate_words_are}
 
 pub range_words : (e : DataType) (words : List ℕ) → InRange e words → AreWords words
 range_words Uint64 words h = h
+range_words Int64 words h = h
 range_words datatype.Bool words h = λ k. let low : at words k < 2 = h k in omega arith
+
+-- ---- numbers, with or without a sign
+
+no_numbers : {P : Type 0} → IsTrue (is_number datatype.Bool) → P
+no_numbers h = cc
+
+pub number_range : (e : DataType) (words : List ℕ) → IsTrue (is_number e) → AreWords words → InRange e words
+number_range Uint64 words ok h = h
+number_range Int64 words ok h = h
+number_range datatype.Bool words ok h = no_numbers ok
+
+-- they stand in the same facts, whatever their type
+pub number_facts : (a : Secrecy) (e : DataType) (words : List ℕ) → IsTrue (is_number e) → fact_from a e words ≡ fact_from a Uint64 words
+number_facts Plain e words ok = refl
+number_facts (Private None) e words ok = refl
+number_facts (Private (Some k)) Uint64 words ok = refl
+number_facts (Private (Some k)) Int64 words ok = refl
+number_facts (Private (Some k)) datatype.Bool words ok = no_numbers ok
+
+-- ---- what is told
 
 pub tell_same : (fs : List Fact) → Tell fs fs
 tell_same fs = record { from = λ r h. h }
@@ -85,6 +108,18 @@ module _ (w : World) (d : Dealt) where
         (λ r good facts. repeated_gain r good e u n us (t.from r facts).0 (single refl))
     stretched_suits e false n u us t single = suits_done w d t tt
 
+    -- the number of a value of numbers, whose words it has
+    pub number_of_numbers : (v : Value) → IsTrue (is_number v.shape.element) → Tell fs (facts_of v) → HasRange v
+        → Suits w d fs owed (number_of v) owed (λ k. fact k Arithmetic v.words ∷ []) (Any {A = ℕ})
+    number_of_numbers v ok t range = as_numbers v.shape.element ok (number_suits v t range)
+      where
+        as_numbers : (e : DataType) → IsTrue (is_number e)
+            → Suits w d fs owed (number_of v) owed (λ k. fact k (ring_for e) (gate_words e v.words) ∷ []) (Any {A = ℕ})
+            → Suits w d fs owed (number_of v) owed (λ k. fact k Arithmetic v.words ∷ []) (Any {A = ℕ})
+        as_numbers Uint64 ok h = h
+        as_numbers Int64 ok h = h
+        as_numbers datatype.Bool ok h = no_numbers ok
+
   -- the value of a number
   pub given_suits : (fs : List Fact) (shape : Shape) (words : List ℕ) (k : ℕ) → Tell fs (fact k (ring_for shape.element) (gate_words shape.element words) ∷ [])
       → InRange shape.element words
@@ -97,6 +132,12 @@ module _ (w : World) (d : Dealt) where
   given_as fs e shape words k same t range small =
       given_suits fs shape words k (subst (λ z. Tell fs (fact k (ring_for z) (gate_words z words) ∷ [])) (sym same) t)
       (subst (λ z. InRange z words) (sym same) range) small
+
+  pub given_numbers : (fs : List Fact) (shape : Shape) (words : List ℕ) (k : ℕ) → IsTrue (is_number shape.element) → Tell fs (fact k Arithmetic words ∷ [])
+      → AreWords words → length words < 2 ^ 64 → Suits w d fs none_of (made_private shape words k) none_of facts_of IsProper
+  given_numbers fs shape words k ok t range small =
+      given_suits fs shape words k (subst (Tell fs) (sym (number_facts (Private (Some k)) shape.element words ok)) t)
+      (number_range shape.element words ok range) small
 
   -- a public value
   pub shown_suits : (fs : List Fact) (shape : Shape) (words : List ℕ) → InRange shape.element words → length words < 2 ^ 64

@@ -1,7 +1,7 @@
 -- Steps of code keep a machine standing.
 use Rattle.std.proofs.Common.{◌≡◌, ℕ, zero, suc, ◌+◌, List, [], ◌∷◌, ◌++◌, length, Option, Some, None, Ok, Err, Bool, true, false, refl, sym, ap, ◌∙◌}
 use Rattle.std.proofs.Common.{subst, arith}
-use Rattle.std.specs.Prelude.{slice_get, map, sum, nat_lt}
+use Rattle.std.specs.Prelude.{slice_get, map, sum, nat_lt, IsTrue}
 use Rattle.sc_text.specs.declared.end.Ending.{Ending}
 use Rattle.sc_text.specs.declared.end.Ending.TheVariants as ending
 use Rattle.sc_text.specs.declared.end.TrapKind.TheVariants as trap
@@ -18,7 +18,7 @@ use Rattle.program_trees.specs.declared.operators.BinaryOperator.{BinaryOperator
 use Rattle.program_trees.specs.declared.operators.Operands.{Operands}
 use Rattle.program_trees.specs.Shapes.{shape_of}
 use Rattle.bytecode.specs.declared.kind.Kind.{Kind}
-use Rattle.verified_code.specs.Steps.{kind_shape, Step, Literal, Move, Store, Binary, Not, Cast, Classify, Fill, At, Put, Size, Cat, Sum, Bits, Declassify}
+use Rattle.verified_code.specs.Steps.{kind_shape, Step, Literal, Move, Store, Binary, Not, Cast, Classify, Fill, At, Put, Size, Cat, Sum, Bits, Lookup, Declassify}
 use Rattle.verified_code.specs.Steps.{Argument, Publish, Assert, Branch, Jump, Call, Return, ReturnNone, Function}
 use Rattle.code_model.specs.Machine.{Caller, Machine, at, next, values_at, begun, behind_first, filled_with, kinds_of, limit, received, resume}
 use Rattle.code_model.specs.Machine.{same_truth, step, begin_at}
@@ -26,9 +26,10 @@ use Rattle.code_model.specs.Kinded.{IsWithin, HasKind, cast_source}
 use Rattle.code_model.proofs.Places.{put_all}
 use Rattle.gate_laws.specs.Facts.{IsProper, none_of, Fact, AllStand, facts_of, run_at, IsAt, Grows, ComesAt, Suits}
 use Rattle.gate_laws.specs.Dealt.{bound, Dealt}
-use Rattle.gate_laws.specs.Rows.{secrecy_suits, OperandsSuit, IsOfElements}
+use Rattle.verified_code.specs.Fitting.{is_number}
+use Rattle.gate_laws.specs.Rows.{secrecy_suits, OperandsSuit, IsOfElements, IsOfNumbers}
 use Rattle.gate_laws.specs.Offers.{AreOffered}
-use Rattle.gate_laws.specs.Machines.{ValueStands, FrameStands, CallersStand, MachineStands, ArrivesAt, HasElement, StepTakes}
+use Rattle.gate_laws.specs.Machines.{ValueStands, FrameStands, CallersStand, MachineStands, ArrivesAt, HasElement, HasNumbers, StepTakes}
 use Rattle.gate_laws.proofs.Effects.{all_still, grows_then, stays, both_stand, charge_suits, test_suits}
 use Rattle.gate_laws.proofs.Parts.{plain_charge, classified_suits}
 use Rattle.gate_laws.proofs.Ranges.{below_none, one_below}
@@ -36,6 +37,7 @@ use Rattle.gate_laws.proofs.Meanings.{some_bound}
 use Rattle.gate_laws.proofs.Binary.{operated_suits}
 use Rattle.gate_laws.proofs.Unary.{negated_suits, cast_suits, size_suits, summed_suits, bits_suits}
 use Rattle.gate_laws.proofs.Arrays.{concatenated_suits, element_suits, filled_suits, with_element_suits}
+use Rattle.gate_laws.proofs.Lookups.{looked_up_suits}
 use Rattle.gate_laws.proofs.Openings.{declassified_suits}
 use Rattle.gate_laws.proofs.Told.{published_suits, tested_suits, asserted_suits, literal_proper, asked_suits}
 
@@ -168,6 +170,9 @@ module _ (w : World) (d : Dealt) where
     of_element : (r : ℕ) (e : DataType) → HasElement h.own.kinds r e → IsOfElements e (m.registers r)
     of_element r e x = record { proper = proper r; element = element_is r x.0 x.1 ∙ x.2 }
 
+    of_numbers : (r : ℕ) → HasNumbers h.own.kinds r → IsOfNumbers (m.registers r)
+    of_numbers r x = record { proper = proper r; numbers = subst (λ e. IsTrue (is_number e)) (sym (element_is r x.0 x.1)) x.2 }
+
     operands : (line : ℕ) (op : BinaryOperator) (ds : Operands) (to a b : ℕ) → StepTakes h.own.kinds (Binary line op ds to a b)
         → OperandsSuit op ds (m.registers a) (m.registers b)
     operands line op ds to a b t =
@@ -215,10 +220,13 @@ module _ (w : World) (d : Dealt) where
     act (Cat line to a b) t =
         leads_set m to (facts_of (m.registers a) ++ facts_of (m.registers b)) (row.concatenated line (m.registers a) (m.registers b))
         (concatenated_suits w d (m.registers a) (m.registers b) (proper a) (proper b) (element_is b t.1 t.3 ∙ t.4 ∙ sym (element_is a t.0 t.2)) line) (two a b)
-    act (Sum to r) t = leads_set m to (facts_of (m.registers r)) (row.summed (m.registers r)) (summed_suits w d (m.registers r) (of_element r Uint64 t)) (own r)
+    act (Sum to r) t = leads_set m to (facts_of (m.registers r)) (row.summed (m.registers r)) (summed_suits w d (m.registers r) (of_numbers r t)) (own r)
     act (Bits line to r) t =
         leads_set m to (facts_of (m.registers r)) (row.bits_extracted w line (m.registers r)) (bits_suits w d (m.registers r) line (of_element r Uint64 t))
         (own r)
+    act (Lookup line to a i) t =
+        leads_set m to (facts_of (m.registers a) ++ facts_of (m.registers i)) (row.looked_up w line (m.registers a) (m.registers i))
+        (looked_up_suits w d (m.registers a) (m.registers i) (of_numbers a t.0) (of_element i Uint64 t.1) line) (two a i)
     act (Declassify to r) t =
         leads_set m to (facts_of (m.registers r)) (row.declassified w (m.registers r)) (declassified_suits w d (m.registers r) (proper r)) (own r)
     act (Argument line k text to) t =

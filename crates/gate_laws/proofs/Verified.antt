@@ -6,7 +6,7 @@ use Rattle.std.specs.List.{list_all}
 use Rattle.std.proofs.lemmas.Bool.{and_parts, ltb-true}
 use Rattle.std.proofs.lemmas.List.{length-map}
 use Rattle.program_trees.specs.declared.expression.DataType.{DataType}
-use Rattle.program_trees.specs.declared.expression.DataType.TheVariants.{Uint64}
+use Rattle.program_trees.specs.declared.expression.DataType.TheVariants.{Uint64, Int64}
 use Rattle.program_trees.specs.declared.expression.DataType.TheVariants as datatype
 use Rattle.program_trees.specs.declared.operators.BinaryOperator.{BinaryOperator}
 use Rattle.program_trees.specs.Operators.{element_made, is_product, operands_of, cast_between}
@@ -14,7 +14,7 @@ use Rattle.language_model.specs.Operations as row
 use Rattle.bytecode.specs.declared.kind.Kind.{Kind}
 use Rattle.bytecode.specs.Raw.{Raw, RawFunction, RawCode}
 use Rattle.bytecode.specs.Raw as raw
-use Rattle.verified_code.specs.Fitting.{Here, is_word, same_element, same_truth, same_kind, public_scalar, private_as, public_as, element_of, array_of, bits_of}
+use Rattle.verified_code.specs.Fitting.{Here, is_unsigned, is_truth, is_number, may_be_literal, same_element, same_truth, same_kind, public_scalar, private_as, public_as, element_of, array_of, bits_of, looked_up_of}
 use Rattle.verified_code.specs.Fitting.{kind_at, is_there, is_none, operator_at, may_be_private, secrecy_fits, result_kind, gives_fits, gives_none}
 use Rattle.verified_code.specs.Fitting.{arguments_fit, call_fits, names_there, operands_fit, target_fits, goes_on}
 use Rattle.verified_code.specs.Fitting as fitting
@@ -24,7 +24,7 @@ use Rattle.verified_code.specs.Sound.{IsSound}
 use Rattle.verified_code.proofs.Sound.{verified_is_sound}
 use Rattle.verified_code.specs.Steps.{Step, Function}
 use Rattle.code_model.specs.Kinds.{kind_of}
-use Rattle.code_model.specs.Kinded.{HasKind, ArgumentsHave, ResultFits, StepFits, is_return, IsFitting, left_array, right_array, cast_source, cast_target}
+use Rattle.code_model.specs.Kinded.{HasKind, ArgumentsHave, ResultFits, StepFits, is_return, IsFitting, left_array, right_array}
 use Rattle.gate_laws.specs.Dealt.{bound}
 use Rattle.gate_laws.specs.Rows.{element_taken, secrecy_suits}
 use Rattle.gate_laws.specs.Machines.{StepTakes}
@@ -42,9 +42,9 @@ truths_same false false h = refl
 
 elements_same : (a b : DataType) → same_element a b ≡ true → a ≡ b
 elements_same Uint64 Uint64 h = refl
-elements_same Uint64 datatype.Bool h = cc
-elements_same datatype.Bool Uint64 h = cc
+elements_same Int64 Int64 h = refl
 elements_same datatype.Bool datatype.Bool h = refl
+elements_same a b h = cc
 
 kinds_same : (k l : Kind) → same_kind k l ≡ true → k ≡ l
 kinds_same k l h =
@@ -58,12 +58,14 @@ is_false : (b : Bool) → not b ≡ true → b ≡ false
 is_false true h = cc
 is_false false h = refl
 
-are_words : (e : DataType) → is_word e ≡ true → e ≡ Uint64
+are_words : (e : DataType) → is_unsigned e ≡ true → e ≡ Uint64
 are_words Uint64 h = refl
+are_words Int64 h = cc
 are_words datatype.Bool h = cc
 
-are_bools : (e : DataType) → not (is_word e) ≡ true → e ≡ datatype.Bool
+are_bools : (e : DataType) → is_truth e ≡ true → e ≡ datatype.Bool
 are_bools Uint64 h = cc
+are_bools Int64 h = cc
 are_bools datatype.Bool h = refl
 
 found_kind : (kinds : List Kind) (r : ℕ) → r < length kinds → HasKind kinds r (kind_at kinds r)
@@ -84,6 +86,7 @@ secrecy_same op false false h = tt
 
 taken_same : (e : DataType) (o : ℕ) → e ≡ element_taken (operator_at e o)
 taken_same Uint64 o = refl
+taken_same Int64 o = refl
 taken_same datatype.Bool o = refl
 
 left_same : (a b : Bool) → a ≡ left_array (operands_of a b)
@@ -105,20 +108,9 @@ made_same s op true false = refl
 made_same s op false true = refl
 made_same s op false false = refl
 
-source_same : (e f : DataType) → e ≡ cast_source (cast_between e f)
-source_same Uint64 Uint64 = refl
-source_same Uint64 datatype.Bool = refl
-source_same datatype.Bool Uint64 = refl
-source_same datatype.Bool datatype.Bool = refl
-
-target_same : (e f : DataType) → f ≡ cast_target (cast_between e f)
-target_same Uint64 Uint64 = refl
-target_same Uint64 datatype.Bool = refl
-target_same datatype.Bool Uint64 = refl
-target_same datatype.Bool datatype.Bool = refl
-
-literal_low : (e : DataType) (x : ℕ) → x < 2 ^ 64 → (is_word e || nat_lt x 2) ≡ true → x < bound e
+literal_low : (e : DataType) (x : ℕ) → x < 2 ^ 64 → may_be_literal e x ≡ true → x < bound e
 literal_low Uint64 x h t = h
+literal_low Int64 x h t = h
 literal_low datatype.Bool x h t = ltb-true x 2 t
 
 -- ---- calls
@@ -170,6 +162,11 @@ three a b c h = let x = both (a && b) c h in let y = both a b x.0 in (y.0, y.1, 
 
 four : (a b c d : Bool) → (a && b && c && d) ≡ true → (a ≡ true) × (b ≡ true) × (c ≡ true) × (d ≡ true)
 four a b c d h = let x = both (a && b && c) d h in let y = three a b c x.0 in (y.0, y.1, y.2, x.1)
+
+six : (a b c d e f : Bool) → (a && b && c && d && e && f) ≡ true
+    → (a ≡ true) × (b ≡ true) × (c ≡ true) × (d ≡ true) × (e ≡ true) × (f ≡ true)
+six a b c d e f h =
+    let x = both (a && b && c && d && e) f h in let y = both (a && b && c && d) e x.0 in let z = four a b c d y.0 in (z.0, z.1, z.2, z.3, y.1, x.1)
 
 module _ (code : RawCode) (f : RawFunction) (place : ℕ) where
   abbrev at : Here
@@ -230,20 +227,12 @@ module _ (code : RawCode) (f : RawFunction) (place : ℕ) where
       → Suited (settle code.names kinds (raw.Cast d r))
   cast_suited d r to from h =
       let fit = both (same_truth (of d).secret (of r).secret) (same_truth (of d).array (of r).array) h in
-      let source = source_same (of r).element (of d).element in
-      let target = target_same (of r).element (of d).element in (
-        (
-          (of r).secret,
-          (of r).array,
-          subst (λ e. HasKind kinds r (record { secret = (of r).secret; element = e; array = (of r).array })) source (there r from),
-          subst (λ e. HasKind kinds d (record { secret = (of r).secret; element = e; array = (of r).array })) target
-              (subst (λ s. HasKind kinds d (record { secret = s; element = (of d).element; array = (of r).array }))
-              (truths_same (of d).secret (of r).secret fit.0)
-              (subst (λ a. HasKind kinds d (record { secret = (of d).secret; element = (of d).element; array = a }))
-              (truths_same (of d).array (of r).array fit.1) (there d to))),
-        ),
-        (of r, there r from, source),
-      )
+      let made : HasKind kinds d (record { secret = (of r).secret; element = (of d).element; array = (of r).array }) =
+      subst (λ s. HasKind kinds d (record { secret = s; element = (of d).element; array = (of r).array }))
+      (truths_same (of d).secret (of r).secret fit.0)
+      (subst (λ a. HasKind kinds d (record { secret = (of d).secret; element = (of d).element; array = a }))
+      (truths_same (of d).array (of r).array fit.1) (there d to)) in
+      (((of r).secret, (of r).array, there r from, made), (of r, there r from, refl))
 
   call_suited : (g d : ℕ) (rs : List ℕ) (line : ℕ) → names_there at (raw.Call g d rs line) ≡ true → operands_fit at (raw.Call g d rs line) ≡ true
       → Suited (settle code.names kinds (raw.Call g d rs line))
@@ -266,7 +255,7 @@ module _ (code : RawCode) (f : RawFunction) (place : ℕ) where
 
   suited : (i : Raw) → LiteralIsWord i → names_there at i ≡ true → operands_fit at i ≡ true → target_fits at i ≡ true → Suited (settle code.names kinds i)
   suited (raw.Literal d x) l n o t =
-      let fit = both (same_kind (of d) (public_scalar (of d).element)) (is_word (of d).element || nat_lt x 2) o in
+      let fit = both (same_kind (of d) (public_scalar (of d).element)) (may_be_literal (of d).element x) o in
       (there_as d (public_scalar (of d).element) n fit.0, literal_low (of d).element x l fit.1)
   suited (raw.Move d r) l n o t =
       let names = both (is_there kinds d) (is_there kinds r) n in ((of r, there r names.1, there_as d (of r) names.0 o), tt)
@@ -275,7 +264,7 @@ module _ (code : RawCode) (f : RawFunction) (place : ℕ) where
   suited (raw.Binary op d a b line) l n o t = binary_suited op d a b line n o
   suited (raw.Not d r) l n o t =
       let names = both (is_there kinds d) (is_there kinds r) n in
-      let fit = both (same_kind (of d) (of r)) (not (is_word (of r).element)) o in
+      let fit = both (same_kind (of d) (of r)) (is_truth (of r).element) o in
       ((of r, there r names.1, there_as d (of r) names.0 fit.0), (of r, there r names.1, are_bools (of r).element fit.1))
   suited (raw.Cast d r) l n o t = let names = both (is_there kinds d) (is_there kinds r) n in cast_suited d r names.0 names.1 o
   suited (raw.Classify d r) l n o t =
@@ -311,20 +300,19 @@ module _ (code : RawCode) (f : RawFunction) (place : ℕ) where
       )
   suited (raw.Sum d r) l n o t =
       let names = both (is_there kinds d) (is_there kinds r) n in
-      let fit = three (of r).array (is_word (of r).element) (same_kind (of d) (element_of (of r))) o in
-      let word = are_words (of r).element fit.1 in (
-        (
-          of r,
-          there r names.1,
-          subst (λ e. HasKind kinds d (record { secret = (of r).secret; element = e; array = false })) word
-              (there_as d (element_of (of r)) names.0 fit.2),
-        ),
-        (of r, there r names.1, word),
-      )
+      let fit = three (of r).array (is_number (of r).element) (same_kind (of d) (element_of (of r))) o in
+      ((of r, there r names.1, there_as d (element_of (of r)) names.0 fit.2), (of r, there r names.1, fit.1))
   suited (raw.Bits d r line) l n o t =
       let names = both (is_there kinds d) (is_there kinds r) n in
-      let fit = both (is_word (of r).element) (same_kind (of d) (bits_of (of r))) o in
+      let fit = both (is_unsigned (of r).element) (same_kind (of d) (bits_of (of r))) o in
       ((of r, there r names.1, there_as d (bits_of (of r)) names.0 fit.1), (of r, there r names.1, are_words (of r).element fit.0))
+  suited (raw.Lookup d a i line) l n o t =
+      let names = three (is_there kinds d) (is_there kinds a) (is_there kinds i) n in
+      let fit = six (of a).secret (of a).array (is_number (of a).element) (of i).secret (is_unsigned (of i).element)
+      (same_kind (of d) (looked_up_of (of a) (of i))) o in (
+        (of a, of i, there a names.1, there i names.2, there_as d (looked_up_of (of a) (of i)) names.0 fit.5),
+        ((of a, there a names.1, fit.2), (of i, there i names.2, are_words (of i).element fit.4)),
+      )
   suited (raw.Declassify d r) l n o t =
       let names = both (is_there kinds d) (is_there kinds r) n in ((of r, there r names.1, there_as d (public_as (of r)) names.0 o), tt)
   suited (raw.Argument d name line) l n o t =
@@ -368,6 +356,7 @@ return_same names ks (raw.Size d r) = refl
 return_same names ks (raw.Cat d a b line) = refl
 return_same names ks (raw.Sum d r) = refl
 return_same names ks (raw.Bits d r line) = refl
+return_same names ks (raw.Lookup d a i line) = refl
 return_same names ks (raw.Declassify d r) = refl
 return_same names ks (raw.Argument d name line) = refl
 return_same names ks (raw.Publish name r) = refl

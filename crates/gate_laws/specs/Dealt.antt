@@ -1,7 +1,7 @@
 -- What is dealt, and the range and number of words.
 use Rattle.std.specs.Prelude.{ℕ, ◌<◌, ◌^◌, List}
 use Rattle.program_trees.specs.declared.expression.DataType.{DataType}
-use Rattle.program_trees.specs.declared.expression.DataType.TheVariants.{Uint64}
+use Rattle.program_trees.specs.declared.expression.DataType.TheVariants.{Uint64, Int64}
 use Rattle.program_trees.specs.declared.expression.DataType.TheVariants as datatype
 use Rattle.proto_core.specs.declared.party.Number.{Number}
 use Rattle.proto_core.specs.Lists.{at}
@@ -19,6 +19,7 @@ pub record Dealt : Type 0 where
 -- numbers are below 2^64, truth values below 2
 abbrev pub bound : DataType → ℕ
 bound Uint64 = 2 ^ 64
+bound Int64 = 2 ^ 64
 bound datatype.Bool = 2
 
 abbrev pub InRange : DataType → List ℕ → Type 0

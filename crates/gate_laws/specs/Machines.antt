@@ -1,5 +1,5 @@
 -- Machines whose values stand, and code whose steps take values that have gates.
-use Rattle.std.specs.Prelude.{◌≡◌, ℕ, ◌<◌, false, List, [], ◌∷◌, Some, Ok, Err}
+use Rattle.std.specs.Prelude.{◌≡◌, ℕ, ◌<◌, false, IsTrue, List, [], ◌∷◌, Some, Ok, Err}
 use Rattle.std.specs.List.{slice_get}
 use Rattle.program_trees.specs.declared.expression.DataType.{DataType}
 use Rattle.program_trees.specs.declared.expression.DataType.TheVariants.{Uint64}
@@ -10,7 +10,8 @@ use Rattle.language_model.specs.Effects.{World, Stage, Run}
 use Rattle.language_model.specs.Values.{Value}
 use Rattle.language_model.specs.Evaluation.{Frame}
 use Rattle.bytecode.specs.declared.kind.Kind.{Kind}
-use Rattle.verified_code.specs.Steps.{Step, Literal, Binary, Not, Cast, Fill, Put, Cat, Sum, Bits, Function}
+use Rattle.verified_code.specs.Fitting.{is_number}
+use Rattle.verified_code.specs.Steps.{Step, Literal, Binary, Not, Cast, Fill, Put, Cat, Sum, Bits, Lookup, Function}
 use Rattle.code_model.specs.Machine.{Caller, Machine}
 use Rattle.code_model.specs.Kinded.{HasKind, IsIn, cast_source, left_array, right_array}
 use Rattle.gate_laws.specs.Facts.{IsProper, none_of, AllStand, facts_of, run_at, IsAt, Grows, Comes}
@@ -51,6 +52,9 @@ module _ (w : World) (d : Dealt) where
 abbrev pub HasElement : List Kind → ℕ → DataType → Type 0
 HasElement kinds r e = (k : Kind) × HasKind kinds r k × (k.element ≡ e)
 
+abbrev pub HasNumbers : List Kind → ℕ → Type 0
+HasNumbers kinds r = (k : Kind) × HasKind kinds r k × IsTrue (is_number k.element)
+
 -- literals are in range, and operands have the elements that the step takes, and gates where they are private
 abbrev pub StepTakes : List Kind → Step → Type 0
 StepTakes kinds (Literal d e n) = n < bound e
@@ -62,8 +66,9 @@ StepTakes kinds (Cast c d r) = HasElement kinds r (cast_source c)
 StepTakes kinds (Fill line d n x) = (k : Kind) × HasKind kinds x k × (k.array ≡ false)
 StepTakes kinds (Put line a i x) = (k : Kind) × (l : Kind) × HasKind kinds a k × HasKind kinds x l × (l.element ≡ k.element) × (l.array ≡ false)
 StepTakes kinds (Cat line d a b) = (k : Kind) × (l : Kind) × HasKind kinds a k × HasKind kinds b l × (l.element ≡ k.element)
-StepTakes kinds (Sum d r) = HasElement kinds r Uint64
+StepTakes kinds (Sum d r) = HasNumbers kinds r
 StepTakes kinds (Bits line d r) = HasElement kinds r Uint64
+StepTakes kinds (Lookup line d a i) = HasNumbers kinds a × HasElement kinds i Uint64
 StepTakes kinds i = Unit {0}
 
 abbrev pub AreTaking : List Function → Type 0

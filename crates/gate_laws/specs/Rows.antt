@@ -1,19 +1,20 @@
 -- What is asked of the operands of a row, so that its gates suit the run.
-use Rattle.std.specs.Prelude.{◌≡◌, Bool, true, false, length}
+use Rattle.std.specs.Prelude.{◌≡◌, Bool, true, false, IsTrue, length}
 use Rattle.program_trees.specs.declared.expression.DataType.{DataType}
-use Rattle.program_trees.specs.declared.expression.DataType.TheVariants.{Uint64}
+use Rattle.program_trees.specs.declared.expression.DataType.TheVariants.{Uint64, Int64}
 use Rattle.program_trees.specs.declared.expression.DataType.TheVariants as datatype
 use Rattle.program_trees.specs.declared.operators.BinaryOperator.{BinaryOperator}
-use Rattle.program_trees.specs.declared.operators.BinaryOperator.TheVariants.{Words, Bools}
+use Rattle.program_trees.specs.declared.operators.BinaryOperator.TheVariants.{Words, Ints, Bools}
 use Rattle.program_trees.specs.declared.operators.Operands.{Operands}
 use Rattle.language_model.specs.Values.{Value, is_secret}
 use Rattle.language_model.specs.Operations.{is_product}
-use Rattle.verified_code.specs.Fitting.{may_be_private}
+use Rattle.verified_code.specs.Fitting.{may_be_private, is_number}
 use Rattle.code_model.specs.Kinded.{left_array, right_array}
 use Rattle.gate_laws.specs.Facts.{IsProper}
 
 abbrev pub element_taken : BinaryOperator → DataType
 element_taken (Words op) = Uint64
+element_taken (Ints op) = Int64
 element_taken (Bools op) = datatype.Bool
 
 -- what may have private operands has gates
@@ -40,3 +41,8 @@ pub record OperandsSuit (op : BinaryOperator) (ds : Operands) (x y : Value) : Ty
 pub record IsOfElements (e : DataType) (v : Value) : Type 0 where
   pub proper : IsProper v
   pub element : v.shape.element ≡ e
+
+-- a value of numbers, with or without a sign
+pub record IsOfNumbers (v : Value) : Type 0 where
+  pub proper : IsProper v
+  pub numbers : IsTrue (is_number v.shape.element)

@@ -13,11 +13,11 @@ use Rattle.sc_text.specs.End.{end_line}
 use Rattle.sc_text.specs.Event.{event_line, run_text}
 use Rattle.proto_core.specs.declared.party.Number.{Number}
 use Rattle.proto_core.specs.declared.party.Number.TheVariants.{One, Two, Three}
-use Rattle.proto_core.specs.Strand.{Field, Words, Bits, Form, Notice, Handed}
+use Rattle.proto_core.specs.Strand.{ElementType, Unsigned, Signed, TruthValue, Form, Notice, Handed}
 use Rattle.shared_gates.specs.Shares.{AreShares}
 use Rattle.gates.proofs.Packing.{length-packed}
 use Rattle.language_model.specs.Values.{element_of, gate_words}
-use Rattle.code_runs.specs.Places.{field_of}
+use Rattle.code_runs.specs.Places.{element_type_of}
 use Rattle.code_runs.specs.Telling.{type_of, elements_told, ring_told, AreOf, Tells, nothing, opened, published, handed}
 use Rattle.code_runs.specs.ClientTold.{all_added_up}
 use Rattle.code_runs.proofs.Together.{told_together_are_the_events}
@@ -74,9 +74,10 @@ share_alike text form count xs ys e =
 same_head : (e f : Event) → e ∷ [] ≡ f ∷ [] → e ≡ f
 same_head e f h = cc
 
-field_back : (f : Field) → field_of (type_of f) ≡ f
-field_back Words = refl
-field_back Bits = refl
+type_back : (e : ElementType) → element_type_of (type_of e) ≡ e
+type_back Unsigned = refl
+type_back Signed = refl
+type_back TruthValue = refl
 
 -- each miner's share of a value of these elements
 abbrev AreSharesOf : Form → List ℕ → (Number → List ℕ) → Type 0
@@ -93,7 +94,7 @@ share_joined : (text : List ℕ) (form : Form) (words : List ℕ) (shares : Numb
     ≡ event_line (Hand text (elements_told form words))
 share_joined text form words shares range are =
     ap (λ f. event_line (Hand text (map (element_of (type_of form.element)) (all_added_up f (length words) (shares One) (shares Two) (shares Three)))))
-    (field_back form.element)
+    (type_back form.element)
     ∙ ap event_line (shares_told text form words shares range are)
 
 -- ---- all lines
@@ -152,10 +153,11 @@ text_back : (i : Number) (ls : List MinerLine) → IsText ls → text_in i (Some
 text_back i ls h = ap (named i) (read_again ls h)
 
 -- the words of a share hold the elements
-held_so : (f : Field) (words share : List ℕ) → length share ≡ length (gate_words (type_of f) words) → length words < 2 ^ 64 →
-    AreHeld (type_of f) (length words) (length share)
-held_so Words words share size small = sym size
-held_so Bits words share size small = (small, size ∙ length-packed words)
+held_so : (e : ElementType) (words share : List ℕ) → length share ≡ length (gate_words (type_of e) words) → length words < 2 ^ 64 →
+    AreHeld (type_of e) (length words) (length share)
+held_so Unsigned words share size small = sym size
+held_so Signed words share size small = sym size
+held_so TruthValue words share size small = (small, size ∙ length-packed words)
 
 paid_number : (form : Form) (words : List ℕ) (end : End) → length (elements_told form words) ≤ end.cost → IsEnd end → length words < 2 ^ 64
 paid_number form words end le fits =

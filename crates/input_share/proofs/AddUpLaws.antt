@@ -38,6 +38,7 @@ module _ {r : Ring} (laws : RingLaws r) where
 
 pub ring_laws : (t : DataType) → RingLaws (ring_of t)
 ring_laws data_type.Uint64 = add_ring_laws
+ring_laws data_type.Int64 = add_ring_laws
 ring_laws data_type.Bool = xor_ring_laws
 
 private_together :

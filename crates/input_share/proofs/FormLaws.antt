@@ -42,8 +42,10 @@ length-share_of Three r xs words enough =
 
 pub size_of-shape_of : (v : Value) → size_of (shape_of v) ≡ count_of v
 size_of-shape_of (value.Number n) = refl
+size_of-shape_of (value.Integer x) = refl
 size_of-shape_of (value.Truth b) = refl
 size_of-shape_of (value.Numbers ns) = refl
+size_of-shape_of (value.Integers xs) = refl
 size_of-shape_of (value.Truths bs) = refl
 
 part_count-part_of : (miner : Number) (d : Domain) (v : Value) (words : List ℕ) → part_count (part_of miner d v words) ≡ count_of v

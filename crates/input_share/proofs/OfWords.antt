@@ -1,7 +1,8 @@
 -- Elements that are read are words of 64 bits, and entries that are read may stand in a file.
 use Rattle.std.proofs.Common.{◌≡◌, ◌<◌, ◌^◌, ℕ, List, [], ◌∷◌, ◌++◌, map, length, codes, Bool, true, false, not, ◌&&◌, ◌==◌, All, drop}
 use Rattle.std.proofs.Common.{slice_index, refl, ap, subst, arith}
-use Rattle.std.specs.Prelude.{nat_lt, nat_le, if◌then◌else◌, Option, Some, None, IfSome, option_map, option_and_then, Result, Ok, Err, IfOk, ⊤}
+use Rattle.std.specs.Prelude.{ℤ, pos, zero, suc, neg_ℤ, nat_lt, nat_le, if◌then◌else◌, Option, Some, None, IfSome, option_map, option_and_then, Result, Ok, Err, IfOk, ⊤}
+use Rattle.std.specs.Int.{w64, cast_unsigned}
 use Rattle.std.specs.List.{list_any}
 use Rattle.std.specs.Option.{ok_or}
 use Rattle.std.proofs.Common.{Ordering, Less, Equal, Greater}
@@ -17,13 +18,13 @@ use Rattle.json.specs.Lex.{tokens}
 use Rattle.sc_text.specs.Name.{is_name}
 use Rattle.serde_json.specs.Data.{Num, unsigned, negative, float, Data, null, boolean, number, string, array, object, Items, no_items, item, Members}
 use Rattle.serde_json.specs.Data.{no_members, member, put}
-use Rattle.serde_json.specs.Find.{as_array, as_bool, as_u64, get, get_member}
+use Rattle.serde_json.specs.Find.{as_array, as_bool, as_i64, as_u64, get, get_member}
 use Rattle.serde_json.specs.Read.{float_of, is_integer, max_depth, number_from, number_of, of_items, of_json, of_members, read}
 use Rattle.value_file.specs.declared.value.DataType.{DataType}
 use Rattle.value_file.specs.declared.value.DataType.TheVariants as data_type
 use Rattle.value_file.specs.declared.value.Domain.{Domain}
 use Rattle.value_file.specs.declared.value.Domain.TheVariants as domains
-use Rattle.value_file.specs.declared.value.Value.TheVariants.{Number, Truth, Numbers, Truths}
+use Rattle.value_file.specs.declared.value.Value.TheVariants.{Number, Integer, Truth, Numbers, Integers, Truths}
 use Rattle.value_file.specs.declared.inputs.Entry.{Entry}
 use Rattle.value_file.specs.declared.public.PublicValue.TheVariants.{Known, Hidden}
 use Rattle.value_file.specs.declared.public.PublicEntry.{PublicEntry}
@@ -35,7 +36,7 @@ use Rattle.value_file.specs.Input.{inputs_in, name_in, name_of, new_name, read_o
 use Rattle.value_file.specs.Json.{json_of, list_in, text_in, text_of}
 use Rattle.value_file.specs.PublicFile.{public_count, public_elements_of, public_entry_of, public_name_of, public_value_of}
 use Rattle.value_file.specs.PublicFile.{read_public_of, shape_in}
-use Rattle.value_file.specs.Values.{all_in, count_of, joined, number_in, value_from, value_of}
+use Rattle.value_file.specs.Values.{all_in, count_of, integer_in, joined, number_in, value_from, value_of}
 use Rattle.input_share.specs.OfWords.{ArePublicRead, AreRead, IsOfWords, IsShownOfWords}
 use Rattle.value_file.proofs.Forms.{AreEntries-push}
 use Rattle.input_share.specs.Values.{bit_word}
@@ -78,7 +79,7 @@ ok_else P false refusal x h = h refl
 
 abbrev IsSmall : Num → Type 0
 IsSmall (unsigned n) = n < 2 ^ 64
-IsSmall (negative z) = ⊤
+IsSmall (negative z) = cast_unsigned w64 z < 2 ^ 64
 IsSmall (float x) = ⊤
 
 abbrev mutual
@@ -105,13 +106,17 @@ below : (b : Bool) (n : ℕ) → (b && nat_lt n (2 ^ 64)) ≡ true → n < 2 ^ 6
 below true n h = ltb-true n (2 ^ 64) h
 below false n h = absurd cc
 
+negative_small : (n : ℕ) → cast_unsigned w64 (with_sign true n) < 2 ^ 64
+negative_small zero = omega arith
+negative_small (suc n) = omega arith
+
 from_small : (sign : Bool) (p : Parts) → IfSome (number_from sign p) IsSmall
 from_small false p =
     if_both IsSmall (is_integer p && nat_lt (digits_of p) (2 ^ 64)) (Some (unsigned (digits_of p))) (float_of false p)
     (below (is_integer p) (digits_of p)) (float_small false p)
 from_small true p =
     if_both IsSmall (is_integer p && nat_lt 0 (digits_of p) && nat_le (digits_of p) (2 ^ 63)) (Some (negative (with_sign true (digits_of p))))
-    (float_of true p) (λ _. tt) (float_small true p)
+    (float_of true p) (λ _. negative_small (digits_of p)) (float_small true p)
 
 number_small : (s : List ℕ) → IfSome (number_of s) IsSmall
 unfolding number_of
@@ -208,14 +213,31 @@ number_in_small (string s) h = tt
 number_in_small (array ds) h = tt
 number_in_small (object ms) h = tt
 
+i64_small : (n : Num) → IsSmall n → IfSome (as_i64 n) (λ z. cast_unsigned w64 z < 2 ^ 64)
+i64_small (unsigned n) h = if_both (λ z. cast_unsigned w64 z < 2 ^ 64) (nat_lt n (2 ^ 63)) (Some (pos n)) None (λ _. h) tt
+i64_small (negative z) h = h
+i64_small (float x) h = tt
+
+integer_in_small : (d : Data) → AreSmall d → IfSome (integer_in d) IsBelow
+integer_in_small null h = tt
+integer_in_small (boolean b) h = tt
+integer_in_small (number n) h = if_map (λ z. cast_unsigned w64 z < 2 ^ 64) IsBelow (cast_unsigned w64) (as_i64 n) (i64_small n h) (λ z below. below)
+integer_in_small (string s) h = tt
+integer_in_small (array ds) h = tt
+integer_in_small (object ms) h = tt
+
 joined_small : (o : Option ℕ) (os : Option (List ℕ)) → IfSome o IsBelow → IfSome os (All IsBelow) → IfSome (joined o os) (All IsBelow)
 joined_small (Some x) (Some xs) h all = All-cons IsBelow x xs h all
 joined_small (Some x) None h all = tt
 joined_small None os h all = tt
 
+each_small : (one : Data → Option ℕ) → ((d : Data) → AreSmall d → IfSome (one d) IsBelow) → (ds : Items) → SmallItems ds
+    → IfSome (all_in one ds) (All IsBelow)
+each_small one small no_items all = All-nil IsBelow
+each_small one small (item d ds) all = joined_small (one d) (all_in one ds) (small d all.0) (each_small one small ds all.1)
+
 pub all_small : (ds : Items) → SmallItems ds → IfSome (all_in number_in ds) (All IsBelow)
-all_small no_items all = All-nil IsBelow
-all_small (item d ds) all = joined_small (number_in d) (all_in number_in ds) (number_in_small d all.0) (all_small ds all.1)
+all_small ds all = each_small number_in number_in_small ds all
 
 bit_below : (b : Bool) → IsBelow (bit_word b)
 bit_below true = omega arith
@@ -228,6 +250,11 @@ numbers_small : (o : Option Items) (d : Data) → AreSmall d → IfSome o SmallI
 numbers_small (Some ds) d h all = if_map (All IsBelow) IsOfWords Numbers (all_in number_in ds) (all_small ds all) (λ ns below. below)
 numbers_small None d h all = if_map IsBelow IsOfWords Number (number_in d) (number_in_small d h) one_below
 
+integers_small : (o : Option Items) (d : Data) → AreSmall d → IfSome o SmallItems → IfSome (value_from Integer Integers integer_in o d) IsOfWords
+integers_small (Some ds) d h all =
+    if_map (All IsBelow) IsOfWords Integers (all_in integer_in ds) (each_small integer_in integer_in_small ds all) (λ xs below. below)
+integers_small None d h all = if_map IsBelow IsOfWords Integer (integer_in d) (integer_in_small d h) one_below
+
 truths_small : (o : Option Items) (d : Data) → IfSome (value_from Truth Truths as_bool o d) IsOfWords
 truths_small (Some ds) d =
     if_map (λ _. ⊤) IsOfWords Truths (all_in as_bool ds) (any (all_in as_bool ds)) (λ bs _. All-map IsBelow bit_word bs (λ k d lt. bit_below _))
@@ -235,6 +262,7 @@ truths_small None d = if_map (λ _. ⊤) IsOfWords Truth (as_bool d) (any (as_bo
 
 value_small : (kind : DataType) (d : Data) → AreSmall d → IfSome (value_of kind d) IsOfWords
 value_small data_type.Uint64 d h = numbers_small (as_array d) d h (array_small d h)
+value_small data_type.Int64 d h = integers_small (as_array d) d h (array_small d h)
 value_small data_type.Bool d h = truths_small (as_array d) d
 
 pub field_small : (kind : DataType) (d : Data) → AreSmall d → IfSome (value_in kind d) IsOfWords

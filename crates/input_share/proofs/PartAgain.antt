@@ -1,28 +1,28 @@
 -- The text of a public part is read as that part: it is the text of data without floats, whose strings are UTF-8.
-use Rattle.std.proofs.Common.{◌≡◌, ℕ, ◌<◌, ◌≤◌, ◌^◌, ◌&&◌, not, zero, suc, All, List, [], ◌∷◌, ◌++◌, map, Bool, true, false, None, Some, Ok, option_map}
+use Rattle.std.proofs.Common.{◌≡◌, ℕ, ◌-◌, ◌<◌, ◌≤◌, ◌^◌, ◌&&◌, not, zero, suc, All, List, [], ◌∷◌, ◌++◌, map, Bool, true, false, None, Some, Ok, option_map}
 use Rattle.std.proofs.Common.{option_and_then}
-use Rattle.std.proofs.Common.{refl, ap, sym, ◌∙◌, arith}
-use Rattle.std.specs.Prelude.{codes, if◌then◌else◌}
+use Rattle.std.proofs.Common.{negsuc, refl, ap, sym, ◌∙◌, arith}
+use Rattle.std.specs.Prelude.{codes, nat_lt, if◌then◌else◌}
 use Rattle.std.specs.List.{list_all, list_any}
 use Rattle.std.specs.Str.{bytes_eq, IsAscii, IsUtf8}
 use Rattle.std.proofs.Math.Nat.{max-le}
 use Rattle.std.proofs.lemmas.List.{append-nil}
-use Rattle.std.proofs.lemmas.Bool.{and_parts}
+use Rattle.std.proofs.lemmas.Bool.{and_parts, ltb-false}
 use Rattle.std.proofs.lemmas.Bool.Decides.{nat_tests}
-use Rattle.std.proofs.lemmas.Fmt.{IsAscii-decimal}
+use Rattle.std.proofs.lemmas.Fmt.{IsAscii-decimal, IsAscii-signed}
 use Rattle.std.proofs.lemmas.Str.{IsUtf8-append, IsUtf8-from_ascii, IsUtf8-nil}
 use Rattle.json.specs.Json as json
 use Rattle.json.specs.Tree.{HasNumbers, ItemsHaveNumbers, json_tokens}
 use Rattle.json.specs.Tree.{depth as json_depth, items_depth as json_items_depth}
-use Rattle.json.proofs.Printed.Decimals.{IsNumber-decimal}
+use Rattle.json.proofs.Printed.Decimals.{IsNumber-decimal, IsNumber-signed_decimal}
 use Rattle.json.proofs.Printed.Tokens.{tokens-print}
 use Rattle.json.proofs.Printed.Trees.{ArePrintable-json_tokens, value-json_tokens}
 use Rattle.json.proofs.Printed.Utf8.{IsUtf8-are_ascii, IsUtf8-boolean, IsUtf8-quoted}
-use Rattle.serde_json.specs.Data.{Data, array, boolean, string, object, Items, Members, no_members, member}
+use Rattle.serde_json.specs.Data.{Data, negative, number, array, boolean, string, object, Items, Members, no_members, member}
 use Rattle.serde_json.specs.Read.{max_depth, read, of_json, of_items}
 use Rattle.serde_json.specs.View.{items_of}
 use Rattle.serde_json.specs.Written.{outline, items_outline, compact_text, items_text, members_text, comma_if}
-use Rattle.serde_json.proofs.Numbers.{number_of-decimal}
+use Rattle.serde_json.proofs.Numbers.{number_of-decimal, number_of-negative}
 use Rattle.serde_json.proofs.Texts.{print-outline}
 use Rattle.sc_text.specs.Name.{is_name, is_name_byte}
 use Rattle.value_file.specs.declared.value.DataType.{DataType}
@@ -30,16 +30,17 @@ use Rattle.value_file.specs.declared.value.DataType.TheVariants as data_type
 use Rattle.value_file.specs.declared.value.Shape.{Shape}
 use Rattle.value_file.specs.declared.value.Shape.TheVariants as shape
 use Rattle.value_file.specs.declared.value.Value.{Value}
-use Rattle.value_file.specs.declared.value.Value.TheVariants.{Number, Truth, Numbers, Truths}
+use Rattle.value_file.specs.declared.value.Value.TheVariants.{Number, Integer, Truth, Numbers, Integers, Truths}
 use Rattle.value_file.specs.declared.public.PublicValue.{PublicValue}
 use Rattle.value_file.specs.declared.public.PublicValue.TheVariants.{Known, Hidden}
 use Rattle.value_file.specs.declared.public.PublicEntry.{PublicEntry}
 use Rattle.value_file.specs.Values.{type_of, size_of}
 use Rattle.value_file.specs.Input.{AreEntries, new_name}
-use Rattle.value_file.specs.Public.{number_data, value_data, shape_data, type_data, entry_data, entry_data_of, part_data, part_bytes}
+use Rattle.value_file.specs.Public.{number_data, integer_data, value_data, shape_data, type_data, entry_data, entry_data_of, part_data, part_bytes}
 use Rattle.value_file.specs.PublicFile.{public_count, public_elements_of, public_name_of, read_public_of}
 use Rattle.value_file.proofs.RoundTrip.{read_public_of-written}
 use Rattle.input_share.specs.OfWords.{ArePublicRead, IsOfWords, IsShownOfWords}
+use Rattle.input_share.proofs.Elements.{shown_words}
 
 -- ---- DATA WHOSE TEXT IS READ AS THE DATA
 
@@ -53,6 +54,21 @@ record IsReadAgain (k : ℕ) (d : Data) : Type 0 where
 number_again : (n : ℕ) → n < 2 ^ 64 → IsReadAgain 0 (number_data n)
 number_again n h =
     record { shallow = omega arith; numbers = IsNumber-decimal n h; same = ap (option_map _) (number_of-decimal n h); text = IsUtf8-from_ascii _ (IsAscii-decimal n h) }
+
+negative_again : (n : ℕ) → n < 2 ^ 63 → IsReadAgain 0 (number (negative (negsuc n)))
+negative_again n h = record {
+  shallow = omega arith;
+  numbers = IsNumber-signed_decimal (negsuc n) h;
+  same = ap (option_map _) (number_of-negative n h);
+  text = IsUtf8-from_ascii _ (IsAscii-signed (negsuc n) h);
+}
+
+integer_again : (x : ℕ) → x < 2 ^ 64 → IsReadAgain 0 (integer_data x)
+integer_again x h = go (nat_lt x (2 ^ 63)) refl
+  where
+    go : (b : Bool) → nat_lt x (2 ^ 63) ≡ b → IsReadAgain 0 (integer_data x)
+    go true e = rw e (number_again x h)
+    go false e = rw e (negative_again (2 ^ 64 - suc x) (let high = ltb-false x (2 ^ 63) e in omega (arith, h, high)))
 
 truth_again : (b : Bool) → IsReadAgain 0 (boolean b)
 truth_again b = record { shallow = omega arith; numbers = tt; same = refl; text = IsUtf8-boolean b }
@@ -113,8 +129,10 @@ every_truth (b ∷ bs) = (tt, every_truth bs)
 
 value_again : (v : Value) → IsOfWords v → IsReadAgain 1 (value_data v)
 value_again (Number n) h = deeper _ (number_again n (h 0 0 (omega arith)))
+value_again (Integer x) h = deeper _ (integer_again x (h 0 0 (omega arith)))
 value_again (Truth b) h = deeper _ (truth_again b)
 value_again (Numbers ns) h = array_again 0 _ (items_again 0 number_data (λ n. n < 2 ^ 64) number_again ns (every (λ n. n < 2 ^ 64) ns h))
+value_again (Integers xs) h = array_again 0 _ (items_again 0 integer_data (λ x. x < 2 ^ 64) integer_again xs (every (λ x. x < 2 ^ 64) xs h))
 value_again (Truths bs) h = array_again 0 _ (items_again 0 boolean (λ b. Unit {0}) (λ b t. truth_again b) bs (every_truth bs))
 
 shape_again : (s : Shape) → size_of s ≤ 65536 → IsReadAgain 0 (shape_data s)
@@ -123,6 +141,7 @@ shape_again (shape.Array count) h = number_again count (omega (arith, h))
 
 type_again : (kind : DataType) → IsReadAgain 0 (type_data kind)
 type_again data_type.Uint64 = string_again _ (IsUtf8-are_ascii _ refl)
+type_again data_type.Int64 = string_again _ (IsUtf8-are_ascii _ refl)
 type_again data_type.Bool = string_again _ (IsUtf8-are_ascii _ refl)
 
 -- ---- members, whose keys are in order
@@ -229,3 +248,4 @@ part_is_read_again part good =
     (ap (json.value max_depth) (tokens-print (json_tokens j) (ArePrintable-json_tokens j again.numbers) ∙ sym (append-nil (json_tokens j)))
     ∙ value-json_tokens j max_depth [] (omega (arith, again.shallow))) ∙ again.same in
     read_public_of-written (compact_text (part_data part)) part again.text whole good.form
+    (λ k d h. shown_words _ (good.words k d h))

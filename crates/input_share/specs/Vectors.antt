@@ -6,7 +6,7 @@ use Rattle.bit_words.specs.Bits.{number_with, words_with}
 use Rattle.bit_words.specs.Gathered.{packed}
 use Rattle.value_file.specs.declared.value.DataType.TheVariants.{Bool}
 use Rattle.value_file.specs.declared.value.Domain.TheVariants.{Private}
-use Rattle.value_file.specs.declared.value.Value.TheVariants.{Truths}
+use Rattle.value_file.specs.declared.value.Value.TheVariants.{Integers, Truths}
 use Rattle.input_share.specs.Values.{shared_size, shared_words}
 use Rattle.input_share.specs.Dealing.{draws_for, share_of}
 use Rattle.input_share.specs.AddUp.{sums_of}
@@ -23,6 +23,10 @@ truth_left = refl
 three_packed : shared_words (Truths (true ∷ false ∷ true ∷ [])) ≡ 5 ∷ []
 unfolding packed words_with number_with
 three_packed = refl
+
+-- the numbers -1 and 3 in a word each
+two_with_a_sign : shared_words (Integers ((2 ^ 64 - 1) ∷ 3 ∷ [])) ≡ 18446744073709551615 ∷ 3 ∷ []
+two_with_a_sign = refl
 
 draws_of_65 : draws_for Private (shared_size Bool 65) ≡ 4
 draws_of_65 = refl

@@ -80,7 +80,7 @@ fn left_in(
     ensures { IfOk result (λ left. left.items ≡ left_of (ring_of data_type) elements.now first.now second.now) }
 {
     match data_type {
-        DataType::Uint64 => left::<AddRing>(alloc, elements, first, second),
+        DataType::Uint64 | DataType::Int64 => left::<AddRing>(alloc, elements, first, second),
         DataType::Bool => left::<XorRing>(alloc, elements, first, second),
     }
 }

@@ -22,14 +22,14 @@ fn bit_words(alloc: Global, bits: &[bool]) -> Result<Vec<u64>, AllocError>
     Ok(words)
 }
 
-/// The elements of a value, each as a word; a truth value is 0 or 1.
+/// The elements of a value, each as a word, a number with a sign by two's complement; a truth value is 0 or 1.
 pub fn elements(alloc: Global, value: &Value) -> Result<Vec<u64>, AllocError>
     ensures { IfOk result (λ elements. elements.items ≡ elements_of value.now) }
 {
     match value {
-        Value::Number(number) => [*number].as_slice().to_vec(alloc),
+        Value::Number(word) | Value::Integer(word) => [*word].as_slice().to_vec(alloc),
         Value::Truth(bit) => [bit_word(*bit)].as_slice().to_vec(alloc),
-        Value::Numbers(numbers) => numbers.as_slice().to_vec(alloc),
+        Value::Numbers(words) | Value::Integers(words) => words.as_slice().to_vec(alloc),
         Value::Truths(bits) => bit_words(alloc, bits.as_slice()),
     }
 }
@@ -40,8 +40,8 @@ pub fn count(value: &Value) -> usize
     ensures small { result < 2 ^ 63 }
 {
     match value {
-        Value::Number(_) | Value::Truth(_) => 1,
-        Value::Numbers(numbers) => numbers.as_slice().len(),
+        Value::Number(_) | Value::Integer(_) | Value::Truth(_) => 1,
+        Value::Numbers(words) | Value::Integers(words) => words.as_slice().len(),
         Value::Truths(bits) => bits.as_slice().len(),
     }
 }
@@ -55,7 +55,7 @@ pub fn shared_size(data_type: DataType, count: u64) -> u64
     ensures fewer { result ≤ count }
 {
     match data_type {
-        DataType::Uint64 => count,
+        DataType::Uint64 | DataType::Int64 => count,
         DataType::Bool => bit_words::words_for(count),
     }
 }
@@ -69,7 +69,7 @@ pub fn shared_as(
     ensures { IfOk result (λ words. words.items ≡ shared_as data_type elements.items) }
 {
     match data_type {
-        DataType::Uint64 => Ok(elements),
+        DataType::Uint64 | DataType::Int64 => Ok(elements),
         DataType::Bool => {
             if elements.len() > MOST_BITS {
                 return Err(AllocError);

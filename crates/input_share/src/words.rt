@@ -3,7 +3,9 @@ ghost use Rattle.std.specs.Prelude.{◌<◌, ◌^◌, length, All};
 ghost use Rattle.proto_core.specs.Lists.{AreWords};
 ghost use Rattle.input_share.specs.Values.{elements_of};
 ghost use Rattle.input_share.specs.AddUp.{HasWords};
+ghost use Rattle.input_share.specs.OfWords.{IsPartOfWords};
 
+use crate::entry::{Part, ShareEntry};
 use value_file::{Entry, Value};
 
 /// For proofs: from here on each of these words is known to be below 2^64, and so is how many they are. Nothing is changed or answered.
@@ -26,10 +28,10 @@ pub fn see_value(value: &Value)
     ensures { All (λ n. n < 2 ^ 64) (elements_of value.now) }
 {
     match value {
-        Value::Number(number) => {
-            let _number = *number;
+        Value::Number(word) | Value::Integer(word) => {
+            let _word = *word;
         }
-        Value::Numbers(numbers) => see_numbers(numbers.as_slice()),
+        Value::Numbers(words) | Value::Integers(words) => see_numbers(words.as_slice()),
         Value::Truth(_) => {}
         Value::Truths(_) => {}
     }
@@ -41,5 +43,23 @@ pub fn see_entries(entries: &[Entry])
 {
     for entry in entries {
         see_value(&entry.value);
+    }
+}
+
+fn see_part(part: &Part)
+    ensures { IsPartOfWords part.now }
+{
+    match part {
+        Part::Public(value) => see_value(value),
+        Part::Private(shared) => see_numbers(shared.words.as_slice()),
+    }
+}
+
+/// For proofs: from here on each word of a miner's entries is known to be below 2^64. Nothing is changed or answered.
+pub(crate) fn see_shares(entries: &[ShareEntry])
+    ensures { All (λ e. IsPartOfWords e.part) entries.now }
+{
+    for entry in entries {
+        see_part(&entry.part);
     }
 }

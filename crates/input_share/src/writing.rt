@@ -9,6 +9,7 @@ ghost use Rattle.input_share.specs.Written.{list_data, private_data, entry_data,
 
 use crate::entry::{Part, ShareEntry, Shared};
 use crate::share_file::ShareFile;
+use crate::words::see_shares;
 use serde_json::{Map, Value as Json, put};
 use std::alloc::{AllocError, Global};
 use value_file::{numbers_json, public_json, put_text, shape_json, type_word};
@@ -106,6 +107,7 @@ pub fn write_share(alloc: Global, file: &ShareFile) -> Result<Vec<u8>, AllocErro
     ensures read_again { IfOk result (λ bytes. AreWritable file.now.entries →
         read_share_of (number_of file.now.miner) bytes.items ≡ Ok file.now) }
 {
+    see_shares(file.entries());
     let bytes = file_json(alloc, file)?.to_vec(alloc)?;
     Ok(bytes)
 }

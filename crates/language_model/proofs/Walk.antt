@@ -30,7 +30,7 @@ use Rattle.reached_instances.specs.Operands.{Operands}
 use Rattle.reached_instances.specs.Operands.TheVariants.{Scalars}
 use Rattle.reached_instances.specs.Cast.{Cast}
 use Rattle.reached_instances.specs.Connective.{Connective}
-use Rattle.reached_instances.specs.TypedTree.{TypedTree, TypedTrees, word_node, truth_node, slot_node, call_node, size_node, cat_node, sum_node, bits_node}
+use Rattle.reached_instances.specs.TypedTree.{TypedTree, TypedTrees, word_node, truth_node, zero_node, slot_node, call_node, size_node, cat_node, sum_node, bits_node}
 use Rattle.reached_instances.specs.TypedTree.{lookup_node, element_node, not_node, cast_node, binary_node, cut_node, declassify_node}
 use Rattle.reached_instances.specs.TypedTree as Tree'
 use Rattle.reached_instances.specs.TypedStatements.{TypedStatementTree, TypedStatementTrees, empty_statement, block_statement, if_statement, loop_statement}
@@ -378,6 +378,7 @@ module _ (w w' : World) (P : (A : Type 0) → Effect A → Effect A → Type 0) 
       value_holds : (here : Setting) (e : TypedTree) (fr : Frame) → P _ (value w calls here e fr) (value w' calls' here e fr)
       value_holds here (word_node n) fr = law.on_done _
       value_holds here (truth_node b) fr = law.on_done _
+      value_holds here zero_node fr = law.on_done _
       value_holds here (slot_node k) fr = law.on_done _
       value_holds here (call_node line k es) fr =
           let bs = bound_at (slice_get here.functions k) (domains here es) in

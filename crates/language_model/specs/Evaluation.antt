@@ -13,7 +13,7 @@ use Rattle.reached_instances.specs.BinaryOperator.TheVariants as binary
 use Rattle.reached_instances.specs.Operands.TheVariants.{Scalars}
 use Rattle.reached_instances.specs.Connective.{Connective}
 use Rattle.reached_instances.specs.Connective.TheVariants.{AndAlso, OrElse}
-use Rattle.reached_instances.specs.TypedTree.{TypedTree, TypedTrees, word_node, truth_node, slot_node, call_node, size_node, cat_node, sum_node, bits_node, lookup_node}
+use Rattle.reached_instances.specs.TypedTree.{TypedTree, TypedTrees, word_node, truth_node, zero_node, slot_node, call_node, size_node, cat_node, sum_node, bits_node, lookup_node}
 use Rattle.reached_instances.specs.TypedTree.{element_node, not_node, cast_node, binary_node, cut_node, declassify_node}
 use Rattle.reached_instances.specs.TypedTree as Tree'
 use Rattle.reached_instances.specs.TypedStatements.{TypedStatementTree, TypedStatementTrees, empty_statement, block_statement, if_statement, loop_statement}
@@ -142,6 +142,7 @@ unfoldable mutual
   pub value : World → Calls → Setting → TypedTree → Frame → Effect Value
   value w calls here (word_node n) fr = done (plain (shape_of Uint64 false) (n ∷ []))
   value w calls here (truth_node b) fr = done (truth_value b)
+  value w calls here zero_node fr = done (plain (shape_of Int64 false) (0 ∷ []))
   value w calls here (slot_node k) fr = done (fr k)
   value w calls here (call_node line k es) fr = do
     xs ← arguments w calls here (bound_at (slice_get here.functions k) (domains here es)) (slots_of (slice_get here.functions k)) es fr

@@ -1,5 +1,5 @@
 -- What a run computes with.
-use Rattle.std.specs.Prelude.{ℕ, Bool, true, false, not, ◌==◌, ◌-◌, ◌^◌, nat_lt, if◌then◌else◌, List, [], ◌∷◌, Option, Some, None, length, map}
+use Rattle.std.specs.Prelude.{ℕ, Bool, true, false, not, ◌==◌, ◌&&◌, ◌-◌, ◌^◌, nat_le, nat_lt, if◌then◌else◌, List, [], ◌∷◌, Option, Some, None, length, map}
 use Rattle.sc_text.specs.declared.elements.Element.{Element}
 use Rattle.sc_text.specs.declared.elements.Element.TheVariants.{Word, Negative, Truth}
 use Rattle.program_trees.specs.declared.expression.DataType.{DataType}
@@ -77,7 +77,7 @@ gate_size datatype.Bool n = words_for n
 
 -- a number with a sign, by its word, as it is printed
 abbrev pub signed_element : ℕ → Element
-signed_element x = if nat_lt x (2 ^ 63) then Word x else Negative (2 ^ 64 - x)
+signed_element x = if nat_le (2 ^ 63) x && nat_lt x (2 ^ 64) then Negative (2 ^ 64 - x) else Word x
 
 -- as it is printed
 abbrev pub element_of : DataType → ℕ → Element

@@ -3,7 +3,7 @@ use Rattle.std.proofs.Common.{◌≡◌, ℕ, zero, suc, ◌+◌, ◌<◌, ◌�
 use Rattle.std.proofs.Common.{Option, Some, Bool, true, false, refl, sym, ap, ◌∙◌, subst}
 use Rattle.std.proofs.Common.{arith}
 use Rattle.std.specs.Prelude.{slice_get, max}
-use Rattle.program_trees.specs.declared.expression.DataType.TheVariants.{Uint64}
+use Rattle.program_trees.specs.declared.expression.DataType.TheVariants.{Uint64, Int64}
 use Rattle.program_trees.specs.declared.expression.DataType.TheVariants as datatype
 use Rattle.program_trees.specs.declared.kinds.Shape.{Shape}
 use Rattle.program_trees.specs.declared.kinds.Slot.{Slot}
@@ -13,8 +13,8 @@ use Rattle.program_trees.specs.declared.operators.Operands.{Operands}
 use Rattle.program_trees.specs.declared.operators.Operands.TheVariants.{Scalars}
 use Rattle.program_trees.specs.declared.operators.Connective.{Connective}
 use Rattle.program_trees.specs.Shapes.{shape_of}
-use Rattle.program_trees.specs.TypedTree.{TypedTree, TypedTrees, word_node, truth_node, slot_node, call_node, size_node, cat_node, sum_node, bits_node, element_node}
-use Rattle.program_trees.specs.TypedTree.{not_node, cast_node, binary_node, cut_node, declassify_node}
+use Rattle.program_trees.specs.TypedTree.{TypedTree, TypedTrees, word_node, truth_node, zero_node, slot_node, call_node, size_node, cat_node, sum_node, bits_node}
+use Rattle.program_trees.specs.TypedTree.{lookup_node, element_node, not_node, cast_node, binary_node, cut_node, declassify_node}
 use Rattle.program_trees.specs.TypedTree as Tree'
 use Rattle.program_trees.specs.TypedPrograms.{TypedFunctionTree}
 use Rattle.reached_instances.specs.declared.instance.BoundDomain.{BoundDomain}
@@ -24,14 +24,15 @@ use Rattle.language_model.specs.Operations.{cast_shape}
 use Rattle.language_model.specs.Words.{truth_word}
 use Rattle.language_model.specs.Evaluation.{is_private, gives_private, slots_of, bound_at, connective, shape_at, either}
 use Rattle.bytecode.specs.declared.kind.Kind.{Kind}
+use Rattle.verified_code.specs.Fitting.{may_be_literal}
 use Rattle.verified_code.specs.Steps.{Step, Function, Not, Cast, Size, Sum, Bits, Declassify, Call}
 use Rattle.code_model.specs.Fit.{IsFit, AreFit}
 use Rattle.code_model.specs.Kinds.{depth, depths, kind_of, slot_kind, shape_in, kind_in, private_kind_in, truth_kind, in_row}
 use Rattle.code_model.specs.Kinded.{HasKind, ResultFits, left_array, right_array}
 use Rattle.code_model.specs.Expressions.{Numbers, result_at, classifying, lacks, own_at, classified_at, stands_at, next_row, binary_code, cut_code}
 use Rattle.code_model.specs.Expressions.{expression_code}
-use Rattle.code_model.specs.Expressions.{expression_code}
 use Rattle.code_model.specs.Expressions.{arguments_code, arguments_places, unread_code}
+use Rattle.code_model.specs.Statements.{shape_number}
 use Rattle.code_model.specs.Programs.{code_of_found}
 use Rattle.code_model.proofs.Widths.{depth_some}
 use Rattle.code_model.specs.Right.{kind, operand_element, AreOf, IsRight}
@@ -39,8 +40,8 @@ use Rattle.well_typed.specs.Kinds.{scalar, operand_of, left_is_array, right_is_a
 use Rattle.well_typed.specs.Expressions.{Gives, AreTaken}
 use Rattle.lowered_code.proofs.Standing.{clash, HasRows, row_first, rows_left, rows_second}
 use Rattle.lowered_code.proofs.Standing.{AllRight, both_right, either_right, lacking_right, picked_kind}
-use Rattle.lowered_code.proofs.Shapes.{shape_is, goes_may, left_may, right_may, operand_is, left_is, right_is, source_is, cast_kind}
-use Rattle.lowered_code.proofs.Rows.{within_left, within_right, RightAt, binary_right, cat_right, element_right, cut_right}
+use Rattle.lowered_code.proofs.Shapes.{shape_is, goes_may, left_may, right_may, operand_is, left_is, right_is, number_is}
+use Rattle.lowered_code.proofs.Rows.{within_left, within_right, RightAt, binary_right, cat_right, lookup_right, element_right, cut_right}
 use Rattle.lowered_code.proofs.Calling.{parameters_of, first_kinds, result_fits, unread_fits}
 
 module _ (number : Numbers) (c : List Function) (ks : List Kind) (gives : Option Kind) (count : ℕ) (here : Setting) where
@@ -57,7 +58,12 @@ module _ (number : Numbers) (c : List Function) (ks : List Kind) (gives : Option
   abbrev pub SlotsStand : Type 0
   SlotsStand = (k : ℕ) (s : Slot) → slice_get here.slots k ≡ Some s → HasKind ks k (slot_kind here.binding s)
 
-  module _ (Known : ℕ → List BoundDomain → Type 0) (known : (k : ℕ) (b : List BoundDomain) → Known k b → IsCallee k b) (slots : SlotsStand) where
+  -- after the slots, one register of each shape
+  abbrev pub DefaultsStand : Type 0
+  DefaultsStand = (s : Shape) → 0 < length here.slots → HasKind ks (length here.slots + shape_number s) (kind_of false s)
+
+  module _ (Known : ℕ → List BoundDomain → Type 0) (known : (k : ℕ) (b : List BoundDomain) → Known k b → IsCallee k b) (slots : SlotsStand)
+      (defaults : DefaultsStand) where
     -- the registers of a node's value and of its classification, where its rows stand
     own_kind : (t : ℕ) (e : TypedTree) → HasRows ks t (depth e) → HasKind ks (own_at here e t) (kind_in here e)
     own_kind t e h = row_first (kind_in here e) (depth_some e) h
@@ -96,11 +102,13 @@ module _ (number : Numbers) (c : List Function) (ks : List Kind) (gives : Option
         slots k h.0 h.1 ∙ sym (ap (λ o. Some (kind_of (is_private (slot_domain here.binding o)) (shape_at o))) h.1)
     read_kind t (word_node n) s h stands = own_kind t (word_node n) stands
     read_kind t (truth_node b) s h stands = own_kind t (truth_node b) stands
+    read_kind t zero_node s h stands = defaults (shape_of Int64 false) h.0
     read_kind t (call_node line k es) s h stands = own_kind t (call_node line k es) stands
     read_kind t (size_node e) s h stands = own_kind t (size_node e) stands
     read_kind t (cat_node line a b) s h stands = own_kind t (cat_node line a b) stands
     read_kind t (sum_node e) s h stands = own_kind t (sum_node e) stands
     read_kind t (bits_node line e) s h stands = own_kind t (bits_node line e) stands
+    read_kind t (lookup_node line a i) s h stands = own_kind t (lookup_node line a i) stands
     read_kind t (element_node line a i) s h stands = own_kind t (element_node line a i) stands
     read_kind t (not_node e) s h stands = own_kind t (not_node e) stands
     read_kind t (cast_node c e) s h stands = own_kind t (cast_node c e) stands
@@ -180,12 +188,13 @@ module _ (number : Numbers) (c : List Function) (ks : List Kind) (gives : Option
 
     mutual
       pub expression_right : (e : TypedTree) (s : Shape) → Gives here e (Some s) → IsFit Known here e → ExpressionRight e
-      expression_right (word_node n) s h f t pc stands l = ((own_kind t (word_node n) stands, λ e. cc), tt)
-      expression_right (truth_node b) s h f t pc stands l = ((own_kind t (truth_node b) stands, λ e. truth_below b), tt)
+      expression_right (word_node n) s h f t pc stands l = ((own_kind t (word_node n) stands, refl), tt)
+      expression_right (truth_node b) s h f t pc stands l = ((own_kind t (truth_node b) stands, truth_there b), tt)
         where
-          truth_below : (b : Bool) → truth_word b < 2
-          truth_below true = omega arith
-          truth_below false = omega arith
+          truth_there : (b : Bool) → may_be_literal datatype.Bool (truth_word b) ≡ true
+          truth_there true = refl
+          truth_there false = refl
+      expression_right zero_node s h f t pc stands l = tt
       expression_right (slot_node k) s h f t pc stands l = tt
       expression_right (call_node line k es) s h f t pc stands l =
           let o = slice_get here.functions k in
@@ -215,11 +224,34 @@ module _ (number : Numbers) (c : List Function) (ks : List Kind) (gives : Option
           (private_at (classified_at here a t) a _ h.1 (classified_kind t a left)) (private_at (classified_at here b u) b _ h.2 (classified_kind u b right))
           (subst (λ z. HasKind ks d (kind_of g z)) (shape_is here a _ h.1) (own_kind t (cat_node line a b) stands)) l
       expression_right (sum_node e) s h f t pc stands l =
-          behind_one t pc e (Sum (own_at here (sum_node e) t) (stands_at here e t)) (expression_right e _ h.0 f t pc stands)
-          (gives_private here e, value_read t e _ h.0 stands, own_kind t (sum_node e) stands) l
+          let d = own_at here (sum_node e) t in
+          behind_one t pc e (Sum d (stands_at here e t)) (expression_right e _ h.1 f t pc stands) (
+            gives_private here e,
+            h.0,
+            number_is h.0 h.2,
+            value_read t e _ h.1 stands,
+            subst (λ (z : Shape). HasKind ks d (kind_of (gives_private here e) (shape_of z.element false))) (shape_is here e _ h.1)
+                (own_kind t (sum_node e) stands),
+          ) l
       expression_right (bits_node line e) s h f t pc stands l =
           behind_one t pc e (Bits line (own_at here (bits_node line e) t) (stands_at here e t)) (expression_right e _ h.1 f t pc stands)
           (gives_private here e, h.0, value_read t e _ h.1 stands, own_kind t (bits_node line e) stands) l
+      expression_right (lookup_node line a i) s h f t pc stands l =
+          let u = next_row t in
+          let d = own_at here (lookup_node line a i) t in
+          let m = classified_at here a t in
+          let n = classified_at here i u in
+          let left = left_of a i stands in
+          let right = right_of a i stands in
+          let same = shape_is here (lookup_node line a i) (shape_of h.0 h.1) (h.0, h.1, h.2, h.3, h.4, h.5, h.6, refl) in
+          lookup_right c ks gives count d m n (stands_at here a t) (stands_at here i u) pc line (gives_private here a) (gives_private here i) h.0 h.1
+          (expression_code number here t pc a) (λ p. expression_code number here u p i) h.4
+          (expression_right a _ h.2 f.0 t pc left)
+          (λ p. expression_right i _ h.3 f.1 u p right)
+          (value_read t a _ h.2 left) (value_read u i _ h.3 right)
+          (private_at m a _ h.2 (classified_kind t a left)) (private_at n i _ h.3 (classified_kind u i right))
+          (subst (λ g. HasKind ks d (kind_of g (shape_of h.0 h.1))) h.6
+          (subst (λ z. HasKind ks d (kind_of (gives_private here (lookup_node line a i)) z)) same (own_kind t (lookup_node line a i) stands))) l
       expression_right (element_node line a i) s h f t pc stands l =
           let first = left_of a i stands in
           let second = right_of a i stands in
@@ -248,9 +280,8 @@ module _ (number : Numbers) (c : List Function) (ks : List Kind) (gives : Option
           behind_one t pc e (Cast x d r) (expression_right e _ h.1 f t pc stands) (
             g,
             h.0,
-            subst (λ z. HasKind ks r (kind g z h.0)) (source_is x) (value_read t e _ h.1 stands),
-            subst (λ (z : Shape). HasKind ks d (kind_of g (cast_shape x z.array))) (shape_is here e _ h.1) (own_kind t (cast_node x e) stands)
-                ∙ ap Some (cast_kind x g h.0),
+            value_read t e _ h.1 stands,
+            subst (λ (z : Shape). HasKind ks d (kind_of g (cast_shape x z.array))) (shape_is here e _ h.1) (own_kind t (cast_node x e) stands),
           ) l
       expression_right (binary_node line op ds a b) s h f t pc stands l =
           let u = next_row t in
@@ -322,11 +353,14 @@ module _ (number : Numbers) (c : List Function) (ks : List Kind) (gives : Option
         (unread_fits number here.functions ks d o ds (own_kind t (call_node line k es) stands)) all.1 all.0 l
     unread_right (word_node n) o h f t pc stands l = expression_right (word_node n) _ (h.0, refl) f t pc stands l
     unread_right (truth_node b) o h f t pc stands l = expression_right (truth_node b) _ refl f t pc stands l
+    unread_right zero_node o h f t pc stands l = expression_right zero_node _ (h.0, refl) f t pc stands l
     unread_right (slot_node k) o h f t pc stands l = expression_right (slot_node k) _ (h.0, h.1, refl) f t pc stands l
     unread_right (size_node e) o h f t pc stands l = expression_right (size_node e) _ (h.0, h.1, refl) f t pc stands l
     unread_right (cat_node line a b) o h f t pc stands l = expression_right (cat_node line a b) _ (h.0, h.1, h.2, h.3, refl) f t pc stands l
-    unread_right (sum_node e) o h f t pc stands l = expression_right (sum_node e) _ (h.0, refl) f t pc stands l
+    unread_right (sum_node e) o h f t pc stands l = expression_right (sum_node e) _ (h.0, h.1, h.2, refl) f t pc stands l
     unread_right (bits_node line e) o h f t pc stands l = expression_right (bits_node line e) _ (h.0, h.1, refl) f t pc stands l
+    unread_right (lookup_node line a i) o h f t pc stands l =
+        expression_right (lookup_node line a i) _ (h.0, h.1, h.2, h.3, h.4, h.5, h.6, refl) f t pc stands l
     unread_right (element_node line a i) o h f t pc stands l = expression_right (element_node line a i) _ (h.0, h.1, h.2, h.3, refl) f t pc stands l
     unread_right (not_node e) o h f t pc stands l = expression_right (not_node e) _ (h.0, h.1, refl) f t pc stands l
     unread_right (cast_node x e) o h f t pc stands l = expression_right (cast_node x e) _ (h.0, h.1, refl) f t pc stands l

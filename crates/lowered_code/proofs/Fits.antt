@@ -6,8 +6,8 @@ use Rattle.program_trees.specs.declared.kinds.Shape.{Shape}
 use Rattle.program_trees.specs.declared.kinds.Slot.{Slot}
 use Rattle.program_trees.specs.declared.typed_function.Returned.{Returned}
 use Rattle.program_trees.specs.declared.typed_function.Returned.TheVariants.{Nothing, Value}
-use Rattle.program_trees.specs.TypedTree.{TypedTree, TypedTrees, word_node, truth_node, slot_node, call_node, size_node, cat_node, sum_node, bits_node, element_node}
-use Rattle.program_trees.specs.TypedTree.{not_node, cast_node, binary_node, cut_node, declassify_node}
+use Rattle.program_trees.specs.TypedTree.{TypedTree, TypedTrees, word_node, truth_node, zero_node, slot_node, call_node, size_node, cat_node, sum_node, bits_node}
+use Rattle.program_trees.specs.TypedTree.{lookup_node, element_node, not_node, cast_node, binary_node, cut_node, declassify_node}
 use Rattle.program_trees.specs.TypedTree as Tree'
 use Rattle.program_trees.specs.TypedStatements.{TypedStatementTree, TypedStatementTrees, empty_statement, block_statement, if_statement, loop_statement, do_statement}
 use Rattle.program_trees.specs.TypedStatements.{break_statement, continue_statement, return_statement, assert_statement, store_statement, default_statement}
@@ -55,6 +55,7 @@ module _ (here : Setting) where
     expression_fits : (e : TypedTree) (g : Option Shape) → Gives here e g → IsFit There here e
     expression_fits (word_node n) g h = tt
     expression_fits (truth_node b) g h = tt
+    expression_fits zero_node g h = h.0
     expression_fits (slot_node k) g h = slice_get_within here.slots k h.0 h.1
     expression_fits (call_node line k es) g h =
         let ds = domains here es in (
@@ -64,8 +65,9 @@ module _ (here : Setting) where
         )
     expression_fits (size_node e) g h = expression_fits e _ h.1
     expression_fits (cat_node line a b) g h = (expression_fits a _ h.1, expression_fits b _ h.2)
-    expression_fits (sum_node e) g h = expression_fits e _ h.0
+    expression_fits (sum_node e) g h = expression_fits e _ h.1
     expression_fits (bits_node line e) g h = expression_fits e _ h.1
+    expression_fits (lookup_node line a i) g h = (expression_fits a _ h.2, expression_fits i _ h.3, h.6)
     expression_fits (element_node line a i) g h = (expression_fits a _ h.1, expression_fits i _ h.2)
     expression_fits (not_node e) g h = expression_fits e _ h.1
     expression_fits (cast_node c e) g h = expression_fits e _ h.1

@@ -5,7 +5,7 @@ use Rattle.std.specs.Prelude.{nat_eq}
 use Rattle.program_trees.specs.Tree.{Tree, Trees, number, truth, variable, call, index, parentheses, negation, cast, binary, declassify, argument, publish}
 use Rattle.program_trees.specs.Tree as Tree'
 use Rattle.domain_types.specs.BuiltIn.{BuiltIn}
-use Rattle.domain_types.specs.BuiltIn.TheVariants.{Size, Cat, Sum, BitExtract}
+use Rattle.domain_types.specs.BuiltIn.TheVariants.{Size, Cat, Sum, BitExtract, Lookup}
 use Rattle.domain_types.specs.Declarations.{Declared, Callee, built_in, defined, callee}
 use Rattle.program_trees.specs.declared.operators.BinaryOperator.{BinaryOperator}
 use Rattle.program_trees.specs.declared.operators.Connective.{Connective}
@@ -46,6 +46,11 @@ built_in_width line Sum (a ∷ b ∷ vs) v e = cc
 built_in_width line BitExtract [] v e = cc
 built_in_width line BitExtract (a ∷ []) v e = subst (λ (z : TypedValue). width z.tree ≤ 1 + (1 + width a.tree + 0)) (some_is _ v e) (omega arith)
 built_in_width line BitExtract (a ∷ b ∷ vs) v e = cc
+built_in_width line Lookup [] v e = cc
+built_in_width line Lookup (a ∷ []) v e = cc
+built_in_width line Lookup (a ∷ i ∷ []) v e =
+    subst (λ (z : TypedValue). width z.tree ≤ 1 + (1 + width a.tree + (1 + width i.tree + 0))) (some_is _ v e) (omega arith)
+built_in_width line Lookup (a ∷ i ∷ c ∷ vs) v e = cc
 
 pub called_width : (line : ℕ) (k : Callee) (vs : List TypedValue) (c : TypedCall) → called line k vs ≡ Some c → width c.tree ≤ 1 + all_widths vs
 called_width line (built_in b) vs c e =

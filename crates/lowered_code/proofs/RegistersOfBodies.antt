@@ -2,7 +2,7 @@
 use Rattle.std.proofs.Common.{◌≡◌, ℕ, ◌+◌, ◌≤◌, List, [], ◌∷◌, length, Option, Some, None, refl, ap, subst, arith, length-append}
 use Rattle.std.specs.Prelude.{option_map}
 use Rattle.program_trees.specs.declared.expression.DataType.{DataType}
-use Rattle.program_trees.specs.declared.expression.DataType.TheVariants.{Uint64}
+use Rattle.program_trees.specs.declared.expression.DataType.TheVariants.{Uint64, Int64}
 use Rattle.program_trees.specs.declared.expression.DataType.TheVariants as datatype
 use Rattle.program_trees.specs.declared.statement.Identifier.{Identifier}
 use Rattle.program_trees.specs.declared.statement.DeclaredType.{DeclaredType}
@@ -169,6 +169,7 @@ from_value_takes d k (publish p x e) = store_takes d k (publish p x e)
 
 default_width : (element : DataType) → width (default_of element) ≡ 1
 default_width Uint64 = refl
+default_width Int64 = refl
 default_width datatype.Bool = refl
 
 abbrev twice : ℕ → ℕ

@@ -93,7 +93,7 @@ written_at source p resolved k t e =
 
 -- ---- REGISTERS
 
-few_defaults : (ss : List Slot) → length (defaults_behind ss) ≤ 4
+few_defaults : (ss : List Slot) → length (defaults_behind ss) ≤ 6
 few_defaults [] = omega arith
 few_defaults (s ∷ ss) = omega arith
 
@@ -102,7 +102,7 @@ one_last b Nothing = omega arith
 one_last b (Value s) = omega arith
 
 pub own_registers : (number : Numbers) (fs : List TypedFunctionTree) (f : TypedFunctionTree) (b : List BoundDomain) → length (function_code number fs f b).kinds
-    ≤ 8 * statements_depth f.body + length f.slots + 5
+    ≤ 12 * statements_depth f.body + length f.slots + 7
 own_registers number fs f b =
     let slots = map (slot_kind b) f.slots in
     let body = rows_kinds (statements_depth f.body) in
@@ -127,7 +127,7 @@ uncounted n h = go (nat_le n 4294967295) refl
         large : 4294967296 ≤ n → ⊥
         large l = let same = min-eq_right (let k : 4294967295 ≤ n = omega (arith, l) in k) in omega (arith, same, h)
 
-sized_few : (f : FunctionTree) (t : TypedFunctionTree) → IsSized f t → t.size ≤ 4095 → 8 * statements_depth t.body + length t.slots + 5 ≤ nowhere
+sized_few : (f : FunctionTree) (t : TypedFunctionTree) → IsSized f t → t.size ≤ 4095 → 12 * statements_depth t.body + length t.slots + 7 ≤ nowhere
 sized_few f t s h =
     let size = s.size in
     let own : counted (function_nodes f) ≤ 4095 = subst (λ n. n ≤ 4095) size h in

@@ -15,15 +15,16 @@ use Rattle.language_model.specs.Words.{truth_word}
 use Rattle.language_model.specs.Operations.{is_product, result_shape}
 use Rattle.language_model.specs.Evaluation.{is_private}
 use Rattle.bytecode.specs.declared.kind.Kind.{Kind}
-use Rattle.verified_code.specs.Steps.{Step, Function, Literal, Move, Binary, Cat, At, Branch, Jump}
+use Rattle.verified_code.specs.Fitting.{may_be_literal}
+use Rattle.verified_code.specs.Steps.{Step, Function, Literal, Move, Binary, Cat, Lookup, At, Branch, Jump}
 use Rattle.code_model.specs.Fit.{MayStand}
 use Rattle.code_model.specs.Kinds.{kind_of}
 use Rattle.code_model.specs.Kinded.{HasKind, left_array, right_array, public_scalar}
-use Rattle.code_model.specs.Expressions.{classifying, picked, lacks, mixes, binary_code, cat_code, element_code, deciding, settling, cut_code}
+use Rattle.code_model.specs.Expressions.{classifying, picked, lacks, mixes, binary_code, cat_code, lookup_code, element_code, deciding, settling, cut_code}
 use Rattle.code_model.specs.Right.{kind, operand_element, IsRight}
-use Rattle.well_typed.specs.Kinds.{MayOperate}
+use Rattle.well_typed.specs.Kinds.{IsNumber, MayOperate}
 use Rattle.lowered_code.proofs.Standing.{clash, AllRight, both_right, classifying_right, lacking_right, picked_kind}
-use Rattle.lowered_code.proofs.Shapes.{joined_private, private_allowed, behind_mixing, mixed_or, secrecy_fits}
+use Rattle.lowered_code.proofs.Shapes.{joined_private, number_is, private_allowed, operator_there, behind_mixing, mixed_or, secrecy_fits}
 
 mixing_public : (op : BinaryOperator) (ga gb : Bool) → mixes op ga gb ≡ true → ga ≡ false
 mixing_public op ga gb h = go (is_product op) ga gb h
@@ -79,6 +80,7 @@ module _ (c : List Function) (ks : List Kind) (gives : Option Kind) (count : ℕ
         behind_mixing op gb ga,
         picked_or (mixes op ga gb) ga e (left_array ds) m v ha h1,
         picked_or (mixes op gb ga) gb e (right_array ds) n u hb h2,
+        operator_there op (joined_domain da db) may,
         secrecy_fits op ga gb (λ p. private_allowed op (joined_domain da db) may (joined_private da db ∙ p)),
         subst (λ g. HasKind ks d (kind_of g (result_shape op ds))) (joined_private da db ∙ sym (mixed_or op ga gb)) h,
       ) in
@@ -112,6 +114,31 @@ module _ (c : List Function) (ks : List Kind) (gives : Option Kind) (count : ℕ
       (both_right c ks gives count (cb q) _ (rb q (within_left count q (cb q) rest (within_right count p q cl (cb q ++ rest) refl behind)))
       (both_right c ks gives count (classifying (lacks g gb) n u) _ (lacking_right c ks gives count g gb (shape_of e true) n u hb h2) (last, tt))))
 
+  -- both operands, and then the classification of each that is public
+  pub lookup_right : (d m n v u pc line : ℕ) (ga gb : Bool) (e : DataType) (x : Bool) (ca : List Step) (cb : ℕ → List Step) → IsNumber e
+      → RightAt pc ca → RightAnywhere cb → HasKind ks v (kind ga e true) → HasKind ks u (kind gb Uint64 x) → HasKind ks m (kind true e true)
+      → HasKind ks n (kind true Uint64 x) → HasKind ks d (kind true e x)
+      → RightAt pc (lookup_code d m n v u pc line (lacks true ga) (lacks true gb) ca cb)
+  lookup_right d m n v u pc line ga gb e x ca cb number ra rb ha hb h1 h2 h l =
+      let cl = classifying (lacks true ga) m v in
+      let cr = classifying (lacks true gb) n u in
+      let a = picked (lacks true ga) m v in
+      let b = picked (lacks true gb) n u in
+      let last : IsRight c ks gives count (Lookup line d a b) = (
+        e,
+        x,
+        number_is e number,
+        picked_kind c ks gives count true ga (shape_of e true) m v (λ _. refl) ha h1,
+        picked_kind c ks gives count true gb (shape_of Uint64 x) n u (λ _. refl) hb h2,
+        h,
+      ) in
+      let p = pc + length ca in
+      let rest = cl ++ (cr ++ Lookup line d a b ∷ []) in
+      both_right c ks gives count ca _ (ra (within_left count pc ca (cb p ++ rest) l))
+      (both_right c ks gives count (cb p) _ (rb p (within_left count p (cb p) rest (within_right count pc p ca (cb p ++ rest) refl l)))
+      (both_right c ks gives count cl _ (lacking_right c ks gives count true ga (shape_of e true) m v ha h1)
+      (both_right c ks gives count cr _ (lacking_right c ks gives count true gb (shape_of Uint64 x) n u hb h2) (last, tt))))
+
   pub element_right : (t v u pc line : ℕ) (g : Bool) (e : DataType) (ca : List Step) (cb : ℕ → List Step) → RightAt pc ca → RightAnywhere cb
       → HasKind ks v (kind g e true) → HasKind ks u (public_scalar Uint64) → HasKind ks t (kind g e false) → RightAt pc (element_code t v u pc line ca cb)
   element_right t v u pc line g e ca cb ra rb ha hi h l =
@@ -125,9 +152,9 @@ module _ (c : List Function) (ks : List Kind) (gives : Option Kind) (count : ℕ
   settling_right true t r h k = (datatype.Bool, false, h, k)
   settling_right false t r h k = (kind false datatype.Bool false, h, k)
 
-  deciding_below : (x : Connective) → truth_word (deciding x) < 2
-  deciding_below AndAlso = omega arith
-  deciding_below OrElse = omega arith
+  deciding_there : (x : Connective) → may_be_literal datatype.Bool (truth_word (deciding x)) ≡ true
+  deciding_there AndAlso = refl
+  deciding_there OrElse = refl
 
   pub cut_right : (d q v u pc : ℕ) (x : Connective) (g : Bool) (ca : List Step) (cb : ℕ → List Step) → RightAt pc ca → RightAnywhere cb
       → HasKind ks v (kind false datatype.Bool false) → HasKind ks u (kind g datatype.Bool false) → HasKind ks q (kind false datatype.Bool false)
@@ -145,5 +172,5 @@ module _ (c : List Function) (ks : List Kind) (gives : Option Kind) (count : ℕ
       both_right c ks gives count ca _ (ra own) (
         (ha, branch),
         both_right c ks gives count (cb pb) last (rb pb second)
-            ((kind g datatype.Bool false, hb, h), (jump, ((h1, λ e. deciding_below x), (settling_right g d q h1 h, tt)))),
+            ((kind g datatype.Bool false, hb, h), (jump, ((h1, deciding_there x), (settling_right g d q h1 h, tt)))),
       )

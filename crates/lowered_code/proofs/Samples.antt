@@ -3,7 +3,7 @@ use Rattle.std.proofs.Common.{◌≡◌, ℕ, zero, suc, ◌≤◌, length, List
 use Rattle.std.specs.Prelude.{codes, slice_get}
 use Rattle.std.proofs.lemmas.Option.{none-some, same_Some}
 use Rattle.sc_text.specs.Lists.{Among}
-use Rattle.program_trees.specs.declared.expression.DataType.TheVariants.{Uint64}
+use Rattle.program_trees.specs.declared.expression.DataType.TheVariants.{Uint64, Int64}
 use Rattle.program_trees.specs.declared.expression.DataType.TheVariants as datatype
 use Rattle.program_trees.specs.declared.kinds.SlotDomain.TheVariants as slot
 use Rattle.program_trees.specs.declared.typed_function.Returned.TheVariants.{Nothing, Value}
@@ -138,16 +138,20 @@ private_word = record { secret = true; element = Uint64; array = false }
 abbrev word_kind : Kind
 word_kind = record { secret = false; element = Uint64; array = false }
 
+abbrev signed_kind : Kind
+signed_kind = record { secret = false; element = Int64; array = false }
+
 abbrev default_registers : List Kind → List Kind
 default_registers more =
-    word_kind ∷ record { secret = false; element = Uint64; array = true } ∷ record { secret = false; element = datatype.Bool; array = false }
-    ∷ record { secret = false; element = datatype.Bool; array = true } ∷ more
+    word_kind ∷ record { secret = false; element = Uint64; array = true } ∷ signed_kind ∷ record { secret = false; element = Int64; array = true }
+    ∷ record { secret = false; element = datatype.Bool; array = false } ∷ record { secret = false; element = datatype.Bool; array = true } ∷ more
 
 -- the registers of one row
 abbrev a_row : List Kind → List Kind
 a_row more =
-    default_registers (private_word ∷ record { secret = true; element = Uint64; array = true }
-    ∷ record { secret = true; element = datatype.Bool; array = false } ∷ record { secret = true; element = datatype.Bool; array = true } ∷ more)
+    default_registers (private_word ∷ record { secret = true; element = Uint64; array = true } ∷ record { secret = true; element = Int64; array = false }
+    ∷ record { secret = true; element = Int64; array = true } ∷ record { secret = true; element = datatype.Bool; array = false }
+    ∷ record { secret = true; element = datatype.Bool; array = true } ∷ more)
 
 sample_code : RawCode
 sample_code =
@@ -157,12 +161,12 @@ sample_code =
         parameters = 0;
         gives = None;
         registers = private_word ∷ default_registers (a_row []);
-        body = raw.Argument 9 0 1 ∷ raw.Store 0 9 ∷ raw.Call 1 9 (0 ∷ []) 1 ∷ raw.Declassify 5 9 ∷ raw.Publish 1 5 ∷ raw.ReturnNone ∷ [];
+        body = raw.Argument 13 0 1 ∷ raw.Store 0 13 ∷ raw.Call 1 13 (0 ∷ []) 1 ∷ raw.Declassify 7 13 ∷ raw.Publish 1 7 ∷ raw.ReturnNone ∷ [];
       } ∷ record {
         parameters = 1;
         gives = Some private_word;
         registers = private_word ∷ default_registers (a_row (a_row (private_word ∷ [])));
-        body = raw.Literal 13 1 ∷ raw.Classify 17 13 ∷ raw.Binary 0 9 0 17 1 ∷ raw.Return 9 ∷ raw.Return 21 ∷ [];
+        body = raw.Literal 19 1 ∷ raw.Classify 25 19 ∷ raw.Binary 0 13 0 25 1 ∷ raw.Return 13 ∷ raw.Return 31 ∷ [];
       } ∷ [];
     }
 

@@ -7,7 +7,7 @@ use Rattle.std.proofs.Math.Nat.{le-max_left, le-max_right}
 use Rattle.std.proofs.lemmas.Option.{none-some, same_Some}
 use Rattle.sc_text.specs.Lists.{Among}
 use Rattle.program_trees.specs.declared.expression.DataType.{DataType}
-use Rattle.program_trees.specs.declared.expression.DataType.TheVariants.{Uint64}
+use Rattle.program_trees.specs.declared.expression.DataType.TheVariants.{Uint64, Int64}
 use Rattle.program_trees.specs.declared.expression.DataType.TheVariants as datatype
 use Rattle.program_trees.specs.declared.kinds.Shape.{Shape}
 use Rattle.language_model.specs.Evaluation.{either}
@@ -64,20 +64,24 @@ row_there : (s : Bool) (e : DataType) (a : Bool) (more : List Kind) → slice_ge
     (kind_number (record { secret = s; element = e; array = a })) ≡ Some (record { secret = s; element = e; array = a })
 row_there false Uint64 false more = refl
 row_there false Uint64 true more = refl
+row_there false Int64 false more = refl
+row_there false Int64 true more = refl
 row_there false datatype.Bool false more = refl
 row_there false datatype.Bool true more = refl
 row_there true Uint64 false more = refl
 row_there true Uint64 true more = refl
+row_there true Int64 false more = refl
+row_there true Int64 true more = refl
 row_there true datatype.Bool false more = refl
 row_there true datatype.Bool true more = refl
 
 -- so many rows of registers begin at t
 pub record HasRows (ks : List Kind) (t n : ℕ) : Type 0 where
-  pub at : (j : ℕ) (k : Kind) → j < n → HasKind ks (in_row (t + 8 * j) k) k
+  pub at : (j : ℕ) (k : Kind) → j < n → HasKind ks (in_row (t + 12 * j) k) k
 
 module _ {ks : List Kind} where
   pub row_first : {t n : ℕ} (k : Kind) → 0 < n → HasRows ks t n → HasKind ks (in_row t k) k
-  row_first {t = t} k l h = let e : in_row t k ≡ in_row (t + 8 * 0) k = omega arith in ap (slice_get ks) e ∙ h.at 0 k l
+  row_first {t = t} k l h = let e : in_row t k ≡ in_row (t + 12 * 0) k = omega arith in ap (slice_get ks) e ∙ h.at 0 k l
 
   pub rows_less : {t n : ℕ} (m : ℕ) → m ≤ n → HasRows ks t n → HasRows ks t m
   rows_less m l h = record { at = λ j k b. h.at j k (omega (arith, l, b)) }
@@ -85,7 +89,7 @@ module _ {ks : List Kind} where
   pub rows_next : {t n : ℕ} (m : ℕ) → 1 + m ≤ n → HasRows ks t n → HasRows ks (next_row t) m
   rows_next {t = t} m l h = record {
     at = λ j k b.
-        let e : in_row (next_row t + 8 * j) k ≡ in_row (t + 8 * (j + 1)) k = omega arith in ap (slice_get ks) e ∙ h.at (j + 1) k (omega (arith, l, b));
+        let e : in_row (next_row t + 12 * j) k ≡ in_row (t + 12 * (j + 1)) k = omega arith in ap (slice_get ks) e ∙ h.at (j + 1) k (omega (arith, l, b));
   }
 
   -- of one of two that begin at one place, and of one that begins a row later
@@ -101,18 +105,18 @@ module _ {ks : List Kind} where
   pub rows_stand : (t n : ℕ) → Stands ks t (rows_kinds n) → HasRows ks t n
   rows_stand t zero h = record { at = λ j k b. absurd (omega (arith, b)) }
   rows_stand t (suc n) h =
-      let half : t + 4 ≡ t + length (shape_kinds false) = omega arith in
-      let whole : next_row t ≡ t + 4 + length (shape_kinds true) = omega arith in
+      let half : t + 6 ≡ t + length (shape_kinds false) = omega arith in
+      let whole : next_row t ≡ t + 6 + length (shape_kinds true) = omega arith in
       record {
-        at = go (rows_stand (next_row t) n (stands_right (next_row t) (shape_kinds true) whole (stands_right (t + 4) (shape_kinds false) half h)));
+        at = go (rows_stand (next_row t) n (stands_right (next_row t) (shape_kinds true) whole (stands_right (t + 6) (shape_kinds false) half h)));
       }
     where
-      go : HasRows ks (next_row t) n → (j : ℕ) (k : Kind) → j < suc n → HasKind ks (in_row (t + 8 * j) k) k
+      go : HasRows ks (next_row t) n → (j : ℕ) (k : Kind) → j < suc n → HasKind ks (in_row (t + 12 * j) k) k
       go rest zero k b =
-          let e : in_row (t + 8 * 0) k ≡ t + kind_number k = omega arith in
+          let e : in_row (t + 12 * 0) k ≡ t + kind_number k = omega arith in
           ap (slice_get ks) e ∙ h.at (kind_number k) k (row_there k.secret k.element k.array (rows_kinds n))
       go rest (suc j) k b =
-          let e : in_row (t + 8 * suc j) k ≡ in_row (next_row t + 8 * j) k = omega arith in
+          let e : in_row (t + 12 * suc j) k ≡ in_row (next_row t + 12 * j) k = omega arith in
           ap (slice_get ks) e ∙ rest.at j k (omega (arith, b))
 
 -- a whole list stands in itself

@@ -35,14 +35,10 @@ use Rattle.well_typed.specs.Statements.{IsPublicScalar, IsReturned, IsWellTypedS
 use Rattle.lowered_code.proofs.Standing.{clash, HasRows, row_first, rows_left, rows_right, rows_second, AllRight, both_right, picked_kind}
 use Rattle.lowered_code.proofs.Shapes.{shape_is, goes_may}
 use Rattle.lowered_code.proofs.Rows.{within_left, within_right, RightAt}
-use Rattle.lowered_code.proofs.Expressions.{IsCallee, SlotsStand, ExpressionRight, value_read, expression_right, unread_right}
+use Rattle.lowered_code.proofs.Expressions.{IsCallee, SlotsStand, DefaultsStand, ExpressionRight, value_read, expression_right, unread_right}
 use Rattle.lowered_code.proofs.Control.{if_right, loop_right, do_right, behind_right}
 
 module _ (number : Numbers) (c : List Function) (ks : List Kind) (count : ℕ) (here : Setting) where
-  -- after the slots, one register of each shape
-  abbrev pub DefaultsStand : Type 0
-  DefaultsStand = (s : Shape) → 0 < length here.slots → HasKind ks (length here.slots + shape_number s) (kind_of false s)
-
   abbrev given_here : Returned → Option Kind
   given_here g = given_kind here.binding g
 
@@ -50,7 +46,7 @@ module _ (number : Numbers) (c : List Function) (ks : List Kind) (count : ℕ) (
   abbrev pub at : Returned → StatementContext
   at g = record { here = here; secret_result = is_private (given_domain here.binding g) }
 
-  module _ (Known : ℕ → List BoundDomain → Type 0) (slots : SlotsStand number c ks None count here) (defaults : DefaultsStand)
+  module _ (Known : ℕ → List BoundDomain → Type 0) (slots : SlotsStand number c ks None count here) (defaults : DefaultsStand number c ks None count here)
       (known : (k : ℕ) (b : List BoundDomain) → Known k b → IsCallee number c ks None count here k b) where
     abbrev Right : Returned → List Step → Type 0
     Right g = AllRight c ks (given_here g) count
@@ -62,12 +58,12 @@ module _ (number : Numbers) (c : List Function) (ks : List Kind) (count : ℕ) (
     both g a b h k = both_right c ks (given_here g) count a b h k
 
     expression : (g : Returned) (e : TypedTree) (s : Shape) → Gives here e (Some s) → IsFit Known here e
-        → ExpressionRight number c ks (given_here g) count here Known known slots e
-    expression g e s h f = expression_right number c ks (given_here g) count here Known known slots e s h f
+        → ExpressionRight number c ks (given_here g) count here Known known slots defaults e
+    expression g e s h f = expression_right number c ks (given_here g) count here Known known slots defaults e s h f
 
     value_of : (g : Returned) (t : ℕ) (e : TypedTree) (s : Shape) → Gives here e (Some s) → HasRows ks t (depth e)
         → HasKind ks (stands_at here e t) (kind_of (gives_private here e) s)
-    value_of g t e s h stands = value_read number c ks (given_here g) count here Known known slots t e s h stands
+    value_of g t e s h stands = value_read number c ks (given_here g) count here Known known slots defaults t e s h stands
 
     -- ---- CONDITIONS AND SLOTS
 
@@ -255,7 +251,7 @@ module _ (number : Numbers) (c : List Function) (ks : List Kind) (count : ℕ) (
       statement_right g inside (publish_statement text e) h f t out over pc o v stands l =
           behind_one g e h.0 (Publish text (stands_at here e t)) h.1 f t pc stands (kind_of (gives_private here e) h.0, value_of g t e h.0 h.1 stands) l
       statement_right g inside (evaluate_statement e) h f t out over pc o v stands l =
-          unread_right number c ks (given_here g) count here Known known slots e h.0 h.1 f t pc stands l
+          unread_right number c ks (given_here g) count here Known known slots defaults e h.0 h.1 f t pc stands l
 
       pub statements_right : (g : Returned) (inside : Bool) (cs : TypedStatementTrees) → AreWellTypedStatements here g inside cs
           → AreFitStatements Known (at g) inside cs

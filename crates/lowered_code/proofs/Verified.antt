@@ -7,7 +7,7 @@ use Rattle.std.proofs.lemmas.List.{length-map}
 use Rattle.std.proofs.lemmas.Option.{none-some, same_Some}
 use Rattle.sc_text.specs.Lists.{Among}
 use Rattle.program_trees.specs.declared.expression.DataType.{DataType}
-use Rattle.program_trees.specs.declared.expression.DataType.TheVariants.{Uint64}
+use Rattle.program_trees.specs.declared.expression.DataType.TheVariants.{Uint64, Int64}
 use Rattle.program_trees.specs.declared.expression.DataType.TheVariants as datatype
 use Rattle.program_trees.specs.Shapes.{shape_of}
 use Rattle.program_trees.specs.declared.kinds.Shape.{Shape}
@@ -20,9 +20,8 @@ use Rattle.reached_instances.specs.Domains.{Setting}
 use Rattle.reached_instances.specs.Instances.{Instance, same_instance}
 use Rattle.reached_instances.specs.Reached.{IsReachedList}
 use Rattle.reached_instances.proofs.Listing.{same_instance-Decides}
-use Rattle.language_model.specs.Evaluation.{either, place_in, slots_of}
+use Rattle.language_model.specs.Evaluation.{place_in, slots_of}
 use Rattle.bytecode.specs.declared.kind.Kind.{Kind}
-use Rattle.bytecode.specs.Kinds.{element_bit}
 use Rattle.verified_code.specs.Steps.{Step, Function, Jump}
 use Rattle.code_model.specs.Fit.{AreFitStatements, IsKnownIn, IsFitProgram, the_main}
 use Rattle.code_model.specs.Kinds.{kind_of, slot_kind, rows_kinds}
@@ -80,9 +79,11 @@ last_returns (j ∷ code) last r (suc k) i e f = let n = last_returns code last 
 
 -- ---- REGISTERS
 
-default_there : (e : DataType) (a : Bool) → slice_get default_kinds (element_bit e + either a 1 0) ≡ Some (kind_of false (shape_of e a))
+default_there : (e : DataType) (a : Bool) → slice_get default_kinds (shape_number (shape_of e a)) ≡ Some (kind_of false (shape_of e a))
 default_there Uint64 true = refl
 default_there Uint64 false = refl
+default_there Int64 true = refl
+default_there Int64 false = refl
 default_there datatype.Bool true = refl
 default_there datatype.Bool false = refl
 
@@ -107,7 +108,7 @@ module _ (number : Numbers) (c : List Function) (fs : List TypedFunctionTree) (f
   body = statements_code number (place_in fs f b) (first_free f.slots) end end 0 f.body
 
   abbrev last_register : ℕ
-  last_register = first_free f.slots + 8 * statements_depth f.body
+  last_register = first_free f.slots + 12 * statements_depth f.body
 
   abbrev behind_slots : List Kind
   behind_slots = defaults_behind f.slots ++ (rows_kinds (statements_depth f.body) ++ last_kinds b f.given)

@@ -36,7 +36,7 @@ module _ (number : Numbers) (here : Setting) (b : List BoundDomain) where
   argument_place s n t = picked (lacks (next_is_private b s) (gives_private here t)) (classified_at here t n) (stands_at here t n)
 
   pub code_more : (ts : List TypedTree) (t : TypedTree) (ss : List Slot) (r pc : ℕ) (s : List Slot) (n p : ℕ) → drop (length ts) ss ≡ s
-      → r + 8 * length ts ≡ n → pc + length (arguments_code number here b ss r pc (typed_trees_of ts)) ≡ p
+      → r + 12 * length ts ≡ n → pc + length (arguments_code number here b ss r pc (typed_trees_of ts)) ≡ p
       → arguments_code number here b ss r pc (typed_trees_of (ts ++ t ∷ []))
       ≡ arguments_code number here b ss r pc (typed_trees_of ts) ++ argument_code s n p t
   code_more [] t ss r pc s n p si ni pi =
@@ -55,14 +55,14 @@ module _ (number : Numbers) (here : Setting) (b : List BoundDomain) where
       let rest = arguments_code number here b (behind_next ss) r2 p2 (typed_trees_of ts) in
       let last = argument_code s n p t in
       let si2 : drop (length ts) (behind_next ss) ≡ s = sym (drop_next ss (length ts)) ∙ si in
-      let ni2 : r2 + 8 * length ts ≡ n = omega (arith, ni) in
+      let ni2 : r2 + 12 * length ts ≡ n = omega (arith, ni) in
       let pi2 : p2 + length rest ≡ p = omega (arith, pi, length-append ce (cl ++ rest), length-append cl rest) in
       ap (λ (z : List Step). ce ++ (cl ++ z)) (code_more ts t (behind_next ss) r2 p2 s n p si2 ni2 pi2)
       ∙ ap (λ (z : List Step). ce ++ z) (sym (append_assoc cl rest last))
       ∙ sym (append_assoc ce (cl ++ rest) last)
 
   pub places_more : (ts : List TypedTree) (t : TypedTree) (ss : List Slot) (r : ℕ) (s : List Slot) (n : ℕ) → drop (length ts) ss ≡ s
-      → r + 8 * length ts ≡ n
+      → r + 12 * length ts ≡ n
       → arguments_places number here b ss r (typed_trees_of (ts ++ t ∷ []))
       ≡ arguments_places number here b ss r (typed_trees_of ts) ++ argument_place s n t ∷ []
   places_more [] t ss r s n si ni =
@@ -71,7 +71,7 @@ module _ (number : Numbers) (here : Setting) (b : List BoundDomain) where
   places_more (e ∷ ts) t ss r s n si ni =
       let r2 = next_row r in
       let si2 : drop (length ts) (behind_next ss) ≡ s = sym (drop_next ss (length ts)) ∙ si in
-      let ni2 : r2 + 8 * length ts ≡ n = omega (arith, ni) in
+      let ni2 : r2 + 12 * length ts ≡ n = omega (arith, ni) in
       ap (λ (z : List ℕ). argument_place ss r e ∷ z) (places_more ts t (behind_next ss) r2 s n si2 ni2)
 
 -- an argument is narrower than all of them

@@ -6,11 +6,12 @@ use Rattle.program_trees.specs.declared.operators.Connective.{Connective}
 use Rattle.program_trees.specs.TypedTree.{TypedTree, cat_node, cut_node}
 use Rattle.reached_instances.specs.Domains.{Setting}
 use Rattle.language_model.specs.Evaluation.{gives_private, connective, either}
-use Rattle.verified_code.specs.Steps.{Step, At, Cat}
+use Rattle.verified_code.specs.Steps.{Step, At, Cat, Lookup}
 use Rattle.code_model.specs.Kinds.{truth_kind, in_row}
-use Rattle.code_model.specs.Expressions.{Numbers, classifying, picked, lacks, own_at, classified_at, stands_at, next_row, element_code, cat_code}
+use Rattle.code_model.specs.Expressions.{Numbers, classifying, picked, lacks, own_at, classified_at, stands_at, next_row, element_code, cat_code, lookup_code}
 use Rattle.code_model.specs.Expressions.{binary_code, cut_code, expression_code}
 use Rattle.lowered_expressions.specs.Built.{Built, with_step, with_steps}
+use Rattle.lowered_expressions.specs.Parts.{lookup_end}
 use Rattle.lowered_expressions.proofs.Building.{two_parts, stepped}
 
 pub element_made : (b f g h : Built) (ca cb : (pc : ℕ) → List Step) (line to from at d v u : ℕ)
@@ -22,6 +23,19 @@ element_made b f g h ca cb line to from at d v u first second last to_is from_is
     let same : h ≡ with_step g (At line d v u) =
     last ∙ ap (λ (x : ℕ). with_step g (At line x from at)) to_is ∙ ap₂ (λ (x y : ℕ). with_step g (At line d x y)) from_is at_is in
     two_parts b f h (ca (length b.pieces)) rest first (stepped f g h (cb (length f.pieces)) (At line d v u ∷ []) second same)
+
+pub lookup_made : (b f g h : Built) (ca cb : (pc : ℕ) → List Step) (line to : ℕ) (l1 : Bool) (m1 v1 : ℕ) (r1 : Bool) (n1 u1 d : ℕ) (l : Bool) (m v : ℕ)
+    (r : Bool) (n u : ℕ) → f ≡ with_steps b (ca (length b.pieces)) → g ≡ with_steps f (cb (length f.pieces))
+    → h ≡ with_steps g (lookup_end line to l1 m1 v1 r1 n1 u1) → to ≡ d → l1 ≡ l → m1 ≡ m → v1 ≡ v → r1 ≡ r → n1 ≡ n → u1 ≡ u
+    → h ≡ with_steps b (lookup_code d m n v u (length b.pieces) line l r (ca (length b.pieces)) cb)
+lookup_made b f g h ca cb line to l1 m1 v1 r1 n1 u1 d l m v r n u first second last to_is l_is m_is v_is r_is n_is u_is =
+    let end = lookup_end line d l m v r n u in
+    let same : h ≡ with_steps g end =
+    last ∙ ap₂ (λ (x : ℕ) (y : Bool). with_steps g (lookup_end line x y m1 v1 r1 n1 u1)) to_is l_is
+    ∙ ap₂ (λ (x y : ℕ). with_steps g (lookup_end line d l x y r1 n1 u1)) m_is v_is
+    ∙ ap₂ (λ (x : Bool) (y : ℕ). with_steps g (lookup_end line d l m v x y u1)) r_is n_is
+    ∙ ap (λ (x : ℕ). with_steps g (lookup_end line d l m v r n x)) u_is in
+    two_parts b f h (ca (length b.pieces)) (λ (p : ℕ). cb p ++ end) first (stepped f g h (cb (length f.pieces)) end second same)
 
 cat_same : (a l c m : List Step) (e : Step) → (a ++ l) ++ ((c ++ m) ++ e ∷ []) ≡ a ++ (l ++ (c ++ (m ++ e ∷ [])))
 cat_same a l c m e = simp append_assoc

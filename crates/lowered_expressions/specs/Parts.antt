@@ -9,7 +9,7 @@ use Rattle.std.specs.List.{slice_get}
 use Rattle.reached_instances.specs.Domains.{Setting, domains}
 use Rattle.language_model.specs.Words.{truth_word}
 use Rattle.language_model.specs.Evaluation.{gives_private, bound_at, slots_of}
-use Rattle.verified_code.specs.Steps.{Step, Literal, Move, Binary, Not, Cast, Size, Sum, Bits, Declassify, Branch, Jump, Call}
+use Rattle.verified_code.specs.Steps.{Step, Literal, Move, Binary, Not, Cast, Size, Sum, Bits, Lookup, Declassify, Branch, Jump, Call}
 use Rattle.code_model.specs.Expressions.{Numbers, classifying, picked, lacks, mixes, settling, deciding, classified_at, stands_at, expression_code}
 use Rattle.code_model.specs.Expressions.{arguments_code, arguments_places}
 use Rattle.lowered_expressions.specs.declared.closing.One.{One}
@@ -42,6 +42,10 @@ binary_rest d m n v u p line op ds ga gb cb =
     let l = mixes op ga gb in
     let r = mixes op gb ga in
     cb p ++ (classifying l m v ++ (classifying r n u ++ Binary line op ds d (picked l m v) (picked r n u) ∷ []))
+
+-- a look-up after both operands: v and u the registers where they stand, m and n those for their classifications
+abbrev pub lookup_end : (line d : ℕ) → (left : Bool) → (m v : ℕ) → (right : Bool) → (n u : ℕ) → List Step
+lookup_end line d l m v r n u = classifying l m v ++ (classifying r n u ++ Lookup line d (picked l m v) (picked r n u) ∷ [])
 
 -- what stands after the right operand, and ends at a place
 abbrev pub cut_end : Connective → (secret : Bool) → (d q u end : ℕ) → List Step

@@ -28,6 +28,7 @@ step_seen (steps.Size d r) = S.Size d r
 step_seen (steps.Cat line d a b) = S.Cat line d a b
 step_seen (steps.Sum d r) = S.Sum d r
 step_seen (steps.Bits line d r) = S.Bits line d r
+step_seen (steps.Lookup line d a i) = S.Lookup line d a i
 step_seen (steps.Declassify d r) = S.Declassify d r
 step_seen (steps.Argument line kind text d) = S.Argument line kind text.now d
 step_seen (steps.Publish text r) = S.Publish text.now r

@@ -3,7 +3,7 @@ ghost use Rattle.std.specs.Prelude.{◌≡◌, ◌+◌, ◌<◌, [], ◌∷◌, 
 ghost use Rattle.verified_code.specs.Steps as S;
 ghost use Rattle.code_model.specs.Expressions.{classifying, picked, settling};
 ghost use Rattle.lowered_expressions.specs.Built.{with_steps};
-ghost use Rattle.lowered_expressions.specs.Parts.{one_step, cut_closed};
+ghost use Rattle.lowered_expressions.specs.Parts.{lookup_end, one_step, cut_closed};
 ghost use Rattle.lowered_expressions.specs.Views.{built, step_seen};
 
 use crate::body::Body;
@@ -70,6 +70,27 @@ pub fn close_binary(
         to,
         left,
         right,
+    })
+}
+
+/// The end of a look-up: the array and the index are classified where they lack that.
+pub fn close_lookup(
+    body: &mut Body<'_>,
+    line: u32,
+    to: usize,
+    array: WantedOperand,
+    index: WantedOperand,
+) -> Result<(), AllocError>
+    ensures { OnOk result (built body.new ≡ with_steps (built body.old)
+        (lookup_end line to array.lacks array.classified array.value index.lacks index.classified index.value)) }
+{
+    let array = wanted(body, array)?;
+    let index = wanted(body, index)?;
+    body.push(Step::Lookup {
+        line,
+        to,
+        array,
+        index,
     })
 }
 

@@ -2,7 +2,7 @@
 // its first operand, and the rows after it for the others, but a variable's value stands in its slot. Kinds are read off the notes of the
 // tree, of which each function takes those of its own expressions: the time grows with the size of a tree.
 ghost use Rattle.std.specs.Prelude.{◌≡◌, ◌∷◌, [], IfOk, OnOk, false, length, map};
-ghost use Rattle.program_trees.specs.TypedTree.{binary_node, call_node, cat_node, cut_node, element_node, typed_tree, typed_trees_of};
+ghost use Rattle.program_trees.specs.TypedTree.{binary_node, call_node, cat_node, cut_node, element_node, lookup_node, typed_tree, typed_trees_of};
 ghost use Rattle.verified_code.specs.Steps as S;
 ghost use Rattle.language_model.specs.Evaluation.{either, gives_private};
 ghost use Rattle.code_model.specs.Expressions.{arguments_code, arguments_places, classified_at, lacks, expression_code, picked, read_at, stands_at};
@@ -15,7 +15,7 @@ ghost use Rattle.lowered_expressions.specs.inner.Notes.{arguments_notes, first_p
 use crate::around::Around;
 use crate::body::Body;
 use crate::calling::{CallHead, bound_at, number_of, slots_of};
-use crate::closing::{LeftOperand, One, close_binary, close_cut, one_step};
+use crate::closing::{LeftOperand, One, close_binary, close_cut, close_lookup, one_step};
 use crate::kinds::kind_of;
 use crate::notes::{Note, behind_first, first_is_private, first_kind, first_private_kind, parted};
 use crate::operands::{WantedOperand, wanted};
@@ -85,6 +85,7 @@ fn node(
         TypedExpression::BitExtract(line, x) => {
             one(body, around, notes, row, One::Bits(*line), x)
         }
+        TypedExpression::Lookup(line, a, i) => lookup(body, around, notes, row, *line, a, i),
         TypedExpression::Element(line, a, i) => element(body, around, notes, row, *line, a, i),
         TypedExpression::Not(x) => one(body, around, notes, row, One::Not, x),
         TypedExpression::Cast(cast, x) => one(body, around, notes, row, One::Cast(*cast), x),
@@ -190,6 +191,41 @@ fn element(
         array: from,
         index: at,
     })
+}
+
+// The elements of an array at one index or several; both are classified after the code of the index, where they lack that.
+#[cycle(expressions)]
+fn lookup(
+    body: &mut Body<'_>,
+    around: &Around<'_>,
+    notes: &[Note],
+    row: usize,
+    line: u32,
+    array: &TypedExpression,
+    index: &TypedExpression,
+) -> Result<(), AllocError>
+    requires { notes.now ≡ notes_of (here_of around.now) (lookup_node line (typed_tree array.now) (typed_tree index.now)) }
+    ensures { OnOk result (built body.new ≡ with_expression (numbers_of around.now) (here_of around.now) (built body.old) row
+        (lookup_node line (typed_tree array.now) (typed_tree index.now))) }
+{
+    let (left, right) = parted(behind_first(notes));
+    let to = in_row(row, first_kind(notes))?;
+    let second = next_row(row)?;
+    let beside = in_row(row, first_private_kind(left))?;
+    let classified = in_row(second, first_private_kind(right))?;
+    let from = expression(body, around, left, row, array)?;
+    let at = expression(body, around, right, second, index)?;
+    let array = WantedOperand {
+        lacks: lacks(true, first_is_private(left)),
+        classified: beside,
+        value: from,
+    };
+    let index = WantedOperand {
+        lacks: lacks(true, first_is_private(right)),
+        classified,
+        value: at,
+    };
+    close_lookup(body, line, to, array, index)
 }
 
 // An array and another after it, each classified right after its code.

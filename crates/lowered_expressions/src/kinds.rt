@@ -37,9 +37,7 @@ fn shape(here: &Setting<'_>, e: &TypedExpression) -> Shape
     ensures { result ≡ shape_in (setting here.now) (typed_tree e.now) }
 {
     match e {
-        TypedExpression::Word(_) | TypedExpression::Size(_) | TypedExpression::Sum(_) => {
-            Shape::scalar(DataType::Uint64)
-        }
+        TypedExpression::Word(_) | TypedExpression::Size(_) => Shape::scalar(DataType::Uint64),
         TypedExpression::Truth(_) | TypedExpression::CutShort(_, _, _) => Shape::scalar(
             DataType::Bool,
         ),
@@ -49,7 +47,13 @@ fn shape(here: &Setting<'_>, e: &TypedExpression) -> Shape
             element: DataType::Bool,
             array: true,
         },
-        TypedExpression::Element(_, array, _) => Shape::scalar(shape(here, array).element),
+        TypedExpression::Lookup(_, array, index) => Shape {
+            element: shape(here, array).element,
+            array: shape(here, index).array,
+        },
+        TypedExpression::Sum(array) | TypedExpression::Element(_, array, _) => {
+            Shape::scalar(shape(here, array).element)
+        }
         TypedExpression::Cast(cast, operand) => cast.shape(shape(here, operand).array),
         TypedExpression::Binary(_, operator, operands, _, _) => operator.result_shape(*operands),
         TypedExpression::Cat(_, operand, _)

@@ -36,7 +36,7 @@ fn one_given(one: One, operand: Given) -> Given
     let Given { domain, shape } = operand;
     match one {
         One::Size => public(Shape::scalar(DataType::Uint64)),
-        One::Sum => given_of(domain, Shape::scalar(DataType::Uint64)),
+        One::Sum => given_of(domain, Shape::scalar(shape.element)),
         One::Bits(_) => given_of(
             domain,
             Shape {
@@ -57,6 +57,8 @@ enum Two {
     Element,
     // The left one and the right one after it.
     Cat,
+    // The elements of the left one at the right one.
+    Lookup,
     // A value of this shape.
     Of(Shape),
 }
@@ -69,6 +71,13 @@ fn two_given(two: Two, left: Given, right: Given) -> Given
     match two {
         Two::Element => given_of(left.domain, Shape::scalar(left.shape.element)),
         Two::Cat => given_of(joined, left.shape),
+        Two::Lookup => given_of(
+            joined,
+            Shape {
+                element: left.shape.element,
+                array: right.shape.array,
+            },
+        ),
         Two::Of(shape) => given_of(joined, shape),
     }
 }
@@ -122,6 +131,7 @@ fn note_operands(
         TypedExpression::Declassify(x) => note_one(alloc, notes, here, One::Declassify, x),
         TypedExpression::Element(_, a, i) => note_two(alloc, notes, here, Two::Element, a, i),
         TypedExpression::Cat(_, a, b) => note_two(alloc, notes, here, Two::Cat, a, b),
+        TypedExpression::Lookup(_, a, i) => note_two(alloc, notes, here, Two::Lookup, a, i),
         TypedExpression::Binary(_, operator, operands, a, b) => {
             let two = Two::Of(operator.result_shape(*operands));
             note_two(alloc, notes, here, two, a, b)

@@ -1,7 +1,6 @@
-// The registers of values on their way. They stand in rows of eight, one for each kind, which each statement uses again.
+// The registers of values on their way. They stand in rows of twelve, one for each kind, which each statement uses again.
 ghost use Rattle.std.specs.Prelude.{◌≡◌, ◌+◌, IfOk, map, max};
 ghost use Rattle.program_trees.specs.TypedTree.{typed_tree, typed_trees_of};
-ghost use Rattle.bytecode.specs.Kinds.{element_bit};
 ghost use Rattle.code_model.specs.Expressions.{next_row};
 ghost use Rattle.code_model.specs.Kinds.{depth, depths, in_row, kind_number};
 
@@ -30,10 +29,11 @@ pub fn greater(a: usize, b: usize) -> usize
 fn kind_number(kind: Kind) -> usize
     ensures { result ≡ kind_number kind }
 {
-    let secrecy = if kind.secret { 4 } else { 0 };
+    let secrecy = if kind.secret { 6 } else { 0 };
     let element = match kind.element {
         DataType::Uint64 => 0,
-        DataType::Bool => 2,
+        DataType::Int64 => 2,
+        DataType::Bool => 4,
     };
     let shape = if kind.array { element + 1 } else { element };
     secrecy + shape
@@ -50,7 +50,7 @@ pub fn in_row(row: usize, kind: Kind) -> Result<usize, AllocError>
 pub fn next_row(row: usize) -> Result<usize, AllocError>
     ensures { IfOk result (λ next. next ≡ next_row row) }
 {
-    sum(row, 8)
+    sum(row, 12)
 }
 
 /// How many rows the code of an expression has. An error comes where no memory could hold so many. The time grows with the size of the
@@ -74,6 +74,7 @@ pub fn depth(e: &TypedExpression) -> Result<usize, AllocError>
         | TypedExpression::Cast(_, x)
         | TypedExpression::Declassify(x) => depth(x),
         TypedExpression::Cat(_, a, b)
+        | TypedExpression::Lookup(_, a, b)
         | TypedExpression::Element(_, a, b)
         | TypedExpression::Binary(_, _, _, a, b)
         | TypedExpression::CutShort(_, a, b) => depth_of_two(a, b),

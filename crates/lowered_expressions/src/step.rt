@@ -77,6 +77,12 @@ pub enum Step<'p> {
         to: usize,
         source: usize,
     },
+    Lookup {
+        line: u32,
+        to: usize,
+        array: usize,
+        index: usize,
+    },
     Declassify {
         to: usize,
         source: usize,
@@ -182,6 +188,12 @@ impl Drop for Step<'_> {
                 line: _,
                 to: _,
                 source: _,
+            }
+            | Step::Lookup {
+                line: _,
+                to: _,
+                array: _,
+                index: _,
             }
             | Step::Declassify { to: _, source: _ }
             | Step::Argument {

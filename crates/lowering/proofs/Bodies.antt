@@ -62,11 +62,11 @@ function_made number fs f b r0 r1 r2 b1 b2 end steps first rows e1 at_end e2 all
     ap length first ∙ length-append ks ds ∙ ap (λ (x : ℕ). x + length ds) (length-map f.slots (slot_kind b)) in
     let ps = statements_pieces number at ff 0 f.body in
     let nr = ap length rows ∙ length-append r0 ck in
-    let r : length r1 ≡ ff + 8 * statements_depth f.body = omega (arith, nr, n, rows_length (statements_depth f.body)) in
+    let r : length r1 ≡ ff + 12 * statements_depth f.body = omega (arith, nr, n, rows_length (statements_depth f.body)) in
     let long : length ps ≡ body_end number fs f b =
     sym (length-map ps (placed 0 0)) ∙ ap length (statements_placed number at 0 0 ff 0 f.body) in
     let stop : end ≡ body_end number fs f b = at_end ∙ ap (λ (z : Built). length z.pieces) e1 ∙ long in
-    let last = last_step f.given (ff + 8 * statements_depth f.body) in
+    let last = last_step f.given (ff + 12 * statements_depth f.body) in
     let kinds : r2 ≡ ks ++ (ds ++ (ck ++ lk)) =
     all ∙ ap (λ (z : List Kind). z ++ lk) rows ∙ ap (λ (z : List Kind). (z ++ ck) ++ lk) first ∙ four_kinds ks ds ck lk in
     let code : steps ≡ statements_code number at ff (body_end number fs f b) (body_end number fs f b) 0 f.body ++ last ∷ [] =

@@ -4,7 +4,7 @@ use Rattle.std.specs.Prelude.{map, ◌&&◌, Result, Err, IfErr}
 use Rattle.std.specs.List.{flat_map, list_all, AllByRecursion as Each}
 use Rattle.std.proofs.lemmas.List.{length-map, get_or-map}
 use Rattle.std.proofs.lemmas.Bool.{and_parts, ltb-true, lt-ltb}
-use Rattle.bytecode.specs.Raw.{Raw, Literal, Move, Store, Binary, Not, Cast, Classify, Fill, At, Put, Size, Cat, Sum, Bits, Declassify, Argument, Publish}
+use Rattle.bytecode.specs.Raw.{Raw, Literal, Move, Store, Binary, Not, Cast, Classify, Fill, At, Put, Size, Cat, Sum, Bits, Lookup, Declassify, Argument, Publish}
 use Rattle.bytecode.specs.Raw.{Assert, Branch, Jump, Call, Return, ReturnNone, RawFunction, RawCode}
 use Rattle.bytecode.specs.Writable.{Fits}
 use Rattle.bytecode.specs.Written.{Number, short, source_line, instruction_numbers, head_numbers, body_numbers, name_numbers, opening_numbers, code_numbers}
@@ -46,6 +46,7 @@ capped_is (Size d r) e = two_low Size d r e
 capped_is (Cat d a b line) e = three_low (λ x y z. Cat x y z line) d a b e
 capped_is (Sum d r) e = two_low Sum d r e
 capped_is (Bits d r line) e = two_low (λ x y. Bits x y line) d r e
+capped_is (Lookup d a i line) e = three_low (λ x y z. Lookup x y z line) d a i e
 capped_is (Declassify d r) e = two_low Declassify d r e
 capped_is (Argument d name line) e = two_low (λ x y. Argument x y line) d name e
 capped_is (Publish name r) e = two_low Publish name r e
@@ -89,6 +90,7 @@ fits_short (Size d r) h = two_fitting d r h.1.0 h.1.1.0
 fits_short (Cat d a b line) h = three_fitting d a b h.1.0 h.1.1.0 h.1.1.1.0
 fits_short (Sum d r) h = two_fitting d r h.1.0 h.1.1.0
 fits_short (Bits d r line) h = two_fitting d r h.1.0 h.1.1.0
+fits_short (Lookup d a i line) h = three_fitting d a i h.1.0 h.1.1.0 h.1.1.1.0
 fits_short (Declassify d r) h = two_fitting d r h.1.0 h.1.1.0
 fits_short (Argument d name line) h = two_fitting d name h.1.0 h.1.1.0
 fits_short (Publish name r) h = two_fitting name r h.1.0 h.1.1.0

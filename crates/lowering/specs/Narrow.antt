@@ -1,7 +1,7 @@
 -- Which instructions have numbers that are small enough for their fields.
 use Rattle.std.specs.Prelude.{ℕ, min, nat_lt, Bool, true, ◌&&◌, List, map}
 use Rattle.std.specs.List.{flat_map, list_all, AllByRecursion as Each}
-use Rattle.bytecode.specs.Raw.{Raw, Literal, Move, Store, Binary, Not, Cast, Classify, Fill, At, Put, Size, Cat, Sum, Bits, Declassify, Argument, Publish}
+use Rattle.bytecode.specs.Raw.{Raw, Literal, Move, Store, Binary, Not, Cast, Classify, Fill, At, Put, Size, Cat, Sum, Bits, Lookup, Declassify, Argument, Publish}
 use Rattle.bytecode.specs.Raw.{Assert, Branch, Jump, Call, Return, ReturnNone, RawFunction, RawCode}
 use Rattle.bytecode.specs.Writable.{Fits, IsWritable}
 use Rattle.bytecode.specs.Written.{Number, head_numbers, body_numbers}
@@ -28,6 +28,7 @@ are_short (Size d r) = is_short d && is_short r
 are_short (Cat d a b line) = is_short d && (is_short a && is_short b)
 are_short (Sum d r) = is_short d && is_short r
 are_short (Bits d r line) = is_short d && is_short r
+are_short (Lookup d a i line) = is_short d && (is_short a && is_short i)
 are_short (Declassify d r) = is_short d && is_short r
 are_short (Argument d name line) = is_short d && is_short name
 are_short (Publish name r) = is_short name && is_short r
@@ -57,6 +58,7 @@ capped_instruction (Size d r) = Size (capped d) (capped r)
 capped_instruction (Cat d a b line) = Cat (capped d) (capped a) (capped b) line
 capped_instruction (Sum d r) = Sum (capped d) (capped r)
 capped_instruction (Bits d r line) = Bits (capped d) (capped r) line
+capped_instruction (Lookup d a i line) = Lookup (capped d) (capped a) (capped i) line
 capped_instruction (Declassify d r) = Declassify (capped d) (capped r)
 capped_instruction (Argument d name line) = Argument (capped d) (capped name) line
 capped_instruction (Publish name r) = Publish (capped name) (capped r)

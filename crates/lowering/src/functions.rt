@@ -58,6 +58,8 @@ fn push_shapes(registers: &mut Vec<Kind>, secret: bool) -> Result<(), AllocError
     registers.extend_from_slice(&[
         shape_kind(secret, DataType::Uint64, false),
         shape_kind(secret, DataType::Uint64, true),
+        shape_kind(secret, DataType::Int64, false),
+        shape_kind(secret, DataType::Int64, true),
         shape_kind(secret, DataType::Bool, false),
         shape_kind(secret, DataType::Bool, true),
     ])

@@ -140,6 +140,12 @@ fn are_short(names: &Names<'_>, step: &Step<'_>) -> bool
             array,
             index,
             ..
+        }
+        | Step::Lookup {
+            to,
+            array,
+            index,
+            ..
         } => are_three_short(to, array, index),
         Step::Put {
             array,
@@ -265,6 +271,17 @@ fn capped_instruction(
         Step::Bits { to, source, line } => Ok(Instruction::Bits {
             to: register(to),
             source: register(source),
+            line,
+        }),
+        Step::Lookup {
+            to,
+            array,
+            index,
+            line,
+        } => Ok(Instruction::Lookup {
+            to: register(to),
+            array: register(array),
+            index: register(index),
             line,
         }),
         Step::Declassify { to, source } => Ok(Instruction::Declassify {

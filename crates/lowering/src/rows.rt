@@ -18,7 +18,7 @@ pub fn first_row(here: &Setting<'_>) -> usize
     if here.slots.is_empty() {
         0
     } else {
-        here.slots.len() + 4
+        here.slots.len() + 6
     }
 }
 

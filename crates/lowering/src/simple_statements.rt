@@ -83,11 +83,12 @@ pub fn store(
 // The number of a shape among those of the registers that nothing writes.
 fn shape_number(shape: Shape) -> usize
     ensures number { result ≡ shape_number shape }
-    ensures few { result < 4 }
+    ensures few { result < 6 }
 {
     let element = match shape.element {
         DataType::Uint64 => 0,
-        DataType::Bool => 2,
+        DataType::Int64 => 2,
+        DataType::Bool => 4,
     };
     if shape.array { element + 1 } else { element }
 }

@@ -25,7 +25,7 @@ fn elements_if_opened(
         return Ok(Vec::new(alloc));
     }
     match element {
-        DataType::Uint64 => Vec::from_slice(alloc, told),
+        DataType::Uint64 | DataType::Int64 => Vec::from_slice(alloc, told),
         DataType::Bool => bit_words::unpacked(alloc, told, n as usize),
     }
 }

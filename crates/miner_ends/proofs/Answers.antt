@@ -4,7 +4,7 @@ use Rattle.std.specs.Prelude.{length}
 use Rattle.proto_core.specs.Lists.{AreWords}
 use Rattle.protocol_model.proofs.Sizes.{past_end}
 use Rattle.program_trees.specs.declared.expression.DataType.{DataType}
-use Rattle.program_trees.specs.declared.expression.DataType.TheVariants.{Uint64}
+use Rattle.program_trees.specs.declared.expression.DataType.TheVariants.{Uint64, Int64}
 use Rattle.program_trees.specs.declared.expression.DataType.TheVariants as datatype
 use Rattle.gates.specs.Gathered.{unpacked}
 use Rattle.gates.proofs.Packing.{length-unpacked, unpacked-bits}
@@ -15,10 +15,12 @@ use Rattle.code_places.specs.Places.{answers_told, elements_opened}
 
 none_of : (e : DataType) (n : ℕ) → 0 ≡ gate_size e n → 0 ≡ n
 none_of Uint64 n h = h
+none_of Int64 n h = h
 none_of datatype.Bool n h = omega (arith, h)
 
 of_elements : (e : DataType) (n : ℕ) (words : List ℕ) → length words ≡ gate_size e n → length (elements_opened e n words) ≡ n
 of_elements Uint64 n words h = h
+of_elements Int64 n words h = h
 of_elements datatype.Bool n words h = length-unpacked words n
 
 -- bits of any words are words
@@ -27,6 +29,7 @@ bits_are_words words n k = let low = unpacked-bits words n k in omega (arith, lo
 
 elements_words : (e : DataType) (n : ℕ) (words : List ℕ) → AreWords words → AreWords (elements_opened e n words)
 elements_words Uint64 n words h = h
+elements_words Int64 n words h = h
 elements_words datatype.Bool n words h = bits_are_words words n
 
 module _ (m : Machine) (d r : ℕ) where

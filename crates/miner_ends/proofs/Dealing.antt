@@ -73,6 +73,7 @@ zeros_shared ring ws zeros =
 -- so are the words of truth values, packed
 words_shared : (e : DataType) (ws : List ℕ) → ((k : ℕ) → at ws k ≡ 0) → AreShares (ring_of (ring_for e)) (gate_words e ws) (λ i. gate_words e ws)
 words_shared datatype.Uint64 ws zeros = zeros_shared Arithmetic ws zeros
+words_shared datatype.Int64 ws zeros = zeros_shared Arithmetic ws zeros
 words_shared datatype.Bool ws zeros = shares-adding (packed ws) (λ i. packed ws) (packed-sum (adding ws (λ i. ws) (zeros_shared Boolean ws zeros)))
 
 abbrev AreHeld : List Kind → Values → Type 0

@@ -8,7 +8,7 @@ use Rattle.language_model.specs.Values.{Value, size}
 use Rattle.language_model.specs.Evaluation.{nothing, array_elements, input_named}
 use Rattle.language_model.proofs.Walk as walk
 use Rattle.miner_ends.proofs.Hears.{Hears, is_hearing, hears_law, hears_bind, hears_done, hears_end, hears_charge, hears_test}
-use Rattle.verified_code.specs.Steps.{kind_shape, Step, Literal, Move, Store, Binary, Not, Cast, Classify, Fill, At, Put, Size, Cat, Sum, Bits, Declassify}
+use Rattle.verified_code.specs.Steps.{kind_shape, Step, Literal, Move, Store, Binary, Not, Cast, Classify, Fill, At, Put, Size, Cat, Sum, Bits, Lookup, Declassify}
 use Rattle.verified_code.specs.Steps.{Argument, Publish, Assert, Branch, Jump, Call, Return, ReturnNone, Function}
 use Rattle.code_model.specs.Machine.{Caller, Machine, values_at, limit, resume, step}
 
@@ -39,6 +39,8 @@ module _ (w : World) (c : List Function) (m : Machine) where
   step_hears (Some (Cat line d a b)) = hears_bind (walk.concatenated_holds w w is_hearing law line (m.registers a) (m.registers b)) (λ _. hears_done _)
   step_hears (Some (Sum d r)) = hears_bind (walk.summed_holds w w is_hearing law (m.registers r)) (λ _. hears_done _)
   step_hears (Some (Bits line d r)) = hears_bind (walk.bits_holds w w is_hearing law line (m.registers r)) (λ _. hears_done _)
+  step_hears (Some (Lookup line d a i)) =
+      hears_bind (walk.looked_up_holds w w is_hearing law line (m.registers a) (m.registers i)) (λ _. hears_done _)
   step_hears (Some (Declassify d r)) = hears_bind (walk.declassified_holds w w is_hearing law (m.registers r)) (λ _. hears_done _)
   step_hears (Some (Argument line k text d)) =
       hears_bind (walk.asked_holds w w is_hearing law k.secret (kind_shape k) line (input_named w text)) (λ _. hears_done _)

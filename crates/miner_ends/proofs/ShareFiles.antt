@@ -14,7 +14,7 @@ use Rattle.value_file.specs.declared.value.DataType as told
 use Rattle.value_file.specs.declared.value.DataType.TheVariants as kind
 use Rattle.value_file.specs.declared.value.Shape.{Shape}
 use Rattle.value_file.specs.declared.value.Shape.TheVariants.{Scalar, Array}
-use Rattle.value_file.specs.declared.value.Value.TheVariants.{Number as OneNumber, Truth, Numbers, Truths}
+use Rattle.value_file.specs.declared.value.Value.TheVariants.{Number as OneNumber, Integer, Truth, Numbers, Integers, Truths}
 use Rattle.value_file.specs.Input.{AreEntries}
 use Rattle.value_file.specs.Values.{size_of}
 use Rattle.language_model.specs.Effects.{World}
@@ -54,6 +54,7 @@ zeros n k = let low = replicate_below 1 n 0 (omega arith) k in omega (arith, low
 
 some_bound : (e : DataType) → 0 < bound e
 some_bound datatype.Uint64 = omega arith
+some_bound datatype.Int64 = omega arith
 some_bound datatype.Bool = omega arith
 
 no_array : (shape : Shape) → is_array shape ≡ false → size_of shape ≡ 1
@@ -65,6 +66,8 @@ no_array (Array count) e = absurd cc
 known_part : (name : List ℕ) (part : Part) → part_count part ≤ 65536 → IsPartOfWords part → IsKnown (public_given name (known_of part))
 known_part name (Public (OneNumber n)) short words =
     record { range = words_below (n ∷ []) words; small = omega arith; single = λ e. refl; hidden = λ e k. absurd cc }
+known_part name (Public (Integer n)) short words =
+    record { range = words_below (n ∷ []) words; small = omega arith; single = λ e. refl; hidden = λ e k. absurd cc }
 known_part name (Public (Truth b)) short words =
     record {
       range = below_cons 2 (truth_word b) [] (truth_below b) (below_none 2 (omega arith));
@@ -73,6 +76,8 @@ known_part name (Public (Truth b)) short words =
       hidden = λ e k. absurd cc;
     }
 known_part name (Public (Numbers ns)) short words =
+    record { range = words_below ns words; small = omega (arith, short); single = λ e. absurd cc; hidden = λ e k. absurd cc }
+known_part name (Public (Integers ns)) short words =
     record { range = words_below ns words; small = omega (arith, short); single = λ e. absurd cc; hidden = λ e k. absurd cc }
 known_part name (Public (Truths bs)) short words =
     let count : length (map truth_word bs) ≡ length bs = length-map bs truth_word in
@@ -97,6 +102,7 @@ known_from before (e ∷ es) form words = (
 -- as many words as the gates have
 same_sizes : (t : told.DataType) (n : ℕ) → shared_size t n ≡ gate_size (type_given t) n
 same_sizes kind.Uint64 n = refl
+same_sizes kind.Int64 n = refl
 same_sizes kind.Bool n = refl
 
 sizes_from : (es : List ShareEntry) → All IsWhole es → sizes_of (private_shares es) ≡ private_sizes (map part_given (shapes_of es))

@@ -66,6 +66,7 @@ spaced_words w (n ∷ ns) = ap (λ x. w ++ 32 ∷ x) (spaced_words (decimal n) n
 pub count_then_words : (t : DataType) (count : ℕ) (ns : List ℕ) →
     words_behind (count_of_type t count ++ ns) ≡ words_behind (count_of_type t count) ++ words_behind ns
 count_then_words Uint64 count ns = refl
+count_then_words datatype.Int64 count ns = refl
 count_then_words datatype.Bool count ns = ap (λ x. x ++ words_behind ns) (sym (append-none (32 ∷ decimal count)))
 
 event_written : (event : Event) → event_line event ≡ spaced (event_words event) ++ 10 ∷ []
@@ -97,10 +98,12 @@ name_plain name h = (name_free 32 refl name h, name_free 10 refl name h)
 
 type_plain : (t : DataType) → NoGap (type_word t)
 type_plain Uint64 = plain (codes "uint64") refl
+type_plain datatype.Int64 = plain (codes "int64") refl
 type_plain datatype.Bool = plain (codes "bool") refl
 
 numbers_fit : (t : DataType) (count : ℕ) (ns : List ℕ) → AreHeld t count (length ns) → Words ns → Words (count_of_type t count ++ ns)
 numbers_fit Uint64 count ns held h = h
+numbers_fit datatype.Int64 count ns held h = h
 numbers_fit datatype.Bool count ns held h = (held.0, h)
 
 numbers_are_words : (s : ResultShare) → IsShare s → Words (numbers_told s)
@@ -139,6 +142,7 @@ end_back end h = same_end end (end_in (ending_words end.how end.cost)) (view_lin
 
 type_back : (t : DataType) → type_in (type_word t) ≡ Some t
 type_back Uint64 = refl
+type_back datatype.Int64 = refl
 type_back datatype.Bool = refl
 
 name_back : (name : List ℕ) → is_name name ≡ true → name_in name ≡ Some name
@@ -156,6 +160,7 @@ same_number n m e = (Decides-eqb n m).1 e
 numbers_back : (name : List ℕ) (t : DataType) (count : ℕ) (ns : List ℕ) → AreHeld t count (length ns) →
     share_of name t (count_of_type t count ++ ns) ≡ Some (record { name = name; element = t; count = count; words = ns })
 numbers_back name Uint64 count ns h = ap (λ n. Some (record { name = name; element = Uint64; count = n; words = ns })) (sym h)
+numbers_back name datatype.Int64 count ns h = ap (λ n. Some (record { name = name; element = datatype.Int64; count = n; words = ns })) (sym h)
 numbers_back name datatype.Bool count ns h =
     ap (λ b. if b then Some (record { name = name; element = datatype.Bool; count = count; words = ns }) else None)
     (same_number (length ns) (words_for count) h.1)
@@ -201,9 +206,11 @@ type_read : (w : List ℕ) (t : DataType) → type_in w ≡ Some t → w ≡ typ
 type_read w t h =
     if_found (bytes_eq (codes "uint64") w) (Some Uint64) _ t h
     (λ same is. sym (same_bytes (codes "uint64") w same) ∙ ap type_word (same_found Uint64 t is))
-    (λ g. if_found (bytes_eq (codes "bool") w) (Some datatype.Bool) None t g
+    (λ g. if_found (bytes_eq (codes "int64") w) (Some datatype.Int64) _ t g
+    (λ same is. sym (same_bytes (codes "int64") w same) ∙ ap type_word (same_found datatype.Int64 t is))
+    (λ f. if_found (bytes_eq (codes "bool") w) (Some datatype.Bool) None t f
     (λ same is. sym (same_bytes (codes "bool") w same) ∙ ap type_word (same_found datatype.Bool t is))
-    (λ none. nothing_found t none))
+    (λ none. nothing_found t none)))
 
 abbrev NameRead : List ℕ → List ℕ → Type 0
 NameRead w name = (w ≡ name) × (is_name name ≡ true)
@@ -244,6 +251,8 @@ record IsMadeOf (name : List ℕ) (t : DataType) (ns : List ℕ) (s : ResultShar
 share_made : (name : List ℕ) (t : DataType) (ns : List ℕ) (s : ResultShare) → Words ns → share_of name t ns ≡ Some s → IsMadeOf name t ns s
 share_made name Uint64 ns s h e =
     subst (IsMadeOf name Uint64 ns) (same_found _ s e) (record { names = refl; types = refl; numbers = refl; words = h; held = refl })
+share_made name datatype.Int64 ns s h e =
+    subst (IsMadeOf name datatype.Int64 ns) (same_found _ s e) (record { names = refl; types = refl; numbers = refl; words = h; held = refl })
 share_made name datatype.Bool [] s h e = nothing_found s e
 share_made name datatype.Bool (n ∷ ns) s h e =
     then_found (length ns == words_for n) _ s e

@@ -13,10 +13,12 @@ use Rattle.miner_text.specs.declared.line.MinerLine.TheVariants as lines
 
 abbrev pub type_word : DataType → List ℕ
 type_word Uint64 = codes "uint64"
+type_word datatype.Int64 = codes "int64"
 type_word datatype.Bool = codes "bool"
 
 abbrev pub count_of_type : DataType → ℕ → List ℕ
 count_of_type Uint64 count = []
+count_of_type datatype.Int64 count = []
 count_of_type datatype.Bool count = count ∷ []
 
 -- how many elements a share has, where its words don't tell

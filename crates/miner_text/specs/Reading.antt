@@ -14,7 +14,7 @@ use Rattle.miner_text.specs.declared.line.MinerLine.{MinerLine}
 use Rattle.miner_text.specs.declared.line.MinerLine.TheVariants as lines
 
 abbrev pub types : List DataType
-types = Uint64 ∷ datatype.Bool ∷ []
+types = Uint64 ∷ datatype.Int64 ∷ datatype.Bool ∷ []
 
 abbrev pub type_in : List ℕ → Option DataType
 type_in word = one_of type_word types word
@@ -30,6 +30,7 @@ published_in (w ∷ ws) = do
 -- the share that has these numbers in its line: of truth values the first says how many there are, and as many words follow as hold them
 abbrev pub share_of : List ℕ → DataType → List ℕ → Option ResultShare
 share_of name Uint64 words = Some (record { name = name; element = Uint64; count = length words; words = words })
+share_of name datatype.Int64 words = Some (record { name = name; element = datatype.Int64; count = length words; words = words })
 share_of name datatype.Bool [] = None
 share_of name datatype.Bool (count ∷ words) =
     if length words == words_for count then Some (record { name = name; element = datatype.Bool; count = count; words = words }) else None

@@ -22,6 +22,7 @@ IsEvent (Hand name es) = ⊥
 -- so many elements take so many words: each number one, 64 truth values one
 abbrev pub AreHeld : DataType → (count words : ℕ) → Type 0
 AreHeld Uint64 count words = count ≡ words
+AreHeld datatype.Int64 count words = count ≡ words
 AreHeld datatype.Bool count words = (count < 2 ^ 64) × (words ≡ words_for count)
 
 abbrev pub IsShare : ResultShare → Type 0

@@ -7,7 +7,7 @@ use Rattle.sc_text.specs.Elements.{element_text, elements_text}
 use Rattle.sc_text.specs.End.{ending_text, end_line}
 use Rattle.sc_text.specs.Event.{event_line}
 use Rattle.sc_text.specs.Name.{is_name}
-use Rattle.sc_text.specs.declared.elements.Element.TheVariants.{Word, Truth}
+use Rattle.sc_text.specs.declared.elements.Element.TheVariants.{Word, Negative, Truth}
 use Rattle.sc_text.specs.declared.end.Ending.TheVariants.{Done}
 use Rattle.sc_text.specs.declared.event.Event.TheVariants.{Open, Publish}
 use Rattle.view_text.specs.Reading.{number_in}
@@ -19,20 +19,24 @@ use Rattle.miner_text.specs.declared.line.MinerLine.TheVariants as lines
 abbrev pub ended : List MinerLine
 ended = lines.Ended (record { how = Done; cost = 7 }) ∷ []
 
--- an opening, a public value, and shares of a number and of 65 truth values
+-- openings, a public value, and shares of a number, of a number with a sign and of 65 truth values
 abbrev pub told : List MinerLine
 told =
     lines.Told (Open (Word 42 ∷ []))
+    ∷ lines.Told (Open (Negative 5 ∷ Word 0 ∷ []))
     ∷ lines.Told (Publish (codes "p") (Truth true ∷ Word 0 ∷ []))
     ∷ lines.Share (record { name = codes "c"; element = Uint64; count = 1; words = 7 ∷ [] })
+    ∷ lines.Share (record { name = codes "d"; element = datatype.Int64; count = 1; words = 18446744073709551611 ∷ [] })
     ∷ lines.Share (record { name = codes "b"; element = datatype.Bool; count = 65; words = 3 ∷ 0 ∷ [] })
     ∷ ended
 
-pub written : text_of told ≡ codes "open 42\npublish p true 0\nshare c uint64 7\nshare b bool 65 3 0\nend done cost 7\n"
+pub written : text_of told
+    ≡ codes "open 42\nopen -5 0\npublish p true 0\nshare c uint64 7\nshare d int64 18446744073709551611\nshare b bool 65 3 0\nend done cost 7\n"
 unfolding text_of line_text share_line event_line elements_text element_text end_line ending_text digits
 written = refl
 
-pub read : read_of (codes "open 42\npublish p true 0\nshare c uint64 7\nshare b bool 65 3 0\nend done cost 7\n") ≡ Ok told
+pub read : read_of
+    (codes "open 42\nopen -5 0\npublish p true 0\nshare c uint64 7\nshare d int64 18446744073709551611\nshare b bool 65 3 0\nend done cost 7\n") ≡ Ok told
 unfolding read_of number_in is_name digits
 read = refl
 
@@ -86,9 +90,13 @@ pub bytes_behind_the_end : read_of (codes "end done cost 7\nopen") ≡ Err 2
 unfolding read_of number_in digits
 bytes_behind_the_end = refl
 
-pub another_type : read_of (codes "open 1\nshare c int64 7\nend done cost 7\n") ≡ Err 2
+pub another_type : read_of (codes "open 1\nshare c int32 7\nend done cost 7\n") ≡ Err 2
 unfolding read_of number_in is_name digits
 another_type = refl
+
+pub sign_in_a_share : read_of (codes "share c int64 -5\nend done cost 7\n") ≡ Err 1
+unfolding read_of number_in is_name digits
+sign_in_a_share = refl
 
 pub truth_value_in_a_share : read_of (codes "share b bool true\nend done cost 7\n") ≡ Err 1
 unfolding read_of number_in is_name digits

@@ -61,7 +61,7 @@ fn share_of(name: Name, element: DataType, numbers: Vec<u64>) -> Option<ResultSh
     ensures { result ≡ share_of name element numbers.items }
 {
     match element {
-        DataType::Uint64 => {
+        DataType::Uint64 | DataType::Int64 => {
             let count = numbers.len() as u64;
             Some(ResultShare::new(name, element, count, numbers))
         }

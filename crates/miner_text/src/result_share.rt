@@ -82,7 +82,7 @@ impl fmt::Display for Counted {
 
     fn fmt<W: fmt::Write>(&self, f: &mut fmt::Formatter<W>) -> fmt::Result {
         match self.element {
-            DataType::Uint64 => Ok(()),
+            DataType::Uint64 | DataType::Int64 => Ok(()),
             DataType::Bool => write!(f, " {}", self.count),
         }
     }

@@ -3,7 +3,7 @@ use Rattle.std.proofs.Common.{◌≡◌, ℕ, ◌<◌, ◌≤◌, List, [], ◌�
 use Rattle.std.specs.Prelude.{option_map}
 use Rattle.std.proofs.lemmas.List.{length-append}
 use Rattle.program_trees.specs.declared.expression.DataType.{DataType}
-use Rattle.program_trees.specs.declared.expression.DataType.TheVariants.{Uint64}
+use Rattle.program_trees.specs.declared.expression.DataType.TheVariants.{Uint64, Int64}
 use Rattle.program_trees.specs.declared.expression.DataType.TheVariants as datatype
 use Rattle.program_trees.specs.declared.statement.Identifier.{Identifier}
 use Rattle.program_trees.specs.declared.statement.DeclaredType.{DeclaredType}
@@ -191,6 +191,7 @@ from_value_yields d k (publish p x e) = store_yields d k (publish p x e)
 
 default_sound : (d : Declared) (n : ℕ) (element : DataType) → Tree_in d n (default_of element)
 default_sound d n Uint64 = tt
+default_sound d n Int64 = tt
 default_sound d n datatype.Bool = tt
 
 initial_yields : (d : Declared) (line k : ℕ) (element : DataType) (size value : Option Tree) → Yields (initial d line k element size value) (If_there d k)

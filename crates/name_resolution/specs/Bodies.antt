@@ -1,7 +1,7 @@
 -- A statement of the program as a typed one.
 use Rattle.std.specs.Prelude.{ℕ, true, false, List, Option, Some, None, option_map}
 use Rattle.program_trees.specs.declared.expression.DataType.{DataType}
-use Rattle.program_trees.specs.declared.expression.DataType.TheVariants.{Uint64}
+use Rattle.program_trees.specs.declared.expression.DataType.TheVariants.{Uint64, Int64}
 use Rattle.program_trees.specs.declared.expression.DataType.TheVariants as datatype
 use Rattle.program_trees.specs.Tree.{Tree, Trees, call, argument, publish}
 use Rattle.program_trees.specs.Statements.{DeclarationTree, TargetTree, AssignmentTree, StartTree, starts_with_nothing, starts_with_declaration}
@@ -10,7 +10,7 @@ use Rattle.program_trees.specs.Statements.{block, empty, branch, choice, while_l
 use Rattle.program_trees.specs.Statements.{declaration, assignment, evaluation, StatementTrees}
 use Rattle.program_trees.specs.Statements as Statements'
 use Rattle.declarations.specs.Declarations.{Declared}
-use Rattle.program_trees.specs.TypedTree.{TypedTree, word_node, truth_node}
+use Rattle.program_trees.specs.TypedTree.{TypedTree, word_node, truth_node, zero_node}
 use Rattle.program_trees.specs.TypedStatements.{TypedStatementTree, TypedStatementTrees, none, also, empty_statement, block_statement, if_statement, loop_statement}
 use Rattle.program_trees.specs.TypedStatements.{do_statement, break_statement, continue_statement, return_statement, assert_statement, store_statement}
 use Rattle.program_trees.specs.TypedStatements.{default_statement, fill_statement, input_statement, element_statement, publish_statement, evaluate_statement}
@@ -34,6 +34,7 @@ evaluated d e = into evaluate_statement (expression d e)
 -- what fills an array where no value is given
 abbrev pub default_of : DataType → TypedTree
 default_of Uint64 = word_node 0
+default_of Int64 = zero_node
 default_of datatype.Bool = truth_node false
 
 -- an input has the declared type

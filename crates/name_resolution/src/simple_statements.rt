@@ -83,7 +83,8 @@ fn default_of(element: DataType) -> TypedExpression
     ensures { typed_tree result ≡ default_of element }
 {
     match element {
-        DataType::Uint64 | DataType::Int64 => TypedExpression::Word(0),
+        DataType::Uint64 => TypedExpression::Word(0),
+        DataType::Int64 => TypedExpression::Zero,
         DataType::Bool => TypedExpression::Truth(false),
     }
 }

@@ -2,8 +2,8 @@
 -- as each has parameters.
 use Rattle.std.specs.Prelude.{ℕ, ◌≡◌, ◌+◌, ◌<◌, ◌≤◌, List, [], ◌∷◌, length, map, Option, Some, None}
 use Rattle.std.specs.List.{slice_get}
-use Rattle.program_trees.specs.TypedTree.{TypedTree, TypedTrees, word_node, truth_node, slot_node, call_node, size_node, cat_node, sum_node, bits_node, lookup_node}
-use Rattle.program_trees.specs.TypedTree.{element_node, not_node, cast_node, binary_node, cut_node, declassify_node}
+use Rattle.program_trees.specs.TypedTree.{TypedTree, TypedTrees, word_node, truth_node, zero_node, slot_node, call_node, size_node, cat_node, sum_node, bits_node}
+use Rattle.program_trees.specs.TypedTree.{lookup_node, element_node, not_node, cast_node, binary_node, cut_node, declassify_node}
 use Rattle.program_trees.specs.TypedTree as Tree'
 use Rattle.program_trees.specs.TypedStatements.{TypedStatementTree, TypedStatementTrees, empty_statement, block_statement, if_statement, loop_statement, do_statement}
 use Rattle.program_trees.specs.TypedStatements.{break_statement, continue_statement, return_statement, assert_statement, store_statement, default_statement}
@@ -20,6 +20,7 @@ abbrev mutual
   pub IsSoundTree : ℕ → List ℕ → TypedTree → Type 0
   IsSoundTree n ps (word_node w) = Unit {0}
   IsSoundTree n ps (truth_node b) = Unit {0}
+  IsSoundTree n ps zero_node = Unit {0}
   IsSoundTree n ps (slot_node k) = k < n
   IsSoundTree n ps (call_node line k es) = (slice_get ps k ≡ Some (count_of es)) × AreSoundTrees n ps es
   IsSoundTree n ps (size_node e) = IsSoundTree n ps e

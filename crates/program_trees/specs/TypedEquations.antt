@@ -13,8 +13,8 @@ use Rattle.program_trees.specs.declared.typed_statement.TypedStatement.{TypedSta
 use Rattle.program_trees.specs.declared.typed_statement.TypedStatement.TheVariants as StatementVariant
 use Rattle.program_trees.specs.declared.typed_statement.TypedStatement.TheOpen as StatementOpen
 use Rattle.program_trees.specs.declared.typed_statement.TypedStatement.TheFolds.{fold-roll-TypedStatement}
-use Rattle.program_trees.specs.TypedTree.{TypedTree, word_node, truth_node, slot_node, call_node, size_node, cat_node, sum_node, bits_node, lookup_node, element_node}
-use Rattle.program_trees.specs.TypedTree.{not_node, cast_node, binary_node, cut_node, declassify_node, typed_trees_of, typed_layer, typed_tree}
+use Rattle.program_trees.specs.TypedTree.{TypedTree, word_node, truth_node, zero_node, slot_node, call_node, size_node, cat_node, sum_node, bits_node, lookup_node}
+use Rattle.program_trees.specs.TypedTree.{element_node, not_node, cast_node, binary_node, cut_node, declassify_node, typed_trees_of, typed_layer, typed_tree}
 use Rattle.program_trees.specs.TypedStatements.{TypedStatementTree, empty_statement, block_statement, if_statement, loop_statement, do_statement, break_statement}
 use Rattle.program_trees.specs.TypedStatements.{continue_statement, return_statement, assert_statement, store_statement, default_statement, fill_statement}
 use Rattle.program_trees.specs.TypedStatements.{input_statement, element_statement, publish_statement, evaluate_statement, typed_statements_of, optional_tree}
@@ -25,6 +25,9 @@ word_node_is n = ap typed_tree (sym (Variant.rolls-Word n)) ∙ fold-roll-TypedE
 
 pub truth_node_is : (b : Bool) → typed_tree (Variant.Truth b) ≡ truth_node b
 truth_node_is b = ap typed_tree (sym (Variant.rolls-Truth b)) ∙ fold-roll-TypedExpression TypedTree typed_layer (Open.Truth b)
+
+pub zero_node_is : typed_tree Variant.Zero ≡ zero_node
+zero_node_is = ap typed_tree (sym Variant.rolls-Zero) ∙ fold-roll-TypedExpression TypedTree typed_layer Open.Zero
 
 pub slot_node_is : (k : ℕ) → typed_tree (Variant.Variable k) ≡ slot_node k
 slot_node_is k = ap typed_tree (sym (Variant.rolls-Variable k)) ∙ fold-roll-TypedExpression TypedTree typed_layer (Open.Variable k)

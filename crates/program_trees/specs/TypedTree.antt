@@ -13,6 +13,7 @@ mutual
   pub data TypedTree : Type 0 where
     word_node : (word : ℕ) → TypedTree
     truth_node : Bool → TypedTree
+    zero_node : TypedTree
     slot_node : (slot : ℕ) → TypedTree
     call_node : (line function : ℕ) → TypedTrees → TypedTree
     size_node : TypedTree → TypedTree
@@ -39,6 +40,7 @@ typed_trees_of (t ∷ ts) = also t (typed_trees_of ts)
 abbrev pub typed_layer : TypedExpression-F TypedTree → TypedTree
 typed_layer (Open.Word n) = word_node n
 typed_layer (Open.Truth b) = truth_node b
+typed_layer Open.Zero = zero_node
 typed_layer (Open.Variable k) = slot_node k
 typed_layer (Open.Call line k es) = call_node line k (typed_trees_of es.items)
 typed_layer (Open.Size e) = size_node e.value

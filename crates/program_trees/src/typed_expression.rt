@@ -7,6 +7,8 @@ pub enum TypedExpression {
     Word(u64),
     /// A bool literal.
     Truth(bool),
+    /// 0 as a number with a sign: what fills an array of such where no value is given.
+    Zero,
     /// What stands in the slot of this number.
     Variable(usize),
     /// A call of the function of this number, with its arguments.
@@ -38,6 +40,7 @@ impl Drop for TypedExpression {
         match self {
             TypedExpression::Word(_)
             | TypedExpression::Truth(_)
+            | TypedExpression::Zero
             | TypedExpression::Variable(_)
             | TypedExpression::Call(_, _, _)
             | TypedExpression::Size(_)

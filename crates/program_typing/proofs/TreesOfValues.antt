@@ -1,10 +1,10 @@
 -- An expression that has a type has a typed tree, whose shape is that of its type.
-use Rattle.std.proofs.Common.{◌≡◌, ℕ, List, [], ◌∷◌, ◌++◌, inl, length, refl, sym, ap, ap₂, ◌∙◌, subst, Option, Some, None, Bool, true, false, cond}
+use Rattle.std.proofs.Common.{◌≡◌, ℕ, List, [], ◌∷◌, ◌++◌, ◌⊎◌, inl, inr, length, refl, sym, ap, ap₂, ◌∙◌, subst, Option, Some, None, Bool, true, false, cond}
 use Rattle.std.proofs.Common.{eq-eqb, arith}
 use Rattle.std.specs.Prelude.{map, bytes_eq, option_map, option_and_then, ◌||◌}
 use Rattle.sc_text.specs.declared.span.Span.{Span}
 use Rattle.program_trees.specs.declared.expression.DataType.{DataType}
-use Rattle.program_trees.specs.declared.expression.DataType.TheVariants.{Uint64}
+use Rattle.program_trees.specs.declared.expression.DataType.TheVariants.{Uint64, Int64}
 use Rattle.program_trees.specs.declared.expression.DataType.TheVariants as datatype
 use Rattle.program_trees.specs.declared.expression.Operator.{Operator}
 use Rattle.program_trees.specs.declared.expression.Operator.TheVariants.{Add, Subtract, Multiply, Divide, Remainder, Equal, NotEqual, Less, LessOrEqual}
@@ -17,28 +17,29 @@ use Rattle.program_trees.specs.Tree as Tree'
 use Rattle.program_trees.specs.Programs.{FunctionTree}
 use Rattle.domain_types.specs.declared.value_type.Argument.{Argument}
 use Rattle.domain_types.specs.declared.value_type.Protection.{Protection}
+use Rattle.domain_types.specs.declared.value_type.Protection.TheVariants.{Public}
 use Rattle.domain_types.specs.declared.value_type.ValueType.{ValueType}
 use Rattle.domain_types.specs.declared.value_type.ExpressionType.{ExpressionType}
 use Rattle.domain_types.specs.declared.value_type.ExpressionType.TheVariants.{Void, Value}
 use Rattle.domain_types.specs.BuiltIn.{BuiltIn}
-use Rattle.domain_types.specs.BuiltIn.TheVariants.{Size, Cat, Sum, BitExtract}
+use Rattle.domain_types.specs.BuiltIn.TheVariants.{Size, Cat, Sum, BitExtract, Lookup}
 use Rattle.domain_types.specs.Types.{scalar_of, public_scalar}
 use Rattle.domain_types.specs.Declarations.{Declared, Callee, built_in, defined, callee}
 use Rattle.domain_types.specs.Settings.{Setting, in_domain, domain_of, type_written}
 use Rattle.domain_types.specs.Scopes as checked
 use Rattle.domain_types.specs.ExpressionTypes.{within, variable_type, result_type, cast_type, declassified}
 use Rattle.sc_text.specs.Lists.{Among}
-use Rattle.domain_types.specs.Typing.{OperatesOn, IsBuiltInCall, ParametersTake, IsCall, HasType, HaveTypes}
+use Rattle.domain_types.specs.Typing.{IsNumber, OperatesOn, IsBuiltInCall, ParametersTake, IsCall, HasType, HaveTypes}
 use Rattle.sc_text.proofs.Lists.{among_left, among_right}
 use Rattle.program_trees.specs.declared.operators.OperatorSign.TheVariants as word
 use Rattle.program_trees.specs.declared.operators.BoolOperator.TheVariants as truth_of
 use Rattle.program_trees.specs.declared.operators.BinaryOperator.{BinaryOperator}
-use Rattle.program_trees.specs.declared.operators.BinaryOperator.TheVariants.{Words, Bools}
+use Rattle.program_trees.specs.declared.operators.BinaryOperator.TheVariants.{Words, Ints, Bools}
 use Rattle.program_trees.specs.TypedTree.{word_node, truth_node, call_node, size_node, cat_node, sum_node, bits_node, element_node, typed_trees_of}
 use Rattle.program_trees.specs.Operators.{operator_on, element_made}
 use Rattle.name_resolution.specs.Scopes.{Variable, Scope, variable_in, variable_named, shape_written}
 use Rattle.name_resolution.specs.Values.{TypedValue, TypedCall, made, of_both, variable_value, element_value, negated, cast_value, declassified_value}
-use Rattle.name_resolution.specs.Values.{operation_made, operation, gives_value, with_shape, value_given, shape_returned, tree_of_value}
+use Rattle.name_resolution.specs.Values.{operation_made, operation, gives_value, with_shape, value_given, shape_returned, tree_of_value, looked_up}
 use Rattle.name_resolution.specs.Values.{built_in_value, called, and_more, value, values, call_made}
 use Rattle.name_resolution.proofs.SoundValues.{mapped}
 
@@ -177,7 +178,13 @@ built_in_makes line Cat (a ∷ b ∷ c ∷ gs) vs t s h = absurd h
 built_in_makes line Sum [] vs t s h = absurd h
 built_in_makes line Sum (a ∷ []) [] t s h = absurd s
 built_in_makes line Sum (a ∷ []) (v ∷ []) t s h =
-    record { value = made (sum_node v.tree) Uint64 false; there = refl; element = sym (ap (λ z. z.element) h.2 ∙ h.1); array = sym (ap (λ z. z.array) h.2) }
+    record {
+      value = made (sum_node v.tree) v.shape.element false;
+      there = refl;
+      element = s.0 ∙ sym (ap (λ z. z.element) h.2);
+      array =
+          sym (ap (λ z. z.array) h.2);
+    }
 built_in_makes line Sum (a ∷ []) (v ∷ u ∷ vs) t s h = absurd s.2
 built_in_makes line Sum (a ∷ b ∷ gs) vs t s h = absurd h
 built_in_makes line BitExtract [] vs t s h = absurd h
@@ -192,6 +199,14 @@ built_in_makes line BitExtract (a ∷ []) (v ∷ []) t s h =
     }
 built_in_makes line BitExtract (a ∷ []) (v ∷ u ∷ vs) t s h = absurd s.2
 built_in_makes line BitExtract (a ∷ b ∷ gs) vs t s h = absurd h
+built_in_makes line Lookup [] vs t s h = absurd h
+built_in_makes line Lookup (a ∷ []) vs t s h = absurd h
+built_in_makes line Lookup (a ∷ i ∷ []) [] t s h = absurd s
+built_in_makes line Lookup (a ∷ i ∷ []) (v ∷ []) t s h = absurd s.2
+built_in_makes line Lookup (a ∷ i ∷ []) (v ∷ u ∷ []) t s h =
+    record { value = looked_up line v u; there = refl; element = s.0 ∙ sym h.3; array = s.2.1 ∙ sym h.4 }
+built_in_makes line Lookup (a ∷ i ∷ []) (v ∷ u ∷ w ∷ vs) t s h = let more : SameShapes (u ∷ w ∷ vs) (i ∷ []) = s.2 in absurd more.2
+built_in_makes line Lookup (a ∷ i ∷ c ∷ gs) vs t s h = absurd h
 
 taken_count : (w : Setting) (ps : List Parameter) (gs : List Argument) (vs : List TypedValue) → ParametersTake w ps gs → SameShapes vs gs
     → length ps ≡ length vs
@@ -250,39 +265,64 @@ call_gives d k x line (defined n f) vs gs t a e s h =
 
 -- OPERATORS
 
+pub no_number : IsNumber datatype.Bool → ⊥
+no_number (inl e) = cc
+no_number (inr e) = cc
+
+-- numbers with a sign are not worked on bit by bit
+pub no_bits : (d : Protection) → (Int64 ≡ datatype.Bool) ⊎ ((Int64 ≡ Uint64) × (d ≡ Public)) → ⊥
+no_bits d (inl e) = cc
+no_bits d (inr e) = let no = e.0 in cc
+
 operator_makes : (op : Operator) (t : DataType) (d : Protection) (r : DataType) → OperatesOn op t d r
     → (b : BinaryOperator) × (operator_on op t t ≡ Some b) × (element_made b ≡ r)
 operator_makes Add Uint64 d r h = (Words word.Add, refl, sym h.1)
-operator_makes Add datatype.Bool d r h = let no = h.0 in cc
+operator_makes Add Int64 d r h = (Ints word.Add, refl, sym h.1)
+operator_makes Add datatype.Bool d r h = absurd (no_number h.0)
 operator_makes Subtract Uint64 d r h = (Words word.Subtract, refl, sym h.1)
-operator_makes Subtract datatype.Bool d r h = let no = h.0 in cc
+operator_makes Subtract Int64 d r h = (Ints word.Subtract, refl, sym h.1)
+operator_makes Subtract datatype.Bool d r h = absurd (no_number h.0)
 operator_makes Multiply Uint64 d r h = (Words word.Multiply, refl, sym h.1)
-operator_makes Multiply datatype.Bool d r h = let no = h.0 in cc
+operator_makes Multiply Int64 d r h = (Ints word.Multiply, refl, sym h.1)
+operator_makes Multiply datatype.Bool d r h = absurd (no_number h.0)
 operator_makes Divide Uint64 d r h = (Words word.Divide, refl, sym h.1)
-operator_makes Divide datatype.Bool d r h = let no = h.0 in cc
+operator_makes Divide Int64 d r h = (Ints word.Divide, refl, sym h.1)
+operator_makes Divide datatype.Bool d r h = absurd (no_number h.0)
 operator_makes Remainder Uint64 d r h = (Words word.Remainder, refl, sym h.1)
-operator_makes Remainder datatype.Bool d r h = let no = h.0 in cc
+operator_makes Remainder Int64 d r h = (Ints word.Remainder, refl, sym h.1)
+operator_makes Remainder datatype.Bool d r h = absurd (no_number h.0)
 operator_makes Equal Uint64 d r h = (Words word.Equal, refl, sym h)
+operator_makes Equal Int64 d r h = (Ints word.Equal, refl, sym h)
 operator_makes Equal datatype.Bool d r h = (Bools truth_of.Equal, refl, sym h)
 operator_makes NotEqual Uint64 d r h = (Words word.NotEqual, refl, sym h)
+operator_makes NotEqual Int64 d r h = (Ints word.NotEqual, refl, sym h)
 operator_makes NotEqual datatype.Bool d r h = (Bools truth_of.NotEqual, refl, sym h)
 operator_makes Less Uint64 d r h = (Words word.Less, refl, sym h.1)
-operator_makes Less datatype.Bool d r h = let no = h.0 in cc
+operator_makes Less Int64 d r h = (Ints word.Less, refl, sym h.1)
+operator_makes Less datatype.Bool d r h = absurd (no_number h.0)
 operator_makes LessOrEqual Uint64 d r h = (Words word.LessOrEqual, refl, sym h.1)
-operator_makes LessOrEqual datatype.Bool d r h = let no = h.0 in cc
+operator_makes LessOrEqual Int64 d r h = (Ints word.LessOrEqual, refl, sym h.1)
+operator_makes LessOrEqual datatype.Bool d r h = absurd (no_number h.0)
 operator_makes Greater Uint64 d r h = (Words word.Greater, refl, sym h.1)
-operator_makes Greater datatype.Bool d r h = let no = h.0 in cc
+operator_makes Greater Int64 d r h = (Ints word.Greater, refl, sym h.1)
+operator_makes Greater datatype.Bool d r h = absurd (no_number h.0)
 operator_makes GreaterOrEqual Uint64 d r h = (Words word.GreaterOrEqual, refl, sym h.1)
-operator_makes GreaterOrEqual datatype.Bool d r h = let no = h.0 in cc
+operator_makes GreaterOrEqual Int64 d r h = (Ints word.GreaterOrEqual, refl, sym h.1)
+operator_makes GreaterOrEqual datatype.Bool d r h = absurd (no_number h.0)
 operator_makes And Uint64 d r h = (Words word.And, refl, sym h.0)
+operator_makes And Int64 d r h = absurd (no_bits d h.1)
 operator_makes And datatype.Bool d r h = (Bools truth_of.And, refl, sym h.0)
 operator_makes Or Uint64 d r h = (Words word.Or, refl, sym h.0)
+operator_makes Or Int64 d r h = absurd (no_bits d h.1)
 operator_makes Or datatype.Bool d r h = (Bools truth_of.Or, refl, sym h.0)
 operator_makes Xor Uint64 d r h = (Words word.Xor, refl, sym h.0)
+operator_makes Xor Int64 d r h = absurd (no_bits d h.1)
 operator_makes Xor datatype.Bool d r h = (Bools truth_of.Xor, refl, sym h.0)
 operator_makes AndAlso Uint64 d r h = let no = h.0 in cc
+operator_makes AndAlso Int64 d r h = let no = h.0 in cc
 operator_makes AndAlso datatype.Bool d r h = (Bools truth_of.And, refl, sym h.1)
 operator_makes OrElse Uint64 d r h = let no = h.0 in cc
+operator_makes OrElse Int64 d r h = let no = h.0 in cc
 operator_makes OrElse datatype.Bool d r h = (Bools truth_of.Or, refl, sym h.1)
 
 -- EXPRESSIONS

@@ -6,7 +6,7 @@ use Rattle.std.proofs.lemmas.List.Sums.{sum_by-cons}
 use Rattle.gates.specs.Bits.{words_for}
 use Rattle.program_trees.specs.Shapes.{shape_of}
 use Rattle.value_file.specs.declared.value.Value.{Value}
-use Rattle.value_file.specs.declared.value.Value.TheVariants.{Number, Truth, Numbers, Truths}
+use Rattle.value_file.specs.declared.value.Value.TheVariants.{Number, Integer, Truth, Numbers, Integers, Truths}
 use Rattle.value_file.specs.declared.value.Domain.{Domain}
 use Rattle.value_file.specs.declared.value.Domain.TheVariants.{Public, Private}
 use Rattle.value_file.specs.declared.inputs.Entry.{Entry}
@@ -38,8 +38,10 @@ same_domain Private = refl
 
 given_of : (v : Value) → (shape_given v ≡ shape_of (element_given (type_of v)) (is_array v)) × (words_given v ≡ elements_of v)
 given_of (Number n) = (refl, refl)
+given_of (Integer x) = (refl, refl)
 given_of (Truth b) = (refl, ap (λ x. x ∷ []) (same_truth b))
 given_of (Numbers ns) = (refl, refl)
+given_of (Integers xs) = (refl, refl)
 given_of (Truths bs) = (refl, same_truths bs)
 
 pub given_so : (es : List Entry) → AreGivenAs es (map input_given es)
@@ -60,8 +62,10 @@ need_known (e ∷ es) =
 
 size_for : (v : Value) → gate_size (shape_given v).element (length (words_given v)) ≡ shared_size (type_of v) (count_of v)
 size_for (Number n) = refl
+size_for (Integer x) = refl
 size_for (Truth b) = refl
 size_for (Numbers ns) = refl
+size_for (Integers xs) = refl
 size_for (Truths bs) = ap words_for (length-map bs truth_word)
 
 dealt_for : (d : Domain) (v : Value)

@@ -4,8 +4,8 @@ use Rattle.std.proofs.Common.{length-append}
 use Rattle.std.specs.Prelude.{All}
 use Rattle.std.specs.List.{slice_get}
 use Rattle.program_trees.specs.declared.kinds.Slot.{Slot}
-use Rattle.program_trees.specs.TypedTree.{TypedTree, TypedTrees, word_node, truth_node, slot_node, call_node, size_node, cat_node, sum_node, bits_node, lookup_node}
-use Rattle.program_trees.specs.TypedTree.{element_node, not_node, cast_node, binary_node, cut_node, declassify_node}
+use Rattle.program_trees.specs.TypedTree.{TypedTree, TypedTrees, word_node, truth_node, zero_node, slot_node, call_node, size_node, cat_node, sum_node, bits_node}
+use Rattle.program_trees.specs.TypedTree.{lookup_node, element_node, not_node, cast_node, binary_node, cut_node, declassify_node}
 use Rattle.program_trees.specs.TypedTree as Tree'
 use Rattle.program_trees.specs.TypedStatements.{TypedStatementTree, TypedStatementTrees, empty_statement, block_statement, if_statement, loop_statement, do_statement}
 use Rattle.program_trees.specs.TypedStatements.{break_statement, continue_statement, return_statement, assert_statement, store_statement, default_statement}
@@ -54,6 +54,7 @@ mutual
   calls_bound : (w : Setting) (e : TypedTree) → AreBoundIn w.functions (calls w e)
   calls_bound w (word_node n) = none_bound w.functions
   calls_bound w (truth_node b) = none_bound w.functions
+  calls_bound w zero_node = none_bound w.functions
   calls_bound w (slot_node k) = none_bound w.functions
   calls_bound w (call_node line k es) =
       both_bound w.functions (calls_of_all w es) (called k (slice_get w.functions k) (domains w es)) (all_calls_bound w es)

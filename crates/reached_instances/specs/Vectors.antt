@@ -10,7 +10,7 @@ use Rattle.program_trees.specs.declared.typed_function.Returned.TheVariants.{Not
 use Rattle.program_trees.specs.declared.operators.OperatorSign.TheVariants.{Add}
 use Rattle.program_trees.specs.declared.operators.BinaryOperator.TheVariants.{Words}
 use Rattle.program_trees.specs.declared.operators.Operands.TheVariants.{Scalars}
-use Rattle.program_trees.specs.TypedTree.{TypedTree, word_node, slot_node, call_node, size_node, element_node, binary_node, declassify_node, typed_trees_of}
+use Rattle.program_trees.specs.TypedTree.{TypedTree, lookup_node, word_node, slot_node, call_node, size_node, element_node, binary_node, declassify_node, typed_trees_of}
 use Rattle.program_trees.specs.TypedStatements.{TypedStatementTree, loop_statement, do_statement, fill_statement, evaluate_statement, typed_statements_of}
 use Rattle.program_trees.specs.TypedPrograms.{TypedFunctionTree, TypedProgramTree}
 use Rattle.program_trees.specs.Lists.{Among}

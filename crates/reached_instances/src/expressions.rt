@@ -48,7 +48,9 @@ pub fn expression(
         instances_seen found.old.items ++ calls (setting here.now) (typed_tree e.now)) }
 {
     match e {
-        TypedExpression::Word(_) | TypedExpression::Truth(_) => Ok(BoundDomain::Public),
+        TypedExpression::Word(_) | TypedExpression::Truth(_) | TypedExpression::Zero => {
+            Ok(BoundDomain::Public)
+        }
         TypedExpression::Variable(slot) => Ok(slot_domain(here, *slot)),
         TypedExpression::Call(_, function, arguments) => {
             let domains = expressions(alloc, found, here, arguments)?;

@@ -45,6 +45,7 @@ pub fn domain(
     match e {
         TypedExpression::Word(_)
         | TypedExpression::Truth(_)
+        | TypedExpression::Zero
         | TypedExpression::Size(_)
         | TypedExpression::Declassify(_) => Ok(BoundDomain::Public),
         TypedExpression::Variable(slot) => Ok(slot_domain(here, *slot)),

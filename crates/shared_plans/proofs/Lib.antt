@@ -6,6 +6,8 @@ pub mod RunLists
 pub mod GateRunLaws
 pub mod PlanRuns
 pub mod PlansOnShares
+pub mod KindedSigned
+pub mod SignedOnShares
 pub use Rattle.shared_gates.proofs.Models
 pub use Rattle.shared_gates.proofs.Drawn
 pub use Rattle.shared_gates.proofs.GatesBehind

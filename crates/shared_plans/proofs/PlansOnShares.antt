@@ -44,7 +44,7 @@ use Rattle.shared_plans.proofs.PlanRuns.{number-below, outcome, operand-value, o
 shares-words : (xs : List ℕ) (s : Number → List ℕ) → AreShares add_ring xs s → (k : ℕ) → k < length xs → word xs k < 2 ^ 64
 shares-words xs s shares k lt = subst (λ x. x < 2 ^ 64) (shares.sum k lt) (add_ring_laws.add_word _ _)
 
-all-words : (xs : List ℕ) (s : Number → List ℕ) → AreShares add_ring xs s → AreWords xs
+pub all-words : (xs : List ℕ) (s : Number → List ℕ) → AreShares add_ring xs s → AreWords xs
 all-words xs s shares k = by_place (cases_lt k (length xs))
   where
     small : (x : ℕ) → x ≡ 0 → x < 2 ^ 64
@@ -85,7 +85,7 @@ equal-differences n us vs size_u size_v words_u words_v =
     (Column-each_two equal_test column_u column_v)
 
 module _ (r : GateRun) (good : IsWellFormed r) where
-  stands-at : (u n : ℕ) → IsNumber r n u → At (value_sizes r) u n
+  pub stands-at : (u n : ℕ) → IsNumber r n u → At (value_sizes r) u n
   stands-at u n number =
       record { below = subst (λ count. u < count) (sym (sizes-count r good)) (number-below r good u n number); size = number.size }
 

@@ -1,15 +1,18 @@
 -- The gates of each plan suit the sizes of the values before them.
 use Rattle.std.proofs.Common.{◌≡◌, ℕ, ◌+◌, ◌*◌, ◌<◌, List, [], ◌∷◌, ◌++◌, length, refl, sym, ◌∙◌, ap, subst, arith, length-append, append_assoc, true, false}
 use Rattle.std.proofs.Math.Nat.{mul_comm}
-use Rattle.std.proofs.lemmas.List.{get_or_append_left, get_or-append-add}
+use Rattle.std.proofs.lemmas.List.{get_or_append_left, get_or-append-add, length-replicate}
+use Rattle.std.specs.Prelude.{replicate}
 use Rattle.proto_core.proofs.Beginnings.{append-none}
 use Rattle.gates.specs.declared.gate.Gate.{Gate}
 use Rattle.gates.specs.declared.gate.Gate.TheVariants.{Sub, Cat, Xor, And, Not, Shl, Shr, Low, Part, Split}
-use Rattle.gates.specs.declared.gate.Gate.TheVariants.{Const, Stretch, Tile, Conv, Mul, SumEach}
+use Rattle.gates.specs.declared.gate.Gate.TheVariants.{Const, Add, Stretch, Tile, Conv, Mul, SumEach}
 use Rattle.gates.specs.Counts.{size_of}
 use Rattle.plans.specs.Equality as equality
 use Rattle.plans.specs.BitExtract as bits
 use Rattle.plans.specs.Compare as compare
+use Rattle.signed_words.specs.Signed.{half}
+use Rattle.plans.specs.Signed.{signed_less_plan}
 use Rattle.oblivious_index.specs.Lookup.{places, lookup_plan}
 use Rattle.oblivious_index.proofs.LookupLaws.{length-places}
 use Rattle.shared_gates.specs.Model.{sizes_made, PairOf, SizesSuit, AllSizesSuit}
@@ -352,6 +355,26 @@ comparison-suited dealt sizes first u v n count at_u at_v =
     (λ more long at_m.
     start-suited dealt ((sizes ++ one) ++ more) first n (omega (arith, length-append (sizes ++ one) more))
     (subst (λ k. At ((sizes ++ one) ++ more) k m) (omega arith) at_m))))
+
+pub signed-suited :
+    (dealt sizes : List ℕ) (first u v n : ℕ) → length sizes ≡ first → At sizes u n → At sizes v n →
+    Suited dealt sizes (signed_less_plan first u v n)
+signed-suited dealt sizes first u v n count at_u at_v =
+    let s1 : List ℕ = n ∷ [] in
+    let s2 : List ℕ = n ∷ n ∷ [] in
+    let s3 : List ℕ = n ∷ n ∷ n ∷ [] in
+    let u1 = at-grown sizes s1 u n at_u in
+    let v2 = at-grown sizes s2 v n at_v in
+    let halves1 = at-behind sizes s1 first 0 first n count (omega arith) (omega arith) refl in
+    let halves2 = at-behind sizes s2 first 0 first n count (omega arith) (omega arith) refl in
+    let longer : length (sizes ++ s3) ≡ first + 3 = omega (arith, length-append sizes s3) in
+    behind-nothing dealt sizes (signed_less_plan first u v n)
+    (gate-suited dealt sizes [] s1 (Const (replicate n half)) _ tt (alone _ n (length-replicate n half))
+    (gate-suited dealt sizes s1 s1 (Add u first) _ (pair-of _ u first n u1 halves1) (alone _ n u1.size)
+    (gate-suited dealt sizes s2 s1 (Add v first) _ (pair-of _ v first n v2 halves2) (alone _ n v2.size)
+    (comparison-suited dealt (sizes ++ s3) (first + 3) (first + 1) (first + 2) n longer
+    (at-behind sizes s3 first 1 (first + 1) n count refl (omega arith) refl)
+    (at-behind sizes s3 first 2 (first + 2) n count refl (omega arith) refl)))))
 
 -- ---- look-up
 

@@ -5,6 +5,7 @@ use Rattle.gates.specs.declared.gate.Gate.TheVariants.{Sub}
 use Rattle.plans.specs.Equality.{eq_plan}
 use Rattle.plans.specs.BitExtract.{bits_plan}
 use Rattle.plans.specs.Compare.{less_plan}
+use Rattle.plans.specs.Signed.{signed_less_plan}
 use Rattle.oblivious_index.specs.Lookup.{lookup_plan}
 use Rattle.shared_gates.specs.Shares.{Kind, Shared}
 use Rattle.shared_plans.specs.GateRuns.{GateRun, value_count, then_gates}
@@ -27,6 +28,10 @@ bits_kinds = replicate 54 (Shared Boolean)
 unfoldable pub comparison_kinds : List Kind
 comparison_kinds = Shared Arithmetic ∷ replicate 109 (Shared Boolean)
 
+-- half of all words, both numbers raised by it, and the comparison of these
+unfoldable pub signed_comparison_kinds : List Kind
+signed_comparison_kinds = replicate 3 (Shared Arithmetic) ++ comparison_kinds
+
 -- the indices, the places and their differences; the tests of these; the tests as numbers, the elements, the products and the sums
 unfoldable pub lookup_kinds : List Kind
 lookup_kinds = replicate 3 (Shared Arithmetic) ++ (replicate 17 (Shared Boolean) ++ replicate 4 (Shared Arithmetic))
@@ -45,6 +50,9 @@ then_bits r n word = then_gates r (bits_plan (value_count r) word n) bits_kinds
 
 abbrev pub then_comparison : GateRun → ℕ → ℕ → ℕ → GateRun
 then_comparison r n u v = then_gates r (less_plan (value_count r) u v n) comparison_kinds
+
+abbrev pub then_signed_comparison : GateRun → ℕ → ℕ → ℕ → GateRun
+then_signed_comparison r n u v = then_gates r (signed_less_plan (value_count r) u v n) signed_comparison_kinds
 
 -- in an array of n elements m places are looked up
 abbrev pub then_lookup : (r : GateRun) (array index n m : ℕ) → GateRun

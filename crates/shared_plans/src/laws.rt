@@ -13,6 +13,8 @@ ghost use Rattle.plans.specs.BitExtract.{bits_plan};
 ghost use Rattle.plans.specs.BitExtractLaw.{words_taken as bits_words};
 ghost use Rattle.plans.specs.Compare.{less_plan};
 ghost use Rattle.plans.specs.CompareLaw.{words_taken as comparison_words};
+ghost use Rattle.plans.specs.Signed.{signed_less_plan};
+ghost use Rattle.signed_words.specs.Signed.{signed_less};
 ghost use Rattle.oblivious_index.specs.Lookup.{looked};
 ghost use Rattle.oblivious_index.specs.LookupLaw.{words_taken as lookup_words};
 ghost use Rattle.shared_gates.specs.Shares.{AreShares, Kind, Shared, kind_at};
@@ -21,7 +23,7 @@ ghost use Rattle.shared_gates.specs.Model.{AllSizesSuit, miner_of};
 ghost use Rattle.shared_plans.specs.GateRuns.{GateRun, IsWellFormed, value_count, then_gates, shares_of, words_drawn, IsNumber, Reach};
 ghost use Rattle.shared_plans.specs.Outcomes.{Follows, Outcome};
 ghost use Rattle.shared_plans.specs.Plans.{zero_test_kinds, bits_kinds, comparison_kinds, then_zero_test, then_equality, then_bits, then_comparison};
-ghost use Rattle.shared_plans.specs.Plans.{then_lookup, equal_test};
+ghost use Rattle.shared_plans.specs.Plans.{signed_comparison_kinds, then_signed_comparison, then_lookup, equal_test};
 
 /// Law: gates after any well-formed run whose values they suit, and that open none. The longer run is well formed and draws as
 /// many words more as they take. On any tapes that are long enough the three miners come to its end with shares of values that
@@ -107,6 +109,28 @@ pub fn comparison_on_shares()
         Reach r (λ miner. comparison_words miner n) tapes → (us vs : List ℕ) → AreShares add_ring us (shares_of r tapes u) →
         AreShares add_ring vs (shares_of r tapes v) →
         AreShares xor_ring (each_two less_test us vs) (shares_of (then_comparison r n u v) tapes (value_count r + 109)) }
+{}
+
+/// Law: likewise the plan that compares numbers with a sign takes two numbers shared by sums, and makes values shared by xor at last; its
+/// gates suit the sizes of the values before them.
+pub fn signed_comparison_suits()
+    ensures kinds { (dealt kinds : List Kind) (first u v n : ℕ) → length kinds ≡ first → kind_at kinds u ≡ Shared Arithmetic →
+        kind_at kinds v ≡ Shared Arithmetic → AllKinded dealt (kinds ++ signed_comparison_kinds) first (signed_less_plan first u v n) }
+    ensures sizes { (dealt sizes : List ℕ) (first u v n : ℕ) → length sizes ≡ first → u < first → v < first →
+        size_of sizes u ≡ n → size_of sizes v ≡ n → AllSizesSuit dealt sizes (signed_less_plan first u v n) }
+{}
+
+/// Law: likewise the plan that compares numbers with a sign, over two values of `n` numbers; by xor the shares of the last value add up to 1
+/// exactly where the first number is less than the second, as numbers from -2^63 to 2^63 - 1, else 0.
+pub fn signed_comparison_on_shares()
+    ensures words { (r : GateRun) (n u v : ℕ) → IsWellFormed r → IsNumber r n u → IsNumber r n v → (i : Number) →
+        words_drawn (then_signed_comparison r n u v) i ≡ words_drawn r i + comparison_words (miner_of i) n }
+    ensures outcome { (r : GateRun) (n u v : ℕ) (tapes : Tapes) → IsWellFormed r → IsNumber r n u → IsNumber r n v →
+        Reach r (λ miner. comparison_words miner n) tapes → Outcome r (then_signed_comparison r n u v) tapes }
+    ensures result { (r : GateRun) (n u v : ℕ) (tapes : Tapes) → IsWellFormed r → IsNumber r n u → IsNumber r n v →
+        Reach r (λ miner. comparison_words miner n) tapes → (us vs : List ℕ) → AreShares add_ring us (shares_of r tapes u) →
+        AreShares add_ring vs (shares_of r tapes v) →
+        AreShares xor_ring (each_two signed_less us vs) (shares_of (then_signed_comparison r n u v) tapes (value_count r + 112)) }
 {}
 
 /// Law: likewise the plan of a look-up of `m` places in an array of `n` numbers, fewer than 2^64; the shares of the last value add up, modulo

@@ -7,5 +7,6 @@ mod laws;
 
 pub use laws::{
     bits_on_shares, bits_suit, comparison_on_shares, comparison_suits, equality_on_shares,
-    gates_behind_runs, lookup_on_shares, zero_test_on_shares, zero_test_suits,
+    gates_behind_runs, lookup_on_shares, signed_comparison_on_shares, signed_comparison_suits,
+    zero_test_on_shares, zero_test_suits,
 };

@@ -7,7 +7,7 @@ use Rattle.sc_text.specs.declared.end.End.{End}
 use Rattle.sc_text.specs.declared.event.Event.TheVariants.{Hand}
 use Rattle.sc_text.specs.Event.{event_line}
 use Rattle.language_model.specs.Values.{element_of}
-use Rattle.code_runs.specs.Places.{field_of}
+use Rattle.code_runs.specs.Places.{element_type_of}
 use Rattle.code_runs.specs.ClientTold.{all_added_up}
 use Rattle.miner_text.specs.Shares.{ResultShare}
 use Rattle.miner_text.specs.Lines.{type_word, line_text}
@@ -59,7 +59,7 @@ first_difference k l second third = option_or (differs k l second) (differs k l 
 
 -- the elements of the value of which three miners have these shares
 abbrev pub elements_added : ResultShare → (second third : List ℕ) → List Element
-elements_added s second third = map (element_of s.element) (all_added_up (field_of s.element) s.count s.words second third)
+elements_added s second third = map (element_of s.element) (all_added_up (element_type_of s.element) s.count s.words second third)
 
 -- a share is published as this value; another line stands as it is
 abbrev pub joined_line : MinerLine → (second third : List ℕ) → List ℕ

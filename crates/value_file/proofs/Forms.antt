@@ -4,7 +4,7 @@ use Rattle.std.proofs.lemmas.List.{append_assoc, append-nil, map-append}
 use Rattle.value_file.specs.declared.value.Domain.{Domain}
 use Rattle.value_file.specs.declared.value.Domain.TheVariants as domain
 use Rattle.value_file.specs.declared.value.Value.{Value}
-use Rattle.value_file.specs.declared.value.Value.TheVariants.{Number, Truth, Numbers, Truths}
+use Rattle.value_file.specs.declared.value.Value.TheVariants.{Number, Integer, Truth, Numbers, Integers, Truths}
 use Rattle.value_file.specs.declared.inputs.Entry.{Entry}
 use Rattle.value_file.specs.declared.public.PublicEntry.{PublicEntry}
 use Rattle.value_file.specs.Values.{count_of}
@@ -32,8 +32,10 @@ module _ {E : Type 0} (name : E → List ℕ) (count : E → ℕ) where
 public_count-shown : (d : Domain) (v : Value) → public_count (shown d v) ≡ count_of v
 public_count-shown domain.Public v = refl
 public_count-shown domain.Private (Number n) = refl
+public_count-shown domain.Private (Integer x) = refl
 public_count-shown domain.Private (Truth b) = refl
 public_count-shown domain.Private (Numbers ns) = refl
+public_count-shown domain.Private (Integers xs) = refl
 public_count-shown domain.Private (Truths bs) = refl
 
 names-part_of : (es : List Entry) → map name_of es ≡ map public_name_of (part_of es)

@@ -47,6 +47,7 @@ domain_of word =
 unfoldable pub data_type_of : List ℕ → Option DataType
 data_type_of word =
     if bytes_eq word (codes "uint64") then Some data_type.Uint64
+    else if bytes_eq word (codes "int64") then Some data_type.Int64
     else if bytes_eq word (codes "bool") then Some data_type.Bool
     else None
 

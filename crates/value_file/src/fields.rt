@@ -83,6 +83,7 @@ fn data_type(json: &Json) -> Option<DataType>
 {
     match text_field(json, "type")? {
         "uint64" => Some(DataType::Uint64),
+        "int64" => Some(DataType::Int64),
         "bool" => Some(DataType::Bool),
         _ => None,
     }

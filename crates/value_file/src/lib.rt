@@ -13,6 +13,7 @@ mod read_err;
 mod reading;
 mod value;
 mod value_reading;
+mod words;
 
 pub use inputs::{Entry, Inputs};
 pub use lists::{Bits, Words};

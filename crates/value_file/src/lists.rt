@@ -1,6 +1,7 @@
 // The elements of arrays.
-ghost use Rattle.std.specs.Prelude.{◌≡◌, ℕ, List, Bool};
+ghost use Rattle.std.specs.Prelude.{◌≡◌, ℕ, List, Bool, IfOk};
 
+use std::alloc::{AllocError, Global};
 use std::marker::Model;
 
 /// The numbers of an array. Clauses see their list.
@@ -29,6 +30,14 @@ impl Words {
     {
         &self.words
     }
+
+    /// The same numbers in memory of their own.
+    pub fn copy(&self, alloc: Global) -> Result<Words, AllocError>
+        ensures { IfOk result (λ copy. copy ≡ self.now) }
+    {
+        let words = Vec::from_slice(alloc, &self.words)?;
+        Ok(Words { words })
+    }
 }
 
 /// The truth values of an array. Clauses see their list.
@@ -56,5 +65,13 @@ impl Bits {
         ensures { result.now ≡ self.now }
     {
         &self.bits
+    }
+
+    /// The same truth values in memory of their own.
+    pub fn copy(&self, alloc: Global) -> Result<Bits, AllocError>
+        ensures { IfOk result (λ copy. copy ≡ self.now) }
+    {
+        let bits = Vec::from_slice(alloc, &self.bits)?;
+        Ok(Bits { bits })
     }
 }

@@ -3,12 +3,13 @@ ghost use Rattle.std.specs.Prelude.{◌≡◌, List, ℕ, Bool, codes, map, Ok, 
 ghost use Rattle.serde_json.specs.Data.{boolean, array, string, put as with_member};
 ghost use Rattle.serde_json.specs.View.{view, items_view, items_of, members_view};
 ghost use Rattle.value_file.specs.PublicFile.{read_public_of, IsWritable};
-ghost use Rattle.value_file.specs.Public.{number_data, value_data, shape_data, entry_data, entry_data_of, part_data, part_bytes, type_data};
+ghost use Rattle.value_file.specs.Public.{number_data, integer_data, value_data, shape_data, entry_data, entry_data_of, part_data, part_bytes, type_data};
 ghost use Rattle.value_file.specs.Values.{type_of};
 ghost use Rattle.value_file.specs.declared.public.PublicValue.TheVariants.{Known, Hidden};
 
 use crate::public::{PublicEntry, PublicPart, PublicValue};
 use crate::value::{DataType, Shape, Value};
+use crate::words::see_entries;
 use serde_json::{Map, Value as Json, json, put};
 use std::alloc::{AllocError, Global};
 
@@ -19,6 +20,24 @@ pub fn numbers_json(alloc: Global, numbers: &[u64]) -> Result<Vec<Json>, AllocEr
     let mut list = Vec::new(alloc);
     for number in numbers {
         list.push(Json::from(*number))?;
+    }
+    Ok(list)
+}
+
+/// The number with a sign of which this is the two's complement word, as JSON.
+fn integer_json(word: u64) -> Json
+    ensures { view result ≡ integer_data word }
+{
+    Json::from(word.cast_signed())
+}
+
+/// Numbers with a sign as JSON, in order, each given by its two's complement word.
+fn integers_json(alloc: Global, words: &[u64]) -> Result<Vec<Json>, AllocError>
+    ensures { IfOk result (λ list. items_view list.items ≡ items_of (map integer_data words.now)) }
+{
+    let mut list = Vec::new(alloc);
+    for word in words {
+        list.push(integer_json(*word))?;
     }
     Ok(list)
 }
@@ -39,8 +58,10 @@ pub fn value_json(alloc: Global, value: &Value) -> Result<Json, AllocError>
 {
     match value {
         Value::Number(number) => Ok(Json::from(*number)),
+        Value::Integer(word) => Ok(integer_json(*word)),
         Value::Truth(truth) => Ok(Json::Bool(*truth)),
         Value::Numbers(words) => Ok(Json::Array(numbers_json(alloc, words.as_slice())?)),
+        Value::Integers(words) => Ok(Json::Array(integers_json(alloc, words.as_slice())?)),
         Value::Truths(bits) => Ok(Json::Array(truths(alloc, bits.as_slice())?)),
     }
 }
@@ -51,6 +72,7 @@ pub fn type_word(data_type: DataType) -> &'static str
 {
     match data_type {
         DataType::Uint64 => "uint64",
+        DataType::Int64 => "int64",
         DataType::Bool => "bool",
     }
 }
@@ -185,6 +207,7 @@ pub fn write_public(alloc: Global, part: &PublicPart) -> Result<Vec<u8>, AllocEr
     ensures bytes { IfOk result (λ file. file.items ≡ part_bytes part.now) }
     ensures read_again { IfOk result (λ file. IsWritable part.now → read_public_of file.items ≡ Ok part.now) }
 {
+    see_entries(part.entries());
     let json = part_json(alloc, part)?;
     Ok(json.to_string(alloc)?.into_bytes())
 }

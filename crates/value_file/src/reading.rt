@@ -66,8 +66,8 @@ fn entries(alloc: Global, list: &[Json]) -> Result<Inputs, ReadErr>
 }
 
 /// Reads an input file: a JSON object whose `inputs` is an array of objects with `name` (1 to 64 ASCII letters,
-/// digits and `_`, none twice), `domain` (`"public"` or `"private"`), `type` (`"uint64"` or `"bool"`) and `value` (a
-/// number below 2^64 or a truth value, or an array of these). Other fields are ignored.
+/// digits and `_`, none twice), `domain` (`"public"` or `"private"`), `type` (`"uint64"`, `"int64"` or `"bool"`) and `value`
+/// (a number below 2^64, a number from -2^63 to 2^63 - 1, or a truth value, or an array of these). Other fields are ignored.
 ///
 /// `Syntax` is for bytes that serde_json doesn't read. `BadField` is for the first field that is missing or wrong, entry
 /// by entry, in an entry in the order above, `TooLong` for an entry of more than 65,536 elements whose fields are good.

@@ -12,10 +12,11 @@ pub enum Domain {
     Private,
 }
 
-/// The data type of a value: numbers below 2^64, or truth values.
+/// The data type of a value: numbers below 2^64, numbers from -2^63 to 2^63 - 1, or truth values.
 #[derive(Clone, Copy, PartialEq, Eq)]
 pub enum DataType {
     Uint64,
+    Int64,
     Bool,
 }
 
@@ -38,11 +39,14 @@ impl Shape {
     }
 }
 
-/// A value: a number, a truth value, or an array of either.
+/// A value: a number, a number with a sign, a truth value, or an array of one of these. A number with a sign is held as its
+/// two's complement word.
 pub enum Value {
     Number(u64),
+    Integer(u64),
     Truth(bool),
     Numbers(Words),
+    Integers(Words),
     Truths(Bits),
 }
 
@@ -50,7 +54,12 @@ pub enum Value {
 impl Drop for Value {
     fn drop(self) {
         match self {
-            Value::Number(_) | Value::Truth(_) | Value::Numbers(_) | Value::Truths(_) => {}
+            Value::Number(_)
+            | Value::Integer(_)
+            | Value::Truth(_)
+            | Value::Numbers(_)
+            | Value::Integers(_)
+            | Value::Truths(_) => {}
         }
     }
 }
@@ -62,6 +71,7 @@ impl Value {
     {
         match self {
             Value::Number(_) | Value::Numbers(_) => DataType::Uint64,
+            Value::Integer(_) | Value::Integers(_) => DataType::Int64,
             Value::Truth(_) | Value::Truths(_) => DataType::Bool,
         }
     }
@@ -71,8 +81,8 @@ impl Value {
         ensures { result ≡ count_of self.now }
     {
         match self {
-            Value::Number(_) | Value::Truth(_) => 1,
-            Value::Numbers(words) => words.as_slice().len() as u64,
+            Value::Number(_) | Value::Integer(_) | Value::Truth(_) => 1,
+            Value::Numbers(words) | Value::Integers(words) => words.as_slice().len() as u64,
             Value::Truths(bits) => bits.as_slice().len() as u64,
         }
     }
@@ -82,8 +92,10 @@ impl Value {
         ensures { result ≡ shape_of self.now }
     {
         match self {
-            Value::Number(_) | Value::Truth(_) => Shape::Scalar,
-            Value::Numbers(words) => Shape::Array(words.as_slice().len() as u64),
+            Value::Number(_) | Value::Integer(_) | Value::Truth(_) => Shape::Scalar,
+            Value::Numbers(words) | Value::Integers(words) => {
+                Shape::Array(words.as_slice().len() as u64)
+            }
             Value::Truths(bits) => Shape::Array(bits.as_slice().len() as u64),
         }
     }
@@ -94,15 +106,11 @@ impl Value {
     {
         match self {
             Value::Number(number) => Ok(Value::Number(*number)),
+            Value::Integer(word) => Ok(Value::Integer(*word)),
             Value::Truth(truth) => Ok(Value::Truth(*truth)),
-            Value::Numbers(words) => {
-                let words = Vec::from_slice(alloc, words.as_slice())?;
-                Ok(Value::Numbers(Words::new(words)))
-            }
-            Value::Truths(bits) => {
-                let bits = Vec::from_slice(alloc, bits.as_slice())?;
-                Ok(Value::Truths(Bits::new(bits)))
-            }
+            Value::Numbers(words) => Ok(Value::Numbers(words.copy(alloc)?)),
+            Value::Integers(words) => Ok(Value::Integers(words.copy(alloc)?)),
+            Value::Truths(bits) => Ok(Value::Truths(bits.copy(alloc)?)),
         }
     }
 }

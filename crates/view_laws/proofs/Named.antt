@@ -19,7 +19,7 @@ use Rattle.language_model.specs.Operations as row
 use Rattle.language_model.specs.Operations.{publication}
 use Rattle.language_model.specs.Reports.{Offered, Report, beginning, dealing, not_dealt, world_of}
 use Rattle.language_model.specs.Values.{Private, Plain, Secrecy, Value, plain, size}
-use Rattle.verified_code.specs.Steps.{Step, Literal, Move, Store, Binary, Not, Cast, Classify, Fill, At, Put, Size, Cat, Sum, Bits, Declassify}
+use Rattle.verified_code.specs.Steps.{Step, Literal, Move, Store, Binary, Not, Cast, Classify, Fill, At, Put, Size, Cat, Sum, Bits, Lookup, Declassify}
 use Rattle.verified_code.specs.Steps.{Argument, Publish, Assert, Branch, Jump, Call, Return, ReturnNone, Function, kind_shape}
 use Rattle.code_model.specs.Kinded.{IsIn}
 use Rattle.code_model.specs.Machine.{Caller, Machine, values_at, steps_of, entering, limit, same_truth, resume, step, exec, further, start, at, next}
@@ -132,6 +132,7 @@ module _ (o : Offered) (c : List Function) (names : (f : Function) → IsIn c f 
     leads (Some (Cat line d a b)) = by (row.concatenated line (m.registers a) (m.registers b)) (λ v. stays d v)
     leads (Some (Sum d r)) = by (row.summed (m.registers r)) (λ v. stays d v)
     leads (Some (Bits line d r)) = by (row.bits_extracted w line (m.registers r)) (λ v. stays d v)
+    leads (Some (Lookup line d a i)) = by (row.looked_up w line (m.registers a) (m.registers i)) (λ v. stays d v)
     leads (Some (Declassify d r)) = by (row.declassified w (m.registers r)) (λ v. stays d v)
     leads (Some (Argument line kind text d)) = by (asked_for kind.secret (kind_shape kind) line (input_named w text)) (λ v. stays d v)
     leads (Some (Publish text r)) = by (row.published w text (m.registers r)) (λ _. jumps (m.pc + 1))

@@ -1,7 +1,8 @@
 -- What a run opens is what it tells: step by step, the words that are opened are those of the openings among its events.
-use Rattle.std.proofs.Common.{◌≡◌, ℕ, ◌+◌, ◌-◌, ◌<◌, ◌%◌, zero, suc, List, [], ◌∷◌, ◌++◌, Bool, true, false, cond, Ok, Err, refl, sym, ◌∙◌, ap, map}
+use Rattle.std.proofs.Common.{◌≡◌, ℕ, ◌+◌, ◌-◌, ◌<◌, ◌%◌, ◌^◌, zero, suc, List, [], ◌∷◌, ◌++◌, Bool, true, false, cond, Ok, Err, refl, sym, ◌∙◌, ap, map}
 use Rattle.std.proofs.Common.{arith, append-nil}
-use Rattle.std.specs.Prelude.{nat_le, length, take, drop}
+use Rattle.std.specs.Prelude.{nat_le, nat_lt, length, take, drop}
+use Rattle.std.proofs.lemmas.Bool.{leb-true, ltb-true}
 use Rattle.std.proofs.lemmas.Grind.{flat_map-append}
 use Rattle.std.proofs.Math.Nat.{mod-lt}
 use Rattle.sc_text.specs.declared.elements.Element.{Element}
@@ -12,6 +13,7 @@ use Rattle.sc_text.specs.declared.end.TapeOwner.{TapeOwner}
 use Rattle.sc_text.specs.declared.end.TapeOwner.TheVariants.{Miner1, Miner2, Miner3}
 use Rattle.sc_text.specs.declared.event.Event.{Event}
 use Rattle.sc_text.specs.declared.event.Event.TheVariants as event
+use Rattle.sc_text.specs.Elements.{element_word}
 use Rattle.program_trees.specs.declared.expression.DataType.{DataType}
 use Rattle.program_trees.specs.declared.expression.DataType.TheVariants as datatype
 use Rattle.program_trees.specs.declared.kinds.Shape.{Shape}
@@ -25,7 +27,7 @@ use Rattle.language_model.specs.Reports.{dealing, beginning, report_of, not_deal
 use Rattle.language_model.proofs.Loops.{IsFlow, turns_flow, repeats_flow}
 use Rattle.language_model.proofs.Onward.{stage_of}
 use Rattle.language_model.proofs.Walk.{IsLaw, main_of, program_holds, told_open}
-use Rattle.view_reader.specs.Opened.{element_word, opened_words}
+use Rattle.view_reader.specs.Opened.{opened_words}
 use Rattle.program_views.specs.Views.{openings}
 
 -- ---- the words of openings
@@ -42,13 +44,24 @@ openings-more (event.Hand text elements ∷ es) e = openings-more es e
 told-more : (es : List Event) (e : Event) → told (es ++ e ∷ []) ≡ told es ++ told (e ∷ [])
 told-more es e = ap opened_words (openings-more es e) ∙ flat_map-append (map element_word) (openings es) (openings (e ∷ []))
 
-word-again : (x : ℕ) → element_word (element_of datatype.Bool (x % 2)) ≡ x % 2
-word-again x = go (x % 2) (mod-lt x (omega arith))
+truth-again : (x : ℕ) → element_word (element_of datatype.Bool (x % 2)) ≡ x % 2
+truth-again x = go (x % 2) (mod-lt x (omega arith))
   where
     go : (n : ℕ) → n < 2 → element_word (element_of datatype.Bool n) ≡ n
     go zero h = refl
     go (suc zero) h = refl
     go (suc (suc n)) h = absurd (omega (arith, h))
+
+number-again : (x : ℕ) → element_word (element_of datatype.Int64 x) ≡ x
+number-again x = go (nat_le (2 ^ 63) x) (nat_lt x (2 ^ 64)) refl refl
+  where
+    go : (a b : Bool) → nat_le (2 ^ 63) x ≡ a → nat_lt x (2 ^ 64) ≡ b → element_word (element_of datatype.Int64 x) ≡ x
+    go true true e f =
+        let high = leb-true (2 ^ 63) x e in
+        let low = ltb-true x (2 ^ 64) f in
+        rw (e, f) (omega (arith, high, low))
+    go true false e f = rw (e, f) refl
+    go false b e f = rw e refl
 
 -- the elements that are told have the words that are opened
 words-again : (kind : DataType) (words : List ℕ) → map element_word (map (element_of kind) (read_answer kind words)) ≡ read_answer kind words
@@ -56,9 +69,12 @@ words-again kind [] = none kind
   where
     none : (kind : DataType) → map element_word (map (element_of kind) (read_answer kind [])) ≡ read_answer kind []
     none datatype.Uint64 = refl
+    none datatype.Int64 = refl
     none datatype.Bool = refl
 words-again datatype.Uint64 (x ∷ xs) = ap (λ z. x ∷ z) (words-again datatype.Uint64 xs)
-words-again datatype.Bool (x ∷ xs) = ap (λ z. z ∷ map element_word (map (element_of datatype.Bool) (read_answer datatype.Bool xs))) (word-again x)
+words-again datatype.Int64 (x ∷ xs) = ap (λ z. z ∷ map element_word (map (element_of datatype.Int64) xs)) (number-again x)
+    ∙ ap (λ z. x ∷ z) (words-again datatype.Int64 xs)
+words-again datatype.Bool (x ∷ xs) = ap (λ z. z ∷ map element_word (map (element_of datatype.Bool) (read_answer datatype.Bool xs))) (truth-again x)
     ∙ ap (λ z. x % 2 ∷ z) (words-again datatype.Bool xs)
 
 -- ---- step by step

@@ -1,6 +1,7 @@
 -- Openings that three miners tell are of elements of 64 bits.
-use Rattle.std.proofs.Common.{◌≡◌, ℕ, suc, List, [], ◌∷◌, map, length, Bool, true, false, if◌then◌else◌, Ok, refl, sym, ap, subst, ◌∙◌}
-use Rattle.std.specs.Prelude.{nat_le}
+use Rattle.std.proofs.Common.{◌≡◌, ℕ, suc, ◌-◌, ◌<◌, ◌≤◌, ◌^◌, List, [], ◌∷◌, map, length, Bool, true, false, if◌then◌else◌, Ok, refl, sym, ap, subst, ◌∙◌, arith}
+use Rattle.std.specs.Prelude.{nat_le, nat_lt}
+use Rattle.std.proofs.lemmas.Bool.{leb-true}
 use Rattle.program_trees.specs.declared.expression.DataType.{DataType}
 use Rattle.program_trees.specs.declared.expression.DataType.TheVariants as datatype
 use Rattle.sc_text.specs.declared.event.Event.{Event}
@@ -9,7 +10,7 @@ use Rattle.proto_core.specs.Strand.{Notice}
 use Rattle.language_model.specs.Values.{element_of}
 use Rattle.gate_laws.specs.Dealt.{InRange}
 use Rattle.program_run.specs.Telling.{type_of, Tells, nothing, opened, published, handed}
-use Rattle.view_text.specs.View.{AreElements, AreOpened}
+use Rattle.view_text.specs.View.{IsElement, AreElements, AreOpened}
 use Rattle.program_views.specs.Views.{lengths_of, openings, run_on}
 use Rattle.program_views.specs.Inputs.{AreSound}
 use Rattle.program_views.proofs.Given.{same_need}
@@ -28,9 +29,19 @@ use Rattle.view_reader.specs.Opened.{opened_bytes, opened_of}
 use Rattle.view_laws.proofs.OpenedFiles.{words_again}
 use Rattle.view_laws.proofs.OpenedWords.{opened_is_told}
 
+-- a number with a sign
+signed_is : (x : ℕ) → x < 2 ^ 64 → IsElement (element_of datatype.Int64 x)
+signed_is x h = go (nat_le (2 ^ 63) x) (nat_lt x (2 ^ 64)) refl refl
+  where
+    go : (a b : Bool) → nat_le (2 ^ 63) x ≡ a → nat_lt x (2 ^ 64) ≡ b → IsElement (element_of datatype.Int64 x)
+    go true true e f = let high = leb-true (2 ^ 63) x e in rw (e, f) (omega (arith, h), omega (arith, high))
+    go true false e f = rw (e, f) h
+    go false b e f = rw e h
+
 pub elements_are : (e : DataType) (words : List ℕ) → InRange e words → AreElements (map (element_of e) words)
 elements_are e [] h = tt
 elements_are datatype.Uint64 (x ∷ xs) h = (h 0, elements_are datatype.Uint64 xs (λ k. h (suc k)))
+elements_are datatype.Int64 (x ∷ xs) h = (signed_is x (h 0), elements_are datatype.Int64 xs (λ k. h (suc k)))
 elements_are datatype.Bool (x ∷ xs) h = (tt, elements_are datatype.Bool xs (λ k. h (suc k)))
 
 pub openings_are : {events : List Event} {notices : Number → List Notice} → Tells events notices → AreOpened (openings events)

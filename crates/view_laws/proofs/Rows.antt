@@ -4,7 +4,7 @@ use Rattle.std.specs.List.{flat_map}
 use Rattle.sc_text.specs.declared.end.TrapKind.TheVariants as trap
 use Rattle.sc_text.specs.declared.event.Event.TheVariants as event
 use Rattle.program_trees.specs.declared.expression.DataType.{DataType}
-use Rattle.program_trees.specs.declared.expression.DataType.TheVariants.{Uint64}
+use Rattle.program_trees.specs.declared.expression.DataType.TheVariants.{Uint64, Int64}
 use Rattle.program_trees.specs.declared.expression.DataType.TheVariants as datatype
 use Rattle.gates.specs.Clear.{bits_of}
 use Rattle.gates.specs.declared.gate.Gate.{Gate}
@@ -12,6 +12,7 @@ use Rattle.gates.specs.declared.gate.Gate.TheVariants.{Const, Sub, And, Xor, Pac
 use Rattle.plans.specs.Equality.{eq_plan}
 use Rattle.plans.specs.BitExtract.{bits_plan}
 use Rattle.plans.specs.Compare.{less_plan}
+use Rattle.plans.specs.Signed.{signed_less_plan}
 use Rattle.program_trees.specs.Shapes.{shape_of}
 use Rattle.program_trees.specs.declared.kinds.Shape.{Shape}
 use Rattle.program_trees.specs.declared.operators.OperatorSign.{OperatorSign}
@@ -21,16 +22,17 @@ use Rattle.program_trees.specs.declared.operators.BinaryOperator.{BinaryOperator
 use Rattle.program_trees.specs.declared.operators.BinaryOperator.TheVariants as binary
 use Rattle.program_trees.specs.declared.operators.Operands.{Operands}
 use Rattle.program_trees.specs.declared.operators.Cast.{Cast}
-use Rattle.program_trees.specs.declared.operators.Cast.TheVariants.{WordToWord, WordToBool, BoolToWord, BoolToBool}
-use Rattle.language_model.specs.Effects.{World, GivenInput, Source, Clear, Answers, planned, answer, words_each}
+use Rattle.language_model.specs.Effects.{World, GivenInput, Source, Clear, Answers, Effect, planned, answer, words_each}
 use Rattle.language_model.specs.Values.{Secrecy, Plain, Private, Value, plain, hidden, size, visible_words, gate_words, gate_size, elements_of}
 use Rattle.language_model.specs.Words.{flipped, result_size, are_alike, may_divide}
-use Rattle.language_model.specs.Operations.{no_traps, made_private, read_answer, words_of_operator, is_scalar_left, is_scalar_right, number_from, number_of}
+use Rattle.language_model.specs.Operations.{no_traps, made_private, read_answer, words_of_operator, words_on_numbers, is_scalar_left, is_scalar_right}
+use Rattle.language_model.specs.Operations.{number_from, number_of}
 use Rattle.language_model.specs.Operations.{classified_from, classified, revealed, opened_from, declassified, stretched, flip}
-use Rattle.language_model.specs.Operations.{zero_gates, equal_gates, less_gates}
+use Rattle.language_model.specs.Operations.{zero_gates, equal_gates, less_gates, signed_less_gates, or_gates, number_gates}
 use Rattle.language_model.specs.Operations.{operator_gates, private_result, product_with, combined_from, operator_traps, operated}
-use Rattle.language_model.specs.Operations.{words_of_cast, words_for_bits, not_too_large}
-use Rattle.language_model.specs.Operations.{negated_from, negated, cast_gates, changed, cast_from, cast_to, size_told, summed_from, summed, bits_from}
+use Rattle.language_model.specs.Operations.{words_between, words_of_cast, words_for_bits, words_for_lookup, not_too_large}
+use Rattle.language_model.specs.Operations.{negated_from, negated, truth_gates, conversion_gates, gates_between, changed, converted, cast_from, cast_to}
+use Rattle.language_model.specs.Operations.{size_told, summed_from, summed, bits_from, looked_up}
 use Rattle.language_model.specs.Operations.{bits_extracted, concatenated_from, concatenated, element_from, element_of_array, with_element_from, with_element}
 use Rattle.language_model.specs.Operations.{filled_from, filled, handed_over, published, tested, asserted}
 use Rattle.language_model.specs.Evaluation.{given_value, asked_for, is_as_declared}
@@ -46,6 +48,7 @@ each_few n h = record { first = h; second = h; third = h }
 -- a value has no more words in the gates than elements
 size_few : (e : DataType) (n : ℕ) → n ≤ 2 ^ 64 → gate_size e n ≤ 2 ^ 64
 size_few Uint64 n h = h
+size_few Int64 n h = h
 size_few datatype.Bool n h = omega (arith, h)
 
 told_few : (e : DataType) (n : ℕ) → n ≤ 2 ^ 64 → AreFew (words_each (gate_size e n))
@@ -54,7 +57,7 @@ told_few e n h = let s = size_few e n h in each_few (gate_size e n) (omega (arit
 no_words : AreFew (words_each 0)
 no_words = each_few 0 (omega arith)
 
-word_few : (op : OperatorSign) (n : ℕ) → n ≤ 2 ^ 64 → AreFew (words_of_operator (binary.Words op) n)
+word_few : (op : OperatorSign) (n : ℕ) → n ≤ 2 ^ 64 → AreFew (words_on_numbers op n)
 word_few word.Multiply n h = each_few (3 * n) (omega (arith, h))
 word_few word.Equal n h = record { first = omega (arith, h); second = omega (arith, h); third = omega (arith, h) }
 word_few word.NotEqual n h = record { first = omega (arith, h); second = omega (arith, h); third = omega (arith, h) }
@@ -72,20 +75,25 @@ word_few word.Xor n h = no_words
 
 operator_few : (op : BinaryOperator) (n : ℕ) → n ≤ 2 ^ 64 → AreFew (words_of_operator op n)
 operator_few (binary.Words op) n h = word_few op n h
+operator_few (binary.Ints op) n h = word_few op n h
 operator_few (binary.Bools truth.And) n h = let s = size_few datatype.Bool n h in each_few (3 * gate_size datatype.Bool n) (omega (arith, s))
 operator_few (binary.Bools truth.Or) n h = let s = size_few datatype.Bool n h in each_few (3 * gate_size datatype.Bool n) (omega (arith, s))
 operator_few (binary.Bools truth.Equal) n h = no_words
 operator_few (binary.Bools truth.NotEqual) n h = no_words
 operator_few (binary.Bools truth.Xor) n h = no_words
 
-cast_few : (c : Cast) (n : ℕ) → n ≤ 2 ^ 64 → AreFew (words_of_cast c n)
-cast_few WordToBool n h = record { first = omega (arith, h); second = omega (arith, h); third = omega (arith, h) }
-cast_few BoolToWord n h = record { first = omega (arith, h); second = omega (arith, h); third = omega (arith, h) }
-cast_few WordToWord n h = no_words
-cast_few BoolToBool n h = no_words
+cast_few : (given wanted : DataType) (n : ℕ) → n ≤ 2 ^ 64 → AreFew (words_between given wanted n)
+cast_few Uint64 datatype.Bool n h = record { first = omega (arith, h); second = omega (arith, h); third = omega (arith, h) }
+cast_few Int64 datatype.Bool n h = record { first = omega (arith, h); second = omega (arith, h); third = omega (arith, h) }
+cast_few datatype.Bool Uint64 n h = record { first = omega (arith, h); second = omega (arith, h); third = omega (arith, h) }
+cast_few datatype.Bool Int64 n h = record { first = omega (arith, h); second = omega (arith, h); third = omega (arith, h) }
+cast_few given wanted n h = no_words
 
 bits_few : (n : ℕ) → 64 * n ≤ 2 ^ 64 → AreFew (words_for_bits n)
 bits_few n h = record { first = omega (arith, h); second = omega (arith, h); third = omega (arith, h) }
+
+lookup_few : (n : ℕ) → n ≤ 2 ^ 64 → AreFew (words_for_lookup n)
+lookup_few n h = record { first = omega (arith, h); second = omega (arith, h); third = omega (arith, h) }
 
 module _ (w : World) (budget : ℕ) (room : HasRoom w budget) where
   -- ---- PARTS
@@ -149,27 +157,35 @@ module _ (w : World) (budget : ℕ) (room : HasRoom w budget) where
   less_ends : (n u v : ℕ) → Ends w budget room (less_gates n u v)
   less_ends n u v = bind w budget room (planned_ends (λ first. less_plan first u v n)) (λ z. on_gate w budget room (Pack z))
 
-  -- ---- OPERATORS
+  signed_less_ends : (n u v : ℕ) → Ends w budget room (signed_less_gates n u v)
+  signed_less_ends n u v = bind w budget room (planned_ends (λ first. signed_less_plan first u v n)) (λ z. on_gate w budget room (Pack z))
 
-  word_ends : (op : OperatorSign) (n u v : ℕ) → Ends w budget room (operator_gates (binary.Words op) n u v)
-  word_ends word.Add n u v = on_gate w budget room _
-  word_ends word.Subtract n u v = on_gate w budget room _
-  word_ends word.Multiply n u v = on_gate w budget room _
-  word_ends word.Equal n u v = equal_ends u v
-  word_ends word.NotEqual n u v = bind w budget room (equal_ends u v) (flip_ends n)
-  word_ends word.Less n u v = less_ends n u v
-  word_ends word.Greater n u v = less_ends n v u
-  word_ends word.GreaterOrEqual n u v = bind w budget room (less_ends n u v) (flip_ends n)
-  word_ends word.LessOrEqual n u v = bind w budget room (less_ends n v u) (flip_ends n)
-  word_ends op n u v = on_number w budget room
-
-  gates_end : (op : BinaryOperator) (n u v : ℕ) → Ends w budget room (operator_gates op n u v)
-  gates_end (binary.Words op) n u v = word_ends op n u v
-  gates_end (binary.Bools truth.Xor) n u v = on_gate w budget room _
-  gates_end (binary.Bools truth.And) n u v = on_gate w budget room _
-  gates_end (binary.Bools truth.Or) n u v =
+  or_ends : (u v : ℕ) → Ends w budget room (or_gates u v)
+  or_ends u v =
       bind w budget room (on_gate w budget room (And u v))
       (λ both. bind w budget room (on_gate w budget room (Xor u v)) (λ one. on_gate w budget room (Xor one both)))
+
+  -- ---- OPERATORS
+
+  module _ (less : ℕ → ℕ → ℕ → Effect ℕ) (ends : (n u v : ℕ) → Ends w budget room (less n u v)) where
+    numbers_end : (op : OperatorSign) (n u v : ℕ) → Ends w budget room (number_gates less op n u v)
+    numbers_end word.Add n u v = on_gate w budget room _
+    numbers_end word.Subtract n u v = on_gate w budget room _
+    numbers_end word.Multiply n u v = on_gate w budget room _
+    numbers_end word.Equal n u v = equal_ends u v
+    numbers_end word.NotEqual n u v = bind w budget room (equal_ends u v) (flip_ends n)
+    numbers_end word.Less n u v = ends n u v
+    numbers_end word.Greater n u v = ends n v u
+    numbers_end word.GreaterOrEqual n u v = bind w budget room (ends n u v) (flip_ends n)
+    numbers_end word.LessOrEqual n u v = bind w budget room (ends n v u) (flip_ends n)
+    numbers_end op n u v = on_number w budget room
+
+  gates_end : (op : BinaryOperator) (n u v : ℕ) → Ends w budget room (operator_gates op n u v)
+  gates_end (binary.Words op) n u v = numbers_end less_gates less_ends op n u v
+  gates_end (binary.Ints op) n u v = numbers_end signed_less_gates signed_less_ends op n u v
+  gates_end (binary.Bools truth.Xor) n u v = on_gate w budget room _
+  gates_end (binary.Bools truth.And) n u v = on_gate w budget room _
+  gates_end (binary.Bools truth.Or) n u v = or_ends u v
   gates_end (binary.Bools truth.NotEqual) n u v = on_gate w budget room _
   gates_end (binary.Bools truth.Equal) n u v = bind w budget room (on_gate w budget room _) (flip_ends n)
 
@@ -211,27 +227,38 @@ module _ (w : World) (budget : ℕ) (room : HasRoom w budget) where
       go Plain = on_done w budget room _
       go (Private k) = bind w budget room (number_ends v) (λ u. bind w budget room (flip_ends (size v) u) (λ r. made_ends v.shape (map flipped v.words) r))
 
-  cast_gates_end : (c : Cast) (n u : ℕ) → Ends w budget room (cast_gates c n u)
-  cast_gates_end WordToBool n u = bind w budget room (zero_ends u) (flip_ends n)
-  cast_gates_end BoolToWord n u = bind w budget room (on_gate w budget room (Unpack u n)) (λ z. on_gate w budget room (Conv z))
-  cast_gates_end WordToWord n u = on_done w budget room u
-  cast_gates_end BoolToBool n u = on_done w budget room u
+  truth_ends : (n u : ℕ) → Ends w budget room (truth_gates n u)
+  truth_ends n u = bind w budget room (zero_ends u) (flip_ends n)
+
+  conversion_ends : (n u : ℕ) → Ends w budget room (conversion_gates n u)
+  conversion_ends n u = bind w budget room (on_gate w budget room (Unpack u n)) (λ z. on_gate w budget room (Conv z))
+
+  between_ends : (given wanted : DataType) (n u : ℕ) → Ends w budget room (gates_between given wanted n u)
+  between_ends Uint64 datatype.Bool n u = truth_ends n u
+  between_ends Int64 datatype.Bool n u = truth_ends n u
+  between_ends datatype.Bool Uint64 n u = conversion_ends n u
+  between_ends datatype.Bool Int64 n u = conversion_ends n u
+  between_ends given wanted n u = on_done w budget room u
 
   changed_ends : (c : Cast) (v : Value) → size v ≤ 2 ^ 64 → Ends w budget room (changed w c v)
   changed_ends c v few =
-      bind w budget room (on_draw w budget room (words_of_cast c (size v)) (cast_few c (size v) few))
-      (λ _. bind w budget room (number_ends v) (λ u. bind w budget room (cast_gates_end c _ u) (λ r. on_done w budget room _)))
+      bind w budget room (on_draw w budget room (words_of_cast c (size v)) (cast_few c.given c.wanted (size v) few))
+      (λ _. bind w budget room (number_ends v) (λ u. bind w budget room (between_ends c.given c.wanted _ u) (λ r. on_done w budget room _)))
+
+  converted_ends : (x : Secrecy) (c : Cast) (v : Value) → size v ≤ 2 ^ 64 → Ends w budget room (converted w x c v)
+  converted_ends Plain c v few = on_done w budget room _
+  converted_ends (Private k) c v few = changed_ends c v few
 
   pub cast_ends : (c : Cast) (v : Value) → Ends w budget room (cast_to w c v)
-  cast_ends c v = charged_then w budget room no_traps (size v) _ (on_done w budget room tt) (λ few. go few v.secrecy c)
+  cast_ends c v = charged_then w budget room no_traps (size v) _ (on_done w budget room tt) (λ few. go few c.given c.wanted)
     where
-      go : size v ≤ 2 ^ 64 → (x : Secrecy) (c : Cast) → Ends w budget room (cast_from w x c v)
-      go few x WordToWord = on_done w budget room v
-      go few x BoolToBool = on_done w budget room v
-      go few Plain WordToBool = on_done w budget room _
-      go few Plain BoolToWord = on_done w budget room _
-      go few (Private k) WordToBool = changed_ends WordToBool v few
-      go few (Private k) BoolToWord = changed_ends BoolToWord v few
+      go : size v ≤ 2 ^ 64 → (given wanted : DataType) → Ends w budget room (cast_from given wanted w c v)
+      go few Uint64 Uint64 = on_done w budget room v
+      go few Int64 Int64 = on_done w budget room v
+      go few datatype.Bool datatype.Bool = on_done w budget room v
+      go few Uint64 Int64 = on_done w budget room _
+      go few Int64 Uint64 = on_done w budget room _
+      go few given wanted = converted_ends v.secrecy c v few
 
   pub size_ends : (v : Value) → Ends w budget room (size_told v)
   size_ends v = bind w budget room (on_charge w budget room 1) (λ _. on_done w budget room _)
@@ -272,6 +299,13 @@ module _ (w : World) (budget : ℕ) (room : HasRoom w budget) where
       go Plain (Private k) = both
       go (Private j) Plain = both
       go (Private j) (Private k) = both
+
+  pub looked_up_ends : (line : ℕ) (a i : Value) → line < 2 ^ 32 → Ends w budget room (looked_up w line a i)
+  looked_up_ends line a i h =
+      charged_then w budget room (not_too_large line (size a * size i)) (size a * size i) _ (on_test w budget room _ trap.Large line h)
+      (λ few. bind w budget room (on_draw w budget room (words_for_lookup (size a * size i)) (lookup_few (size a * size i) few))
+      (λ _. bind w budget room (number_ends a)
+      (λ u. bind w budget room (number_ends i) (λ v. bind w budget room (planned_ends _) (λ r. on_done w budget room _)))))
 
   pub element_ends : (line : ℕ) (v i : Value) → line < 2 ^ 32 → Ends w budget room (element_of_array line v i)
   element_ends line v i h =

@@ -34,6 +34,7 @@ share_words : (i : Number) (t : DataType) (xs words : List ℕ) → AreWords wor
 share_words One t xs words h = AreWords-take (length xs) words h
 share_words Two t xs words h = AreWords-take (length xs) (drop (length xs) words) (AreWords-drop (length xs) words h)
 share_words Three data_type.Uint64 xs words h = left_of_words add_ring_laws xs (first_masks (length xs) words) (second_masks (length xs) words)
+share_words Three data_type.Int64 xs words h = left_of_words add_ring_laws xs (first_masks (length xs) words) (second_masks (length xs) words)
 share_words Three data_type.Bool xs words h = left_of_words xor_ring_laws xs (first_masks (length xs) words) (second_masks (length xs) words)
 
 -- ---- names
@@ -70,6 +71,7 @@ shares_are i before (e ∷ es) words good are =
 
 size_most : (t : DataType) (n : ℕ) → shared_size t n ≤ n
 size_most data_type.Uint64 n = omega arith
+size_most data_type.Int64 n = omega arith
 size_most data_type.Bool n = omega arith
 
 draws_most : (d : Domain) (t : DataType) (n : ℕ) → n ≤ 65536 → draws_for d (shared_size t n) ≤ 131072

@@ -8,7 +8,7 @@ use Rattle.program_trees.specs.Shapes.{shape_of}
 use Rattle.language_model.specs.Values.{Value, plain, size}
 use Rattle.language_model.specs.Evaluation.{nothing, array_elements, either, input_named}
 use Rattle.language_model.specs.Reports.{dealing, beginning, not_dealt}
-use Rattle.verified_code.specs.Steps.{Step, Literal, Move, Store, Binary, Not, Cast, Classify, Fill, At, Put, Size, Cat, Sum, Bits, Declassify}
+use Rattle.verified_code.specs.Steps.{Step, Literal, Move, Store, Binary, Not, Cast, Classify, Fill, At, Put, Size, Cat, Sum, Bits, Lookup, Declassify}
 use Rattle.verified_code.specs.Steps.{Argument, Publish, Assert, Branch, Jump, Call, Return, ReturnNone, Function, kind_shape}
 use Rattle.code_model.specs.Machine.{Caller, Machine, values_at, steps_of, entering, limit, same_truth, resume, step, exec, further, start, at, next}
 use Rattle.code_model.specs.Meaning.{fuel, stopped_or, report_at, mean_in}
@@ -17,7 +17,7 @@ use Rattle.written_code.specs.Says.{StepSays}
 use Rattle.view_laws.specs.Ends.{HasRoom, CanBeWritten}
 use Rattle.view_laws.proofs.Effects.{IsWithin, Comes, Ends, untrapped_ends, on_charge, on_test}
 use Rattle.view_laws.proofs.Rows.{classified_ends, declassified_ends, operated_ends, negated_ends, cast_ends, size_ends, summed_ends, bits_end}
-use Rattle.view_laws.proofs.Rows.{concatenated_ends, element_ends, with_element_ends, filled_ends, published_ends, tested_ends, asserted_ends, asked_ends}
+use Rattle.view_laws.proofs.Rows.{concatenated_ends, looked_up_ends, element_ends, with_element_ends, filled_ends, published_ends, tested_ends, asserted_ends, asked_ends}
 
 abbrev pub is_line : ℕ → Bool
 is_line n = nat_lt n (2 ^ 32)
@@ -99,6 +99,8 @@ module _ (is_word : ℕ → Bool) (is_text : List ℕ → Bool) where
           by (concatenated_ends w budget room line (m.registers a) (m.registers b) (below line (h _ refl))) (λ v. stays d v)
       leads (Some (Sum d r)) h = by (summed_ends w budget room (m.registers r)) (λ v. stays d v)
       leads (Some (Bits line d r)) h = by (bits_end w budget room line (m.registers r) (below line (h _ refl))) (λ v. stays d v)
+      leads (Some (Lookup line d a i)) h =
+          by (looked_up_ends w budget room line (m.registers a) (m.registers i) (below line (h _ refl))) (λ v. stays d v)
       leads (Some (Declassify d r)) h = by (declassified_ends w budget room (m.registers r)) (λ v. stays d v)
       leads (Some (Argument line kind text d)) h =
           by (asked_ends w budget room kind.secret (kind_shape kind) line (input_named w text) (below line (h _ refl).0)) (λ v. stays d v)

@@ -90,6 +90,7 @@ shares_in :
     (t : DataType) (xs words : List ℕ) → 2 * length xs ≤ length words → AreWords words → All (λ n. n < 2 ^ 64) xs →
     AreShares (clear.ring_of (ring_kind t)) xs (λ i. share_of i (ring_of t) xs words)
 shares_in data_type.Uint64 xs words enough are fit = are_shares (ring_of data_type.Uint64) add_ring_laws xs words enough are fit
+shares_in data_type.Int64 xs words enough are fit = are_shares (ring_of data_type.Int64) add_ring_laws xs words enough are fit
 shares_in data_type.Bool xs words enough are fit = are_shares (ring_of data_type.Bool) xor_ring_laws xs words enough are fit
 
 -- what is dealt of one input, before what is dealt of the others

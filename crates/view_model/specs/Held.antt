@@ -5,7 +5,7 @@ use Rattle.gates.specs.declared.ring_kind.RingKind.{RingKind}
 use Rattle.gates.specs.declared.ring_kind.RingKind.TheVariants.{Arithmetic, Boolean}
 use Rattle.shared_gates.specs.Shares.{Kind, Shared}
 use Rattle.value_file.specs.declared.value.DataType.{DataType}
-use Rattle.value_file.specs.declared.value.DataType.TheVariants.{Uint64, Bool}
+use Rattle.value_file.specs.declared.value.DataType.TheVariants.{Uint64, Int64, Bool}
 use Rattle.value_file.specs.declared.value.Domain.{Domain}
 use Rattle.value_file.specs.declared.value.Domain.TheVariants as domain
 use Rattle.value_file.specs.declared.value.Value.{Value}
@@ -15,6 +15,7 @@ use Rattle.input_share.specs.Values.{shared_words}
 
 abbrev pub ring_kind : DataType → RingKind
 ring_kind Uint64 = Arithmetic
+ring_kind Int64 = Arithmetic
 ring_kind Bool = Boolean
 
 abbrev pub kind_then : Domain → Value → List Kind → List Kind

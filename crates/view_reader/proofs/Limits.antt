@@ -1,6 +1,6 @@
 -- Numbers with other limits than words have, names, and links.
-use Rattle.std.proofs.Common.{◌≡◌, ℕ, ◌<◌, ◌≤◌, ◌^◌, Bool, true, false, if◌then◌else◌, List, [], ◌∷◌, refl, sym, ◌∙◌, ap, subst, arith}
-use Rattle.std.specs.Prelude.{◌&&◌, nat_le, length, bytes_eq, Option, Some, None, IfSome, IfNone, Result, Ok}
+use Rattle.std.proofs.Common.{◌≡◌, ℕ, ◌+◌, ◌<◌, ◌≤◌, ◌^◌, Bool, true, false, if◌then◌else◌, List, [], ◌∷◌, refl, sym, ◌∙◌, ap, subst, ne_eqb, arith}
+use Rattle.std.specs.Prelude.{◌&&◌, ◌==◌, nat_le, length, bytes_eq, Option, Some, None, IfSome, IfNone, Result, Ok, option_and_then}
 use Rattle.std.specs.List.{list_all}
 use Rattle.std.specs.Fmt.{decimal}
 use Rattle.std.specs.Str.{IsUtf8, IsAscii}
@@ -14,10 +14,10 @@ use Rattle.sc_text.specs.Name.{is_name, is_name_byte}
 use Rattle.proto_core.specs.declared.link.Link.{Link}
 use Rattle.proto_core.specs.Parties.{link_text}
 use Rattle.proto_core.proofs.MessageFields.{first_true, second_true}
-use Rattle.view_text.specs.Reading.{number_in, word_in, name_in, link_in, links, one_of}
+use Rattle.view_text.specs.Reading.{below_in, number_in, word_in, name_in, link_in, links, one_of}
 use Rattle.view_text.proofs.Decimals.{number_back}
 use Rattle.view_text.proofs.Found.{nothing_found, same_found}
-use Rattle.view_text.proofs.LinesRead.{number_read}
+use Rattle.view_text.proofs.LinesRead.{below_read, number_read}
 use Rattle.view_text.proofs.Lines.{link_back}
 use Rattle.view_reader.proofs.Texts.{no_number}
 
@@ -49,6 +49,38 @@ line_number_none word h = by_answer (number_in (2 ^ 32) word) refl
     by_answer : (o : Option ℕ) → number_in (2 ^ 32) word ≡ o → None ≡ number_in (2 ^ 32) word
     by_answer None e = sym e
     by_answer (Some m) e = nothing_found m (h ∙ (narrower word m e).0)
+
+-- ---- by how much a number is below 0, from 1 to 2^63
+
+below_wider : (word : List ℕ) (n : ℕ) → below_in word ≡ Some n → (word_in word ≡ Some n) × (0 < n) × (n ≤ 2 ^ 63)
+below_wider word n h =
+    let read = below_read word n h in
+    let small : n ≤ 2 ^ 63 = read.2 in
+    (subst (λ w. word_in w ≡ Some n) (sym read.0) (number_back (2 ^ 64) n (omega arith) (omega arith)), read.1, small)
+
+pub below_some : (word : List ℕ) (n : ℕ) → Some n ≡ word_in word → 0 < n → n ≤ 2 ^ 63 → Some n ≡ below_in word
+below_some word n h some low =
+    let number : number_in (2 ^ 63 + 1) word ≡ Some n =
+    subst (λ w. number_in (2 ^ 63 + 1) w ≡ Some n) (sym (number_read (2 ^ 64) word n (sym h)).0) (number_back (2 ^ 63 + 1) n (omega arith) (omega arith)) in
+    sym (ap (option_and_then (λ m. if m == 0 then None else Some m)) number
+    ∙ ap (λ b. if b then None else Some n) (ne_eqb n 0 (λ none. omega (arith, some, none))))
+
+pub below_far : (word : List ℕ) (n : ℕ) → Some n ≡ word_in word → (0 < n → n ≤ 2 ^ 63 → ⊥) → None ≡ below_in word
+below_far word n h far = by_answer (below_in word) refl
+  where
+    by_answer : (o : Option ℕ) → below_in word ≡ o → None ≡ below_in word
+    by_answer None e = sym e
+    by_answer (Some m) e =
+        let read = below_wider word m e in
+        let same : n ≡ m = same_found n m (h ∙ read.0) in
+        absurd (far (subst (λ k. 0 < k) (sym same) read.1) (subst (λ k. k ≤ 2 ^ 63) (sym same) read.2))
+
+pub below_none : (word : List ℕ) → None ≡ word_in word → None ≡ below_in word
+below_none word h = by_answer (below_in word) refl
+  where
+    by_answer : (o : Option ℕ) → below_in word ≡ o → None ≡ below_in word
+    by_answer None e = sym e
+    by_answer (Some m) e = nothing_found m (h ∙ (below_wider word m e).0)
 
 -- ---- needs, below 2^128
 

@@ -3,9 +3,9 @@ use Rattle.std.proofs.Common.{◌≡◌, ℕ, ◌<◌, ◌+◌, List, [], ◌∷
 use Rattle.std.specs.Prelude.{Option, Some, None, Result, Ok, Err, get_or}
 use Rattle.std.specs.Borrow.{Bor}
 use Rattle.sc_text.specs.declared.elements.Element.{Element}
+use Rattle.sc_text.specs.Elements.{element_word}
 use Rattle.view_text.specs.Reading.{words_in_line, lines_in}
-use Rattle.view_reader.specs.Opened.{read_from}
-use Rattle.view_reader.specs.Opened.{element_word, opening_in, openings_of, opened_of}
+use Rattle.view_reader.specs.Opened.{opening_in, openings_of, opened_of, read_from}
 use Rattle.view_reader.proofs.LinesRead as lines
 pub use Rattle.view_reader.proofs.LinesRead.{left_from}
 

@@ -1,21 +1,15 @@
 -- The file of opened values: a line for each opening, the word `open` and then the elements, each line with its newline.
-use Rattle.std.specs.Prelude.{ℕ, ◌+◌, true, false, if◌then◌else◌, List, [], ◌∷◌, map, codes, bytes_eq, Option, Some, None, Result, Ok, Err}
+use Rattle.std.specs.Prelude.{ℕ, ◌+◌, if◌then◌else◌, List, [], ◌∷◌, map, codes, bytes_eq, Option, Some, None, Result, Ok, Err}
 use Rattle.std.specs.List.{flat_map}
 use Rattle.std.specs.Result.{result_map_both}
 use Rattle.sc_text.specs.declared.elements.Element.{Element}
-use Rattle.sc_text.specs.declared.elements.Element.TheVariants.{Word, Truth}
+use Rattle.sc_text.specs.Elements.{element_word}
 use Rattle.view_text.specs.Text.{Opened, lines_bytes}
 use Rattle.view_text.specs.Reading.{all_in, element_in, words_in_line, lines_in}
 
 -- the text of openings
 abbrev pub opened_bytes : List (List Element) → List ℕ
 opened_bytes openings = lines_bytes (map Opened openings)
-
--- an element as a word
-abbrev pub element_word : Element → ℕ
-element_word (Word word) = word
-element_word (Truth true) = 1
-element_word (Truth false) = 0
 
 -- the words of openings, in order
 abbrev pub opened_words : List (List Element) → List ℕ

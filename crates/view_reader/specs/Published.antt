@@ -5,9 +5,10 @@ use Rattle.std.specs.List.{flat_map}
 use Rattle.std.specs.Result.{result_map_both}
 use Rattle.sc_text.specs.declared.elements.Element.{Element}
 use Rattle.sc_text.specs.declared.event.Event.TheVariants.{Hand}
+use Rattle.sc_text.specs.Elements.{element_word}
 use Rattle.sc_text.specs.Event.{event_line}
 use Rattle.view_text.specs.Reading.{all_in, element_in, name_in, lines_in}
-use Rattle.view_reader.specs.Opened.{element_word, read_from}
+use Rattle.view_reader.specs.Opened.{read_from}
 
 pub record Publication : Type 0 where
   pub name : List ℕ

@@ -1,8 +1,8 @@
 -- Worked files of opened values, and what is read of them.
-use Rattle.std.specs.Prelude.{◌≡◌, [], ◌∷◌, codes, refl, Ok, Err, true}
+use Rattle.std.specs.Prelude.{◌≡◌, ◌^◌, ◌-◌, [], ◌∷◌, codes, refl, Ok, Err, true}
 use Rattle.std.specs.Fmt.{digits}
 use Rattle.sc_text.specs.Elements.{element_text}
-use Rattle.sc_text.specs.declared.elements.Element.TheVariants.{Word, Truth}
+use Rattle.sc_text.specs.declared.elements.Element.TheVariants.{Word, Negative, Truth}
 use Rattle.view_text.specs.Reading.{number_in}
 use Rattle.view_reader.specs.Opened.{opened_bytes, opened_of, openings_of}
 
@@ -13,6 +13,22 @@ written = refl
 pub read_as_words : opened_of (codes "open 13\nopen true 0\nopen\nopen false\n") ≡ Ok (13 ∷ 1 ∷ 0 ∷ 0 ∷ [])
 unfolding openings_of number_in digits
 read_as_words = refl
+
+pub written_with_a_sign : opened_bytes ((Negative 5 ∷ Word 3 ∷ []) ∷ []) ≡ codes "open -5 3\n"
+unfolding element_text digits
+written_with_a_sign = refl
+
+pub read_with_a_sign : opened_of (codes "open -5 3 -9223372036854775808\n") ≡ Ok ((2 ^ 64 - 5) ∷ 3 ∷ (2 ^ 63) ∷ [])
+unfolding openings_of number_in digits
+read_with_a_sign = refl
+
+pub negative_zero : opened_of (codes "open 1\nopen -0\n") ≡ Err 2
+unfolding openings_of number_in digits
+negative_zero = refl
+
+pub too_far_below : opened_of (codes "open -9223372036854775809\n") ≡ Err 1
+unfolding openings_of number_in digits
+too_far_below = refl
 
 pub nothing_opened : opened_of [] ≡ Ok []
 unfolding openings_of

@@ -19,7 +19,7 @@ mod reading;
 mod view_reading;
 mod words;
 
-pub use elements::{element_word, elements_in, push_words};
+pub use elements::{elements_in, push_words};
 pub use ends::end_in;
 pub use laws::{
     first_wrong_opening_is_named, opened_values_are_read_again,

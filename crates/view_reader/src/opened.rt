@@ -1,7 +1,8 @@
 // The file of opened values.
 ghost use Rattle.std.specs.Prelude.{◌≡◌, ◌++◌, Some, None, map, if◌then◌else◌, IfOk, option_map};
+ghost use Rattle.sc_text.specs.Elements.{element_word};
 ghost use Rattle.view_text.specs.Reading.{words_in_line};
-ghost use Rattle.view_reader.specs.Opened.{element_word, opened_of, opening_in};
+ghost use Rattle.view_reader.specs.Opened.{opened_of, opening_in};
 ghost use Rattle.view_reader.specs.Reads.{Reads};
 
 use crate::elements::{elements_in, push_words};
@@ -30,8 +31,8 @@ fn push_opening(alloc: Global, line: &[u8], opened: &mut Vec<u64>) -> Result<boo
 }
 
 /// Reads a file of opened values: lines of `open` and then the elements, each a number below 2^64 in decimal without
-/// leading zeros, `true` or `false`, with one space before it and a newline after each line. The answer has the words in
-/// order, for a truth value 1 or 0.
+/// leading zeros, `-` and such a number from 1 to 2^63, `true` or `false`, with one space before it and a newline after each
+/// line. The answer has the words in order, for a number below 0 by two's complement, for a truth value 1 or 0.
 ///
 /// `BadView` names the first line that is no such line or has no newline, counted from 1.
 pub fn read_opened(alloc: Global, bytes: &[u8]) -> Result<Vec<u64>, ReadErr>

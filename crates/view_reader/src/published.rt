@@ -55,8 +55,8 @@ fn push_publication(
 }
 
 /// Reads a file of what is handed over: lines of `publish`, a name and then the elements, each a number below 2^64 in decimal without
-/// leading zeros, `true` or `false`, with one space before each word and a newline after each line. The answer has the words in order,
-/// for a truth value 1 or 0.
+/// leading zeros, `-` and such a number from 1 to 2^63, `true` or `false`, with one space before each word and a newline after each
+/// line. The answer has the words in order, for a number below 0 by two's complement, for a truth value 1 or 0.
 ///
 /// `BadView` names the first line that is no such line or has no newline, counted from 1.
 pub fn read_published(alloc: Global, bytes: &[u8]) -> Result<Vec<u64>, ReadErr>

@@ -5,13 +5,13 @@ use Rattle.std.specs.Prelude.{replicate, Some}
 use Rattle.std.proofs.lemmas.List.{length-replicate, map-append}
 use Rattle.std.proofs.lemmas.List.Elements.{All-map, All-replicate}
 use Rattle.value_file.specs.declared.value.DataType.{DataType}
-use Rattle.value_file.specs.declared.value.DataType.TheVariants.{Uint64, Bool}
+use Rattle.value_file.specs.declared.value.DataType.TheVariants.{Uint64, Int64, Bool}
 use Rattle.value_file.specs.declared.value.Shape.{Shape}
 use Rattle.value_file.specs.declared.value.Shape.TheVariants.{Scalar, Array}
 use Rattle.value_file.specs.declared.value.Domain.{Domain}
 use Rattle.value_file.specs.declared.value.Domain.TheVariants.{Public, Private}
 use Rattle.value_file.specs.declared.value.Value.{Value}
-use Rattle.value_file.specs.declared.value.Value.TheVariants.{Number, Truth, Numbers, Truths}
+use Rattle.value_file.specs.declared.value.Value.TheVariants.{Number, Integer, Truth, Numbers, Integers, Truths}
 use Rattle.value_file.specs.declared.inputs.Entry.{Entry}
 use Rattle.value_file.specs.declared.public.PublicValue.{PublicValue}
 use Rattle.value_file.specs.declared.public.PublicValue.TheVariants.{Known, Hidden}
@@ -33,6 +33,8 @@ use Rattle.input_share.proofs.Bits.{bits_small, one_small}
 abbrev pub zeros_of : DataType → Shape → Value
 zeros_of Uint64 Scalar = Number 0
 zeros_of Uint64 (Array count) = Numbers (replicate count 0)
+zeros_of Int64 Scalar = Integer 0
+zeros_of Int64 (Array count) = Integers (replicate count 0)
 zeros_of Bool Scalar = Truth false
 zeros_of Bool (Array count) = Truths (replicate count false)
 
@@ -54,12 +56,16 @@ known_by name value = record { name = name; value = value }
 type_again : (kind : DataType) (shape : Shape) → type_of (zeros_of kind shape) ≡ kind
 type_again Uint64 Scalar = refl
 type_again Uint64 (Array count) = refl
+type_again Int64 Scalar = refl
+type_again Int64 (Array count) = refl
 type_again Bool Scalar = refl
 type_again Bool (Array count) = refl
 
 shape_again : (kind : DataType) (shape : Shape) → shape_of (zeros_of kind shape) ≡ shape
 shape_again Uint64 Scalar = refl
 shape_again Uint64 (Array count) = ap Array (length-replicate count 0)
+shape_again Int64 Scalar = refl
+shape_again Int64 (Array count) = ap Array (length-replicate count 0)
 shape_again Bool Scalar = refl
 shape_again Bool (Array count) = ap Array (length-replicate count false)
 
@@ -84,6 +90,8 @@ given_again : (name : List ℕ) (value : PublicValue) → input_given (entry_of 
 given_again name (Known value) = refl
 given_again name (Hidden Uint64 Scalar) = refl
 given_again name (Hidden Uint64 (Array count)) = refl
+given_again name (Hidden Int64 Scalar) = refl
+given_again name (Hidden Int64 (Array count)) = refl
 given_again name (Hidden Bool Scalar) = refl
 given_again name (Hidden Bool (Array count)) = ap (λ ws. record (public_given name (Hidden Bool (Array count))) { words = ws }) (truths_again count)
 
@@ -118,6 +126,8 @@ form_from before (e ∷ es) h = (
 zeros_small : (kind : DataType) (shape : Shape) → All (λ n. n < 2 ^ 64) (elements_of (zeros_of kind shape))
 zeros_small Uint64 Scalar = All-replicate (λ n. n < 2 ^ 64) 1 0 (omega arith)
 zeros_small Uint64 (Array count) = All-replicate (λ n. n < 2 ^ 64) count 0 (omega arith)
+zeros_small Int64 Scalar = All-replicate (λ n. n < 2 ^ 64) 1 0 (omega arith)
+zeros_small Int64 (Array count) = All-replicate (λ n. n < 2 ^ 64) count 0 (omega arith)
 zeros_small Bool Scalar = one_small false
 zeros_small Bool (Array count) = bits_small (replicate count false)
 

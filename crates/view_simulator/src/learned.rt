@@ -1,22 +1,12 @@
 // The words that the gates of a run opened, by what was told of it.
 ghost use Rattle.std.specs.Prelude.{◌≡◌, ◌∷◌, [], ◌++◌, map, IfOk, OnOk};
-ghost use Rattle.language_model.specs.Learned.{element_word, elements_words, learned_of};
+ghost use Rattle.sc_text.specs.Elements.{element_word};
+ghost use Rattle.language_model.specs.Learned.{elements_words, learned_of};
 
 use input_share::shared_as;
 use sc_text::{Element, Event};
 use std::alloc::{AllocError, Global};
 use value_file::DataType;
-
-/// An element as a word: a truth value is 1 or 0.
-fn element_word(element: &Element) -> u64
-    ensures { result ≡ element_word element.now }
-{
-    match element {
-        Element::Word(word) => *word,
-        Element::Truth(true) => 1,
-        Element::Truth(false) => 0,
-    }
-}
 
 /// Elements, each as a word.
 fn words_of(alloc: Global, elements: &[Element]) -> Result<Vec<u64>, AllocError>
@@ -24,7 +14,7 @@ fn words_of(alloc: Global, elements: &[Element]) -> Result<Vec<u64>, AllocError>
 {
     let mut words = Vec::with_capacity(alloc, elements.len())?;
     for element in elements {
-        words.push(element_word(element))?;
+        words.push(element.word())?;
     }
     Ok(words)
 }
@@ -36,7 +26,7 @@ fn opening_words(alloc: Global, elements: &[Element]) -> Result<Vec<u64>, AllocE
     let words = words_of(alloc, elements)?;
     match elements.first() {
         Some(Element::Truth(_)) => shared_as(alloc, DataType::Bool, words),
-        Some(Element::Word(_)) | None => Ok(words),
+        Some(Element::Word(_)) | Some(Element::Negative(_)) | None => Ok(words),
     }
 }
 

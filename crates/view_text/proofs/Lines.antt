@@ -1,6 +1,6 @@
 -- Each line is read again, and has no newline in it.
-use Rattle.std.proofs.Common.{◌≡◌, ℕ, ◌<◌, ◌^◌, Bool, true, false, if◌then◌else◌, List, [], ◌∷◌, map, refl, sym, ◌∙◌, ap, subst, arith}
-use Rattle.std.specs.Prelude.{codes, bytes_eq, not, ◌&&◌, ◌==◌, Option, Some, None, option_map, option_and_then}
+use Rattle.std.proofs.Common.{◌≡◌, ℕ, ◌+◌, ◌<◌, ◌≤◌, ◌^◌, Bool, true, false, if◌then◌else◌, List, [], ◌∷◌, map, drop, refl, sym, ◌∙◌, ap, subst, ne_eqb, arith}
+use Rattle.std.specs.Prelude.{codes, bytes_eq, slice_index, not, ◌&&◌, ◌==◌, Option, Some, None, option_map, option_and_then}
 use Rattle.std.specs.Fmt.{decimal}
 use Rattle.std.proofs.lemmas.Slice.Eq.{bytes_eq-Decides}
 use Rattle.sc_text.specs.declared.elements.Element.{Element}
@@ -22,7 +22,8 @@ use Rattle.proto_core.specs.declared.link.Link.TheVariants.{Link12, Link13, Link
 use Rattle.view_text.specs.View.{Words, IsElement, AreElements, IsEnding}
 use Rattle.proto_core.specs.Parties.{number_text, link_text}
 use Rattle.view_text.specs.Text.{Line, Heading, Input, Drew, Got, Opened, Ended, line_words}
-use Rattle.view_text.specs.Reading.{miner_in, link_in, one_of, traps, owners_of_tapes, element_in, all_in, word_in, number_in, line_in}
+use Rattle.view_text.specs.Reading.{miner_in, link_in, one_of, traps, owners_of_tapes, below_in, signed_in, element_in, all_in}
+use Rattle.view_text.specs.Reading.{word_in, number_in, line_in}
 use Rattle.view_text.proofs.Bytes.{Free, AllFree}
 use Rattle.view_text.proofs.Decimals.{AreDigits, number_back, decimal_digits, decimal_free, name_free}
 use Rattle.view_text.proofs.Found.{both}
@@ -71,18 +72,35 @@ not_digits x xs ds h digits = by_test (bytes_eq (x ∷ xs) ds) refl
     by_test false e = e
     by_test true e = too_large (subst AreDigits (sym (eq_from (x ∷ xs) ds e)) digits)
 
+-- digits begin with no `-`
+no_sign : (ds : List ℕ) → AreDigits ds → (slice_index ds 0 == 45) ≡ false
+no_sign [] h = refl
+no_sign (d ∷ ds) h = let l : 48 ≤ d = h.0 in grind arith
+
+below_back : (n : ℕ) → 0 < n → n ≤ 2 ^ 63 → below_in (decimal n) ≡ Some n
+below_back n some fits =
+    ap (option_and_then (λ m. if m == 0 then None else Some m)) (number_back (2 ^ 63 + 1) n (omega (arith, fits)) (omega (arith, fits)))
+    ∙ ap (λ b. if b then None else Some n) (ne_eqb n 0 (λ none. omega (arith, some, none)))
+
+signed_back : (n : ℕ) → n < 2 ^ 64 → signed_in (decimal n) ≡ Some (elements.Word n)
+signed_back n h =
+    ap (λ b. if b then option_map elements.Negative (below_in (drop 1 (decimal n))) else option_map elements.Word (word_in (decimal n)))
+    (no_sign (decimal n) (decimal_digits n (wide n h)))
+    ∙ ap (option_map elements.Word) (word_back n h)
+
 element_back : (e : Element) → IsElement e → element_in (element_text e) ≡ Some e
 unfolding element_text
 element_back (elements.Truth true) h = refl
 element_back (elements.Truth false) h = refl
 element_back (elements.Word n) h =
     let digits = decimal_digits n (wide n h) in
-    let word = option_map elements.Word (word_in (decimal n)) in
+    let word = signed_in (decimal n) in
     ap (λ b. if b then Some (elements.Truth true) else if bytes_eq (codes "false") (decimal n) then Some (elements.Truth false) else word)
     (not_digits 116 (codes "rue") (decimal n) (omega arith) digits)
     ∙ ap (λ b. if b then Some (elements.Truth false) else word)
     (not_digits 102 (codes "alse") (decimal n) (omega arith) digits)
-    ∙ ap (option_map elements.Word) (word_back n h)
+    ∙ signed_back n h
+element_back (elements.Negative n) h = ap (option_map elements.Negative) (below_back n h.0 h.1)
 
 elements_in : (es : List Element) → AreElements es → all_in element_in (map element_text es) ≡ Some es
 elements_in [] h = refl
@@ -198,6 +216,7 @@ unfolding element_text
 element_plain (elements.Truth true) h = plain (codes "true") refl
 element_plain (elements.Truth false) h = plain (codes "false") refl
 element_plain (elements.Word n) h = decimal_plain n (wide n h)
+element_plain (elements.Negative n) h = let digits = decimal_plain n (omega (arith, h.1)) in ((refl, digits.0), (refl, digits.1))
 
 elements_plain : (es : List Element) → AreElements es → NoGaps (map element_text es)
 elements_plain [] h = tt

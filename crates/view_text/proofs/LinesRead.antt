@@ -1,6 +1,6 @@
 -- The words of which a line is read are those that it is written with.
-use Rattle.std.proofs.Common.{◌≡◌, ℕ, ◌<◌, ◌^◌, Bool, true, false, List, [], ◌∷◌, map, refl, sym, ◌∙◌, ap, subst, arith}
-use Rattle.std.specs.Prelude.{◌&&◌, nat_lt, codes, bytes_eq, Option, Some, None, option_map, option_and_then}
+use Rattle.std.proofs.Common.{◌≡◌, ℕ, zero, suc, ◌+◌, ◌<◌, ◌≤◌, ◌^◌, Bool, true, false, if◌then◌else◌, List, [], ◌∷◌, map, refl, sym, ◌∙◌, ap, subst, arith}
+use Rattle.std.specs.Prelude.{◌&&◌, ◌==◌, nat_lt, drop, slice_index, codes, bytes_eq, Option, Some, None, option_map, option_and_then}
 use Rattle.std.specs.Fmt.{decimal}
 use Rattle.std.specs.Str.Parse.{digits_value}
 use Rattle.std.proofs.lemmas.Slice.Eq.{bytes_eq-Decides}
@@ -19,7 +19,7 @@ use Rattle.view_text.specs.View.{Words, IsElement, AreElements, IsEnding}
 use Rattle.proto_core.specs.Parties.{number_text, link_text}
 use Rattle.view_text.specs.Text.{Line, Heading, Input, Drew, Got, Opened, Ended, cost_words, ending_words, line_words}
 use Rattle.view_text.specs.Reading.{miners, links, traps, owners_of_tapes, miner_in, link_in}
-use Rattle.view_text.specs.Reading.{one_of, element_in, all_in, word_in, number_in, name_in}
+use Rattle.view_text.specs.Reading.{one_of, below_in, signed_in, element_in, all_in, word_in, number_in, name_in}
 use Rattle.view_text.specs.Reading.{fixed, cost_in, trap_end_in, tape_end_in, end_in, heading_in, input_in, got_in, line_in}
 use Rattle.view_text.proofs.Found.{both, nothing_found, same_found, if_found, then_found, map_found, next_found}
 use Rattle.view_text.proofs.Lines.{IsLine, IsEnd}
@@ -57,15 +57,37 @@ fixed_read text word u h = then_found (bytes_eq text word) tt u h (λ same is. s
 abbrev ElementRead : List ℕ → Element → Type 0
 ElementRead word e = (word ≡ element_text e) × IsElement e
 
+pub below_read : (word : List ℕ) (n : ℕ) → below_in word ≡ Some n → (word ≡ decimal n) × (0 < n) × (n ≤ 2 ^ 63)
+below_read word n h =
+    next_found (λ m. if m == 0 then None else Some m) (number_in (2 ^ 63 + 1) word) n h
+    (λ m first rest. if_found (m == 0) None (Some m) n rest (λ none is. nothing_found n is)
+    (λ is. subst (λ k. (word ≡ decimal k) × (0 < k) × (k ≤ 2 ^ 63)) (same_found m n is) (above m first rest)))
+  where
+    above : (m : ℕ) → number_in (2 ^ 63 + 1) word ≡ Some m → (if m == 0 then None else Some m) ≡ Some n → (word ≡ decimal m) × (0 < m) × (m ≤ 2 ^ 63)
+    above zero first rest = nothing_found n rest
+    above (suc m) first rest = let read = number_read (2 ^ 63 + 1) word (suc m) first in (read.0, omega arith, omega (arith, read.1))
+
+-- the sign stands first
+sign_first : (word : List ℕ) → (slice_index word 0 == 45) ≡ true → word ≡ 45 ∷ drop 1 word
+sign_first [] h = absurd (let e : false ≡ true = h in cc)
+sign_first (x ∷ xs) h = let e : x ≡ 45 = grind arith in ap (λ y. y ∷ xs) e
+
+signed_read : (word : List ℕ) (e : Element) → signed_in word ≡ Some e → ElementRead word e
+unfolding element_text
+signed_read word e h =
+    if_found (slice_index word 0 == 45) (option_map elements.Negative (below_in (drop 1 word))) (option_map elements.Word (word_in word)) e h
+    (λ sign is. map_found (ElementRead word) elements.Negative (below_in (drop 1 word)) e is
+    (λ n found. let read = below_read (drop 1 word) n found in (sign_first word sign ∙ ap (λ ds. 45 ∷ ds) read.0, (read.1, read.2))))
+    (λ is. map_found (ElementRead word) elements.Word (word_in word) e is (λ n found. number_read (2 ^ 64) word n found))
+
 element_read : (word : List ℕ) (e : Element) → element_in word ≡ Some e → ElementRead word e
 unfolding element_text
 element_read word e h =
-    let number = option_map elements.Word (word_in word) in
     if_found (bytes_eq (codes "true") word) (Some (elements.Truth true)) _ e h
     (λ same is. subst (ElementRead word) (same_found (elements.Truth true) e is) (sym (same_bytes (codes "true") word same), tt))
-    (λ g. if_found (bytes_eq (codes "false") word) (Some (elements.Truth false)) number e g
+    (λ g. if_found (bytes_eq (codes "false") word) (Some (elements.Truth false)) (signed_in word) e g
     (λ same is. subst (ElementRead word) (same_found (elements.Truth false) e is) (sym (same_bytes (codes "false") word same), tt))
-    (λ f. map_found (ElementRead word) elements.Word (word_in word) e f (λ n is. number_read (2 ^ 64) word n is)))
+    (λ f. signed_read word e f))
 
 -- of a list each is read
 module _ {A P : Type 0} where

@@ -1,6 +1,6 @@
 -- The reader of a view's text: the view, or the number of the first line that is not as it must be.
 use Rattle.std.specs.Prelude.{ℕ, ◌+◌, ◌^◌, ◌==◌, ◌&&◌, true, false, nat_lt, if◌then◌else◌, List, [], ◌∷◌, ◌++◌}
-use Rattle.std.specs.Prelude.{codes, Option, Some, None, Result, Ok, Err, option_map, option_and_then, bytes_eq}
+use Rattle.std.specs.Prelude.{codes, drop, slice_index, Option, Some, None, Result, Ok, Err, option_map, option_and_then, bytes_eq}
 use Rattle.std.specs.List.{find, slice_split}
 use Rattle.std.specs.Fmt.{decimal}
 use Rattle.std.specs.Str.Parse.{digits_value}
@@ -56,11 +56,21 @@ traps = kinds.Length ∷ kinds.Div ∷ kinds.Index ∷ kinds.Argument ∷ kinds.
 abbrev pub owners_of_tapes : List TapeOwner
 owners_of_tapes = owners.Dealer ∷ owners.Miner1 ∷ owners.Miner2 ∷ owners.Miner3 ∷ []
 
+-- the decimal text of a number from 1 to 2^63
+abbrev pub below_in : List ℕ → Option ℕ
+below_in digits = option_and_then (λ n. if n == 0 then None else Some n) (number_in (2 ^ 63 + 1) digits)
+
+-- a word, or `-` and by how much the number is below 0
+abbrev pub signed_in : List ℕ → Option Element
+signed_in word =
+    if slice_index word 0 == 45 then option_map elements.Negative (below_in (drop 1 word))
+    else option_map elements.Word (word_in word)
+
 abbrev pub element_in : List ℕ → Option Element
 element_in word =
     if bytes_eq (codes "true") word then Some (elements.Truth true)
     else if bytes_eq (codes "false") word then Some (elements.Truth false)
-    else option_map elements.Word (word_in word)
+    else signed_in word
 
 abbrev pub all_in : {A : Type 0} → (List ℕ → Option A) → List (List ℕ) → Option (List A)
 all_in one [] = Some []

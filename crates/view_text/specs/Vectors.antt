@@ -1,10 +1,10 @@
 -- Worked texts, and what is read of them.
-use Rattle.std.specs.Prelude.{◌≡◌, ℕ, List, [], ◌∷◌, codes, refl, Ok, Err}
+use Rattle.std.specs.Prelude.{◌≡◌, ℕ, ◌^◌, List, [], ◌∷◌, codes, refl, Ok, Err}
 use Rattle.std.specs.Fmt.{digits}
 use Rattle.sc_text.specs.Elements.{element_text}
 use Rattle.sc_text.specs.End.{owner_digit}
 use Rattle.sc_text.specs.Name.{is_name}
-use Rattle.sc_text.specs.declared.elements.Element.TheVariants.{Word}
+use Rattle.sc_text.specs.declared.elements.Element.TheVariants.{Negative, Word}
 use Rattle.sc_text.specs.declared.end.Ending.TheVariants.{Done, Tape}
 use Rattle.sc_text.specs.declared.end.TapeOwner.TheVariants as owners
 use Rattle.proto_core.specs.declared.party.Number.TheVariants.{One, Two, Three}
@@ -75,6 +75,22 @@ pub undealt_is_read : read_view_of (codes "view 2\ndrew\nend tape 0 need 2 have 
 unfolding read_view_of number_in is_name owner_digit digits
 undealt_is_read = refl
 
+-- openings of numbers with a sign
+abbrev pub signed : View
+signed =
+    record {
+      miner = One;
+      inputs = [];
+      drew = [];
+      got = [];
+      opened = (Negative 5 ∷ Word 0 ∷ Negative (2 ^ 63) ∷ []) ∷ [];
+      end = record { how = Done; cost = 2 };
+    }
+
+pub signed_is_read : read_view_of (codes "view 1\ndrew\nopen -5 0 -9223372036854775808\nend done cost 2\n") ≡ Ok signed
+unfolding read_view_of number_in digits
+signed_is_read = refl
+
 -- ---- what is no view's text: the first line that is wrong
 
 pub nothing_at_all : read_view_of [] ≡ Err 1
@@ -88,6 +104,22 @@ leading_zero = refl
 pub too_large : read_view_of (codes "view 1\ndrew 18446744073709551616\nend done cost 7\n") ≡ Err 2
 unfolding read_view_of number_in digits
 too_large = refl
+
+pub negative_zero : read_view_of (codes "view 1\ndrew\nopen -0\nend done cost 7\n") ≡ Err 3
+unfolding read_view_of number_in digits
+negative_zero = refl
+
+pub zero_after_the_sign : read_view_of (codes "view 1\ndrew\nopen -01\nend done cost 7\n") ≡ Err 3
+unfolding read_view_of number_in digits
+zero_after_the_sign = refl
+
+pub too_far_below : read_view_of (codes "view 1\ndrew\nopen -9223372036854775809\nend done cost 7\n") ≡ Err 3
+unfolding read_view_of number_in digits
+too_far_below = refl
+
+pub sign_of_a_drawn_word : read_view_of (codes "view 1\ndrew -5\nend done cost 7\n") ≡ Err 2
+unfolding read_view_of number_in digits
+sign_of_a_drawn_word = refl
 
 pub no_such_link : read_view_of (codes "view 1\ndrew\ngot 33 4\nend done cost 7\n") ≡ Err 3
 unfolding read_view_of number_in digits

@@ -1,5 +1,5 @@
 -- Domains on both sides: what operations make of them, and what a call binds domain variables to.
-use Rattle.std.proofs.Common.{◌≡◌, ℕ, zero, suc, ◌+◌, ◌<◌, ◌≤◌, List, [], ◌∷◌, ◌++◌, length, take, refl, sym, ap, ap₂, ◌∙◌, subst, Option, Some, None}
+use Rattle.std.proofs.Common.{◌≡◌, ℕ, zero, suc, ◌+◌, ◌<◌, ◌≤◌, ◌≢◌, List, [], ◌∷◌, ◌++◌, length, take, refl, sym, ap, ap₂, ◌∙◌, subst, Option, Some, None}
 use Rattle.std.proofs.Common.{Bool, true, false, cond, eq-eqb, arith}
 use Rattle.std.specs.Prelude.{map, nat_eq, bytes_eq, option_map, option_and_then}
 use Rattle.std.specs.List.{slice_get}
@@ -29,7 +29,7 @@ use Rattle.name_resolution.specs.Functions.{variable_number, domain_named, slot_
 use Rattle.name_resolution.proofs.SoundValues.{mapped, both_there, some_is}
 use Rattle.reached_instances.specs.declared.instance.BoundDomain.{BoundDomain}
 use Rattle.reached_instances.specs.declared.instance.BoundDomain.TheVariants.{Public, Private}
-use Rattle.reached_instances.specs.Domains.{joined_domain, is_variable, bound_to, bound_below}
+use Rattle.reached_instances.specs.Domains.{is_private, joined_domain, is_variable, bound_to, bound_below}
 use Rattle.program_typing.proofs.ReachedFunctions.{text_is, text_same}
 use Rattle.well_typed.specs.Kinds.{GoesTo, Meet}
 use Rattle.well_typed.specs.Laws.{bound_domain}
@@ -45,6 +45,10 @@ pub meets_joined : (a b r : Protection) → Meets a b r → joined_domain (bound
 meets_joined checked.Public d r h = ap bound_domain (sym h)
 meets_joined (checked.Private k) checked.Public r h = ap bound_domain (sym h)
 meets_joined (checked.Private k) (checked.Private m) r h = ap bound_domain (sym h.1)
+
+pub bound_private : (d : Protection) → d ≢ checked.Public → is_private (bound_domain d) ≡ true
+bound_private checked.Public h = absurd (h refl)
+bound_private (checked.Private k) h = refl
 
 meet_joined : (a b r : Protection) → meet a b ≡ Some r → joined_domain (bound_domain a) (bound_domain b) ≡ bound_domain r
 meet_joined checked.Public d r e = ap bound_domain (same_Some d r e)

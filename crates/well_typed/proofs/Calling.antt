@@ -4,6 +4,9 @@ use Rattle.std.specs.Prelude.{map}
 use Rattle.std.specs.List.{slice_get}
 use Rattle.std.proofs.lemmas.List.{length-map}
 use Rattle.sc_text.specs.declared.span.Span.{Span}
+use Rattle.program_trees.specs.declared.expression.DataType.{DataType}
+use Rattle.program_trees.specs.declared.expression.DataType.TheVariants.{Uint64, Int64}
+use Rattle.program_trees.specs.declared.expression.DataType.TheVariants as datatype
 use Rattle.program_trees.specs.declared.function.DomainVariable.{DomainVariable}
 use Rattle.program_trees.specs.declared.function.Parameter.{Parameter}
 use Rattle.program_trees.specs.declared.function.ResultType.{ResultType}
@@ -15,7 +18,7 @@ use Rattle.domain_types.specs.declared.value_type.ValueType.{ValueType}
 use Rattle.domain_types.specs.declared.value_type.ExpressionType.{ExpressionType}
 use Rattle.domain_types.specs.declared.value_type.ExpressionType.TheVariants.{Void, Value}
 use Rattle.domain_types.specs.BuiltIn.{BuiltIn}
-use Rattle.domain_types.specs.BuiltIn.TheVariants.{Size, Cat, Sum, BitExtract}
+use Rattle.domain_types.specs.BuiltIn.TheVariants.{Size, Cat, Sum, BitExtract, Lookup}
 use Rattle.domain_types.specs.Declarations.{Declared, declared_by, functions_of, defined, callee}
 use Rattle.domain_types.specs.Settings.{Setting, domain_of, in_domain, type_written}
 use Rattle.domain_types.specs.Scopes as checked
@@ -24,6 +27,7 @@ use Rattle.domain_types.specs.FunctionTypes as head
 use Rattle.sc_text.specs.Lists.{Among}
 use Rattle.domain_types.specs.Reached.{Call, Instance, Calls, IsChecked, reached, function_calls, call_of}
 use Rattle.domain_types.specs.Typing.{IsBuiltInCall, ParameterTakes, ParametersTake, AreBound, AreParameters, IsDefinedCall, IsTypedProgram}
+use Rattle.domain_types.specs.Typing as typing
 use Rattle.domain_types.proofs.Bindings.{with_domain}
 use Rattle.domain_types.proofs.TypingSteps.{there, passes}
 use Rattle.domain_types.proofs.TypingCalls.{defined_from}
@@ -38,17 +42,18 @@ use Rattle.name_resolution.specs.Values.{TypedValue, TypedCall, shape_returned, 
 use Rattle.name_resolution.specs.Order as order
 use Rattle.name_resolution.specs.Functions.{slot_written, slots_written, given_back, typed_functions, with_functions}
 use Rattle.name_resolution.proofs.SoundValues.{callee_there, mapped, some_is}
+use Rattle.program_typing.proofs.TreesOfValues.{no_number}
 use Rattle.reached_instances.specs.declared.instance.BoundDomain.{BoundDomain}
 use Rattle.reached_instances.specs.Domains as domains
 use Rattle.reached_instances.specs.Domains.{domain, domain_under, given_domain, call_domain, bound_below, binding_of}
 use Rattle.reached_instances.specs.Calls as calls
-use Rattle.well_typed.specs.Kinds.{GoesTo}
+use Rattle.well_typed.specs.Kinds.{IsNumber, GoesTo}
 use Rattle.well_typed.specs.Expressions.{Gives, AreTaken, shape_given}
 use Rattle.well_typed.specs.Laws.{bound_domain, IsCheckedInstance}
 use Rattle.well_typed.proofs.Bindings.{goes, own_numbers, declared_type, argument_domain, slots_first, bound_count, binding_same}
 use Rattle.well_typed.proofs.SlotsWritten.{shape_in, slot_same, slots_count, take_front}
 use Rattle.well_typed.proofs.Heads.{IsMade, is_made, is_head, function_at}
-use Rattle.well_typed.proofs.Typed.{Good, AllGood, good_as, gives_as, good_size, good_cat, good_sum, good_bits, AreChecked, none_checked, both_checked}
+use Rattle.well_typed.proofs.Typed.{Good, AllGood, good_as, gives_as, good_size, good_cat, good_sum, good_bits, good_lookup, AreChecked, none_checked, both_checked}
 
 -- A FUNCTION UNDER A BINDING
 
@@ -104,6 +109,11 @@ pub record GoodValue (p : ProgramTree) (w : domains.Setting) (o : Option TypedVa
 good_value : (p : ProgramTree) (w : domains.Setting) (x : TypedValue) (v u : ValueType) → Good p w x v → v ≡ u → GoodValue p w (Some x) u
 good_value p w x v u g e = record { good = λ y f. good_as p w x y v u g (some_is x y f) e }
 
+is_number : (t : DataType) → typing.IsNumber t → IsNumber t
+is_number Uint64 h = tt
+is_number Int64 h = tt
+is_number datatype.Bool h = absurd (no_number h)
+
 pub good_built_in : (p : ProgramTree) (w : domains.Setting) (line : ℕ) (b : BuiltIn) (gs : List Argument) (xs : List TypedValue) (v : ValueType)
     → AllGood p w xs gs → IsBuiltInCall b gs v → GoodValue p w (built_in_value line b xs) v
 good_built_in p w line Size [] xs v a h = absurd h
@@ -121,7 +131,7 @@ good_built_in p w line Cat (g ∷ f ∷ []) (x ∷ y ∷ z ∷ xs) v a h = absur
 good_built_in p w line Cat (g ∷ f ∷ e ∷ gs) xs v a h = absurd h
 good_built_in p w line Sum [] xs v a h = absurd h
 good_built_in p w line Sum (g ∷ []) [] v a h = absurd a
-good_built_in p w line Sum (g ∷ []) (x ∷ []) v a h = good_value p w _ _ v (good_sum p w x g.given a.0 h.0 h.1) (sym h.2)
+good_built_in p w line Sum (g ∷ []) (x ∷ []) v a h = good_value p w _ _ v (good_sum p w x g.given a.0 h.0 (is_number g.given.element h.1)) (sym h.2)
 good_built_in p w line Sum (g ∷ []) (x ∷ y ∷ xs) v a h = absurd a.1
 good_built_in p w line Sum (g ∷ f ∷ gs) xs v a h = absurd h
 good_built_in p w line BitExtract [] xs v a h = absurd h
@@ -129,6 +139,15 @@ good_built_in p w line BitExtract (g ∷ []) [] v a h = absurd a
 good_built_in p w line BitExtract (g ∷ []) (x ∷ []) v a h = good_value p w _ _ v (good_bits p w line x g.given a.0 h.0) (sym h.1)
 good_built_in p w line BitExtract (g ∷ []) (x ∷ y ∷ xs) v a h = absurd a.1
 good_built_in p w line BitExtract (g ∷ f ∷ gs) xs v a h = absurd h
+good_built_in p w line Lookup [] xs v a h = absurd h
+good_built_in p w line Lookup (g ∷ []) xs v a h = absurd h
+good_built_in p w line Lookup (g ∷ f ∷ []) [] v a h = absurd a
+good_built_in p w line Lookup (g ∷ f ∷ []) (x ∷ []) v a h = absurd a.1
+good_built_in p w line Lookup (g ∷ f ∷ []) (x ∷ y ∷ []) v a h =
+    good_value p w _ v v
+    (good_lookup p w line x y g.given f.given v a.0 a.1.0 h.0 (is_number g.given.element h.1) h.2 h.3 h.4 h.5 h.6) refl
+good_built_in p w line Lookup (g ∷ f ∷ []) (x ∷ y ∷ z ∷ xs) v a h = absurd a.1.1
+good_built_in p w line Lookup (g ∷ f ∷ e ∷ gs) xs v a h = absurd h
 
 -- ARGUMENTS
 

@@ -2,7 +2,7 @@
 use Rattle.std.proofs.Common.{◌≡◌, ℕ, ◌++◌, ◌⊎◌, inl, inr, refl, sym, ap, ap₂, ◌∙◌, subst, Option, Some, None, Bool, true, false}
 use Rattle.std.specs.Prelude.{◌||◌}
 use Rattle.program_trees.specs.declared.expression.DataType.{DataType}
-use Rattle.program_trees.specs.declared.expression.DataType.TheVariants.{Uint64}
+use Rattle.program_trees.specs.declared.expression.DataType.TheVariants.{Uint64, Int64}
 use Rattle.program_trees.specs.declared.expression.DataType.TheVariants as datatype
 use Rattle.program_trees.specs.declared.expression.Operator.{Operator}
 use Rattle.program_trees.specs.declared.expression.Operator.TheVariants.{Add, Subtract, Multiply, Divide, Remainder, Equal, NotEqual, Less, LessOrEqual}
@@ -16,7 +16,7 @@ use Rattle.program_trees.specs.declared.kinds.Shape.{Shape}
 use Rattle.program_trees.specs.declared.operators.OperatorSign.TheVariants as word
 use Rattle.program_trees.specs.declared.operators.BoolOperator.TheVariants as truth
 use Rattle.program_trees.specs.declared.operators.BinaryOperator.{BinaryOperator}
-use Rattle.program_trees.specs.declared.operators.BinaryOperator.TheVariants.{Words, Bools}
+use Rattle.program_trees.specs.declared.operators.BinaryOperator.TheVariants.{Words, Ints, Bools}
 use Rattle.program_trees.specs.declared.operators.Connective.{Connective}
 use Rattle.program_trees.specs.declared.operators.Operands.{Operands}
 use Rattle.program_trees.specs.declared.operators.Operands.TheVariants.{Scalars, ArrayAndScalar, ScalarAndArray, Arrays}
@@ -25,6 +25,7 @@ use Rattle.program_trees.specs.Operators.{operator_on, element_made, operands_of
 use Rattle.program_trees.specs.Shapes.{shape_of}
 use Rattle.name_resolution.specs.Values.{TypedValue, operation_node, operation_made}
 use Rattle.name_resolution.proofs.SoundValues.{some_is}
+use Rattle.program_typing.proofs.TreesOfValues.{no_number, no_bits}
 use Rattle.reached_instances.specs.Domains.{Setting, domain, joined_domain}
 use Rattle.reached_instances.specs.Calls.{calls}
 use Rattle.well_typed.specs.Kinds.{scalar, Meet, operand_of, MayOperate, left_is_array, right_is_array}
@@ -47,48 +48,72 @@ Means sign t d r o = operator_on sign t t ≡ Some o → Suits o t d r
 suits : (o b : BinaryOperator) (t : DataType) (d : Protection) (r : DataType) → Suits o t d r → Some o ≡ Some b → Suits b t d r
 suits o b t d r s e = subst (λ z. Suits z t d r) (some_is o b e) s
 
-word_public : (d : Protection) (r : DataType) → (datatype.Uint64 ≡ datatype.Bool) ⊎ (d ≡ checked.Public) → d ≡ checked.Public
-word_public d r (inl e) = cc
-word_public d r (inr e) = e
+word_public : (d : Protection) → (Uint64 ≡ datatype.Bool) ⊎ ((Uint64 ≡ Uint64) × (d ≡ checked.Public)) → d ≡ checked.Public
+word_public d (inl e) = cc
+word_public d (inr e) = e.1
 
 operator_suits : (sign : Operator) (t : DataType) (d : Protection) (r : DataType) (o : BinaryOperator) → OperatesOn sign t d r → Means sign t d r o
 operator_suits Add Uint64 d r o h e = suits (Words word.Add) o Uint64 d r (record { operand = refl; result = sym h.1; allowed = λ n. cc }) e
-operator_suits Add datatype.Bool d r o h e = let no = h.0 in cc
+operator_suits Add Int64 d r o h e = suits (Ints word.Add) o Int64 d r (record { operand = refl; result = sym h.1; allowed = (refl, λ n. cc) }) e
+operator_suits Add datatype.Bool d r o h e = absurd (no_number h.0)
 operator_suits Subtract Uint64 d r o h e = suits (Words word.Subtract) o Uint64 d r (record { operand = refl; result = sym h.1; allowed = λ n. cc }) e
-operator_suits Subtract datatype.Bool d r o h e = let no = h.0 in cc
+operator_suits Subtract Int64 d r o h e =
+    suits (Ints word.Subtract) o Int64 d r (record { operand = refl; result = sym h.1; allowed = (refl, λ n. cc) }) e
+operator_suits Subtract datatype.Bool d r o h e = absurd (no_number h.0)
 operator_suits Multiply Uint64 d r o h e = suits (Words word.Multiply) o Uint64 d r (record { operand = refl; result = sym h.1; allowed = λ n. cc }) e
-operator_suits Multiply datatype.Bool d r o h e = let no = h.0 in cc
+operator_suits Multiply Int64 d r o h e =
+    suits (Ints word.Multiply) o Int64 d r (record { operand = refl; result = sym h.1; allowed = (refl, λ n. cc) }) e
+operator_suits Multiply datatype.Bool d r o h e = absurd (no_number h.0)
 operator_suits Divide Uint64 d r o h e =
     suits (Words word.Divide) o Uint64 d r (record { operand = refl; result = sym h.1; allowed = λ n. ap bound_domain h.2 }) e
-operator_suits Divide datatype.Bool d r o h e = let no = h.0 in cc
+operator_suits Divide Int64 d r o h e =
+    suits (Ints word.Divide) o Int64 d r (record { operand = refl; result = sym h.1; allowed = (refl, λ n. ap bound_domain h.2) }) e
+operator_suits Divide datatype.Bool d r o h e = absurd (no_number h.0)
 operator_suits Remainder Uint64 d r o h e =
     suits (Words word.Remainder) o Uint64 d r (record { operand = refl; result = sym h.1; allowed = λ n. ap bound_domain h.2 }) e
-operator_suits Remainder datatype.Bool d r o h e = let no = h.0 in cc
+operator_suits Remainder Int64 d r o h e =
+    suits (Ints word.Remainder) o Int64 d r (record { operand = refl; result = sym h.1; allowed = (refl, λ n. ap bound_domain h.2) }) e
+operator_suits Remainder datatype.Bool d r o h e = absurd (no_number h.0)
 operator_suits Equal Uint64 d r o h e = suits (Words word.Equal) o Uint64 d r (record { operand = refl; result = sym h; allowed = λ n. cc }) e
+operator_suits Equal Int64 d r o h e = suits (Ints word.Equal) o Int64 d r (record { operand = refl; result = sym h; allowed = (refl, λ n. cc) }) e
 operator_suits Equal datatype.Bool d r o h e = suits (Bools truth.Equal) o datatype.Bool d r (record { operand = refl; result = sym h; allowed = tt }) e
 operator_suits NotEqual Uint64 d r o h e = suits (Words word.NotEqual) o Uint64 d r (record { operand = refl; result = sym h; allowed = λ n. cc }) e
+operator_suits NotEqual Int64 d r o h e =
+    suits (Ints word.NotEqual) o Int64 d r (record { operand = refl; result = sym h; allowed = (refl, λ n. cc) }) e
 operator_suits NotEqual datatype.Bool d r o h e = suits (Bools truth.NotEqual) o datatype.Bool d r (record { operand = refl; result = sym h; allowed = tt }) e
 operator_suits Less Uint64 d r o h e = suits (Words word.Less) o Uint64 d r (record { operand = refl; result = sym h.1; allowed = λ n. cc }) e
-operator_suits Less datatype.Bool d r o h e = let no = h.0 in cc
+operator_suits Less Int64 d r o h e = suits (Ints word.Less) o Int64 d r (record { operand = refl; result = sym h.1; allowed = (refl, λ n. cc) }) e
+operator_suits Less datatype.Bool d r o h e = absurd (no_number h.0)
 operator_suits LessOrEqual Uint64 d r o h e = suits (Words word.LessOrEqual) o Uint64 d r (record { operand = refl; result = sym h.1; allowed = λ n. cc }) e
-operator_suits LessOrEqual datatype.Bool d r o h e = let no = h.0 in cc
+operator_suits LessOrEqual Int64 d r o h e =
+    suits (Ints word.LessOrEqual) o Int64 d r (record { operand = refl; result = sym h.1; allowed = (refl, λ n. cc) }) e
+operator_suits LessOrEqual datatype.Bool d r o h e = absurd (no_number h.0)
 operator_suits Greater Uint64 d r o h e = suits (Words word.Greater) o Uint64 d r (record { operand = refl; result = sym h.1; allowed = λ n. cc }) e
-operator_suits Greater datatype.Bool d r o h e = let no = h.0 in cc
+operator_suits Greater Int64 d r o h e =
+    suits (Ints word.Greater) o Int64 d r (record { operand = refl; result = sym h.1; allowed = (refl, λ n. cc) }) e
+operator_suits Greater datatype.Bool d r o h e = absurd (no_number h.0)
 operator_suits GreaterOrEqual Uint64 d r o h e =
     suits (Words word.GreaterOrEqual) o Uint64 d r (record { operand = refl; result = sym h.1; allowed = λ n. cc }) e
-operator_suits GreaterOrEqual datatype.Bool d r o h e = let no = h.0 in cc
+operator_suits GreaterOrEqual Int64 d r o h e =
+    suits (Ints word.GreaterOrEqual) o Int64 d r (record { operand = refl; result = sym h.1; allowed = (refl, λ n. cc) }) e
+operator_suits GreaterOrEqual datatype.Bool d r o h e = absurd (no_number h.0)
 operator_suits And Uint64 d r o h e =
-    suits (Words word.And) o Uint64 d r (record { operand = refl; result = sym h.0; allowed = λ n. ap bound_domain (word_public d r h.1) }) e
+    suits (Words word.And) o Uint64 d r (record { operand = refl; result = sym h.0; allowed = λ n. ap bound_domain (word_public d h.1) }) e
+operator_suits And Int64 d r o h e = absurd (no_bits d h.1)
 operator_suits And datatype.Bool d r o h e = suits (Bools truth.And) o datatype.Bool d r (record { operand = refl; result = sym h.0; allowed = tt }) e
 operator_suits Or Uint64 d r o h e =
-    suits (Words word.Or) o Uint64 d r (record { operand = refl; result = sym h.0; allowed = λ n. ap bound_domain (word_public d r h.1) }) e
+    suits (Words word.Or) o Uint64 d r (record { operand = refl; result = sym h.0; allowed = λ n. ap bound_domain (word_public d h.1) }) e
+operator_suits Or Int64 d r o h e = absurd (no_bits d h.1)
 operator_suits Or datatype.Bool d r o h e = suits (Bools truth.Or) o datatype.Bool d r (record { operand = refl; result = sym h.0; allowed = tt }) e
 operator_suits Xor Uint64 d r o h e =
-    suits (Words word.Xor) o Uint64 d r (record { operand = refl; result = sym h.0; allowed = λ n. ap bound_domain (word_public d r h.1) }) e
+    suits (Words word.Xor) o Uint64 d r (record { operand = refl; result = sym h.0; allowed = λ n. ap bound_domain (word_public d h.1) }) e
+operator_suits Xor Int64 d r o h e = absurd (no_bits d h.1)
 operator_suits Xor datatype.Bool d r o h e = suits (Bools truth.Xor) o datatype.Bool d r (record { operand = refl; result = sym h.0; allowed = tt }) e
 operator_suits AndAlso Uint64 d r o h e = let no = h.0 in cc
+operator_suits AndAlso Int64 d r o h e = let no = h.0 in cc
 operator_suits AndAlso datatype.Bool d r o h e = suits (Bools truth.And) o datatype.Bool d r (record { operand = refl; result = sym h.1; allowed = tt }) e
 operator_suits OrElse Uint64 d r o h e = let no = h.0 in cc
+operator_suits OrElse Int64 d r o h e = let no = h.0 in cc
 operator_suits OrElse datatype.Bool d r o h e = suits (Bools truth.Or) o datatype.Bool d r (record { operand = refl; result = sym h.1; allowed = tt }) e
 
 -- WHICH OPERANDS ARE ARRAYS

@@ -120,7 +120,7 @@ template_typed =
               private_word,
               (private_word, refl, refl),
               refl,
-              record { same = refl; meets = refl; operates = (refl, refl); dimension = refl },
+              record { same = refl; meets = refl; operates = (inl refl, refl); dimension = refl },
               refl,
             ),
             (refl, refl, refl),

@@ -1,10 +1,12 @@
 -- Statements: what the checker has typed is well typed where it stands, and returns where that returns.
-use Rattle.std.proofs.Common.{◌≡◌, ℕ, List, [], ◌∷◌, ◌++◌, ◌⊎◌, inl, inr, length, refl, sym, ap, ap₂, ◌∙◌, subst, Option, Some, None, Bool, true, false, arith}
+use Rattle.std.proofs.Common.{◌≡◌, ℕ, ◌<◌, List, [], ◌∷◌, ◌++◌, ◌⊎◌, inl, inr, length, refl, sym, ap, ap₂, ◌∙◌, subst, Option, Some, None, Bool, true}
+use Rattle.std.proofs.Common.{false, arith}
 use Rattle.std.specs.Prelude.{◌||◌, ◌&&◌, IsTrue}
 use Rattle.std.specs.List.{slice_get}
+use Rattle.std.proofs.lemmas.Option.{none-some}
 use Rattle.sc_text.specs.declared.span.Span.{Span}
 use Rattle.program_trees.specs.declared.expression.DataType.{DataType}
-use Rattle.program_trees.specs.declared.expression.DataType.TheVariants.{Uint64}
+use Rattle.program_trees.specs.declared.expression.DataType.TheVariants.{Uint64, Int64}
 use Rattle.program_trees.specs.declared.expression.DataType.TheVariants as datatype
 use Rattle.program_trees.specs.declared.statement.DeclaredType.{DeclaredType}
 use Rattle.program_trees.specs.declared.function.ResultType.{ResultType}
@@ -198,9 +200,15 @@ fits_element p w held given k t h f g =
 array_slot : (w : domains.Setting) (held : ValueType) (k : ℕ) (h : HoldsAt w held k) → held.array ≡ true → IsArraySlot w k h.slot
 array_slot w held k h e = (h.at, ap (λ (s : Shape). s.array) h.is.shape ∙ e)
 
-good_default : (p : ProgramTree) (w : domains.Setting) (element : DataType) → GoodTree p w (public_scalar element) (default_of element)
-good_default p w Uint64 = record { gives = (omega arith, refl); seen_by = refl; called = none_checked p }
-good_default p w datatype.Bool = record { gives = refl; seen_by = refl; called = none_checked p }
+slot_some : (ss : List Slot) (k : ℕ) (s : Slot) → slice_get ss k ≡ Some s → 0 < length ss
+slot_some [] k s e = absurd (none-some _ e)
+slot_some (r ∷ ss) k s e = omega arith
+
+good_default : (p : ProgramTree) (w : domains.Setting) (element : DataType) → 0 < length w.slots
+    → GoodTree p w (public_scalar element) (default_of element)
+good_default p w Uint64 some = record { gives = (omega arith, refl); seen_by = refl; called = none_checked p }
+good_default p w Int64 some = record { gives = (some, refl); seen_by = refl; called = none_checked p }
+good_default p w datatype.Bool some = record { gives = refl; seen_by = refl; called = none_checked p }
 
 at_last : (xs more : List DeclaredType) (t : DeclaredType) → slice_get ((xs ++ t ∷ []) ++ more) (length xs) ≡ Some t
 at_last [] more t = refl
@@ -344,7 +352,8 @@ module _ (p : ProgramTree) (z : Frame p) (g : Returned) where
   good_initial inside s k line held (Some n) None a c w u h =
       read_one s n (public_scalar Uint64) (IfHeld inside held k) (λ m. fill_statement line k m (default_of held.element)) (left_of (names_in n) [] a)
       (made_left (calls_of (setting z) s n) [] c) w h.1
-      (λ m x. fills inside k line held (public_scalar held.element) m (default_of held.element) h.0 (refl, refl, tt) x (good_default p (here z) held.element))
+      (λ m x o. fills inside k line held (public_scalar held.element) m (default_of held.element) h.0 (refl, refl, tt) x
+      (good_default p (here z) held.element (slot_some (here z).slots k o.slot o.at)) o)
   good_initial inside s k line held (Some n) (Some e) a c w u h =
       read_bind (here z) s (GoodTree p (here z) (public_scalar Uint64)) (IfHeld inside held k) (expression (known_in p) n)
       (λ m. expression (known_in p) e >>= λ v. done (fill_statement line k m v))

@@ -1,5 +1,5 @@
 -- What is known of an expression that the checker has typed, and the nodes without operators and calls.
-use Rattle.std.proofs.Common.{◌≡◌, ℕ, ◌<◌, List, [], ◌∷◌, ◌++◌, ◌⊎◌, inl, inr, refl, sym, ap, ◌∙◌, subst, Some, Bool, true, false}
+use Rattle.std.proofs.Common.{◌≡◌, ℕ, ◌<◌, List, [], ◌∷◌, ◌++◌, ◌⊎◌, inl, inr, refl, sym, ap, ap₂, ◌∙◌, ◌≢◌, subst, Some, Bool, true, false}
 use Rattle.std.specs.Prelude.{◌^◌}
 use Rattle.std.specs.List.{slice_get}
 use Rattle.program_trees.specs.declared.expression.DataType.{DataType}
@@ -7,6 +7,7 @@ use Rattle.program_trees.specs.declared.expression.DataType.TheVariants.{Uint64}
 use Rattle.program_trees.specs.declared.expression.DataType.TheVariants as datatype
 use Rattle.program_trees.specs.Programs.{ProgramTree}
 use Rattle.domain_types.specs.declared.value_type.Argument.{Argument}
+use Rattle.domain_types.specs.declared.value_type.Protection.TheVariants as checked
 use Rattle.domain_types.specs.declared.value_type.ValueType.{ValueType}
 use Rattle.domain_types.specs.Types.{scalar_of, public_scalar}
 use Rattle.domain_types.specs.ExpressionTypes.{cast_type, declassified, array_of}
@@ -16,16 +17,17 @@ use Rattle.sc_text.proofs.Lists.{among_parts}
 use Rattle.program_trees.specs.declared.kinds.Shape.{Shape}
 use Rattle.program_trees.specs.declared.kinds.Slot.{Slot}
 use Rattle.program_trees.specs.Operators.{cast_between}
-use Rattle.program_trees.specs.TypedTree.{TypedTree, word_node, truth_node, slot_node, size_node, cat_node, sum_node, bits_node, element_node}
+use Rattle.program_trees.specs.TypedTree.{TypedTree, word_node, truth_node, slot_node, size_node, cat_node, sum_node, bits_node, lookup_node}
+use Rattle.program_trees.specs.TypedTree.{element_node}
 use Rattle.program_trees.specs.Shapes.{shape_of}
-use Rattle.name_resolution.specs.Values.{TypedValue, made, negated, cast_value, declassified_value}
+use Rattle.name_resolution.specs.Values.{TypedValue, made, negated, cast_value, declassified_value, looked_up}
 use Rattle.reached_instances.specs.Instances.{Instance}
-use Rattle.reached_instances.specs.Domains.{Setting, domain, slot_domain, joined_domain}
+use Rattle.reached_instances.specs.Domains.{Setting, is_private, domain, slot_domain, joined_domain}
 use Rattle.reached_instances.specs.Calls.{calls}
-use Rattle.well_typed.specs.Kinds.{scalar, array, Meet, cast_from, cast_to}
+use Rattle.well_typed.specs.Kinds.{scalar, array, IsNumber, Meet}
 use Rattle.well_typed.specs.Expressions.{Gives}
 use Rattle.well_typed.specs.Laws.{bound_domain, IsCheckedInstance}
-use Rattle.well_typed.proofs.Bindings.{meets_meet, meets_joined}
+use Rattle.well_typed.proofs.Bindings.{meets_meet, meets_joined, bound_private}
 use Rattle.well_typed.proofs.SlotsWritten.{shape_in, SlotIs}
 
 -- THE INSTANCES THAT ARE CALLED
@@ -117,30 +119,13 @@ good_not p w a x g e =
       called = g.called;
     }
 
-cast_from_between : (s t : DataType) → cast_from (cast_between s t) ≡ s
-cast_from_between Uint64 Uint64 = refl
-cast_from_between Uint64 datatype.Bool = refl
-cast_from_between datatype.Bool Uint64 = refl
-cast_from_between datatype.Bool datatype.Bool = refl
-
-cast_to_between : (s t : DataType) → cast_to (cast_between s t) ≡ t
-cast_to_between Uint64 Uint64 = refl
-cast_to_between Uint64 datatype.Bool = refl
-cast_to_between datatype.Bool Uint64 = refl
-cast_to_between datatype.Bool datatype.Bool = refl
-
 pub good_cast : (p : ProgramTree) (w : Setting) (t : DataType) (a : TypedValue) (x : ValueType) → Good p w a x → Good p w (cast_value t a) (cast_type t x)
 good_cast p w t a x g =
     let c = cast_between a.shape.element t in
-    let from : shape_in x ≡ shape_of (cast_from c) x.array =
-    ap (λ s. shape_of s x.array) (ap (λ (s : Shape). s.element) (sym g.shape) ∙ sym (cast_from_between a.shape.element t)) in
+    let from : shape_in x ≡ shape_of c.given x.array = ap (λ s. shape_of s x.array) (ap (λ (s : Shape). s.element) (sym g.shape)) in
     record {
       shape = ap (λ (s : Shape). shape_of t s.array) g.shape;
-      gives = (
-        x.array,
-        gives_as w a.tree (shape_in x) (shape_of (cast_from c) x.array) g.gives from,
-        ap (λ s. Some (shape_of s x.array)) (sym (cast_to_between a.shape.element t)),
-      );
+      gives = (x.array, gives_as w a.tree (shape_in x) (shape_of c.given x.array) g.gives from, refl);
       seen_by = g.seen_by;
       called = g.called;
     }
@@ -179,13 +164,12 @@ good_cat p w line a b x y t g h ax ay same element is m =
       called = both_checked p (calls w a.tree) (calls w b.tree) g.called h.called;
     }
 
-pub good_sum : (p : ProgramTree) (w : Setting) (a : TypedValue) (x : ValueType) → Good p w a x → x.array ≡ true → x.element ≡ Uint64
-    → Good p w (made (sum_node a.tree) Uint64 false) (scalar_of x)
-good_sum p w a x g e f =
-    let result : scalar Uint64 ≡ shape_in (scalar_of x) = ap scalar (sym f) in
+pub good_sum : (p : ProgramTree) (w : Setting) (a : TypedValue) (x : ValueType) → Good p w a x → x.array ≡ true → IsNumber x.element
+    → Good p w (made (sum_node a.tree) a.shape.element false) (scalar_of x)
+good_sum p w a x g e n =
     record {
-      shape = result;
-      gives = (gives_as w a.tree (shape_in x) (array Uint64) g.gives (array_shape x e ∙ ap array f), ap Some (sym result));
+      shape = ap (λ (s : Shape). scalar s.element) g.shape;
+      gives = (x.element, gives_as w a.tree (shape_in x) (array x.element) g.gives (array_shape x e), n, refl);
       seen_by = g.seen_by;
       called = g.called;
     }
@@ -198,4 +182,23 @@ good_bits p w line a x g e =
       gives = (x.array, gives_as w a.tree (shape_in x) (shape_of Uint64 x.array) g.gives (ap (λ t. shape_of t x.array) e), refl);
       seen_by = g.seen_by;
       called = g.called;
+    }
+
+-- an array or an index is private
+pub good_lookup : (p : ProgramTree) (w : Setting) (line : ℕ) (a i : TypedValue) (x y t : ValueType) → Good p w a x → Good p w i y → x.array ≡ true
+    → IsNumber x.element → y.element ≡ Uint64 → t.element ≡ x.element → t.array ≡ y.array → Meets x.domain y.domain t.domain
+    → t.domain ≢ checked.Public → Good p w (looked_up line a i) t
+good_lookup p w line a i x y t g h ax number words element dimension m hidden =
+    let seen : domain w (lookup_node line a.tree i.tree) ≡ bound_domain t.domain =
+    ap (λ d. joined_domain d (domain w i.tree)) g.seen_by ∙ ap (joined_domain (bound_domain x.domain)) h.seen_by ∙ meets_joined x.domain y.domain t.domain m in
+    let meet : Meet (domain w a.tree) (domain w i.tree) =
+    subst (λ d. Meet d (domain w i.tree)) (sym g.seen_by) (subst (Meet (bound_domain x.domain)) (sym h.seen_by) (meets_meet x.domain y.domain t.domain m)) in
+    let values = gives_as w a.tree (shape_in x) (array x.element) g.gives (array_shape x ax) in
+    let places = gives_as w i.tree (shape_in y) (shape_of Uint64 y.array) h.gives (ap (λ e. shape_of e y.array) words) in
+    let result : shape_in t ≡ shape_of x.element y.array = ap₂ shape_of element dimension in
+    record {
+      shape = ap₂ (λ (r s : Shape). shape_of r.element s.array) g.shape h.shape ∙ sym result;
+      gives = (x.element, y.array, values, places, number, meet, ap is_private seen ∙ bound_private t.domain hidden, ap Some result);
+      seen_by = seen;
+      called = both_checked p (calls w a.tree) (calls w i.tree) g.called h.called;
     }

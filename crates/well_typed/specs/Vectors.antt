@@ -1,21 +1,22 @@
 -- Which expressions and statements are well typed, worked out by hand.
 use Rattle.std.specs.Prelude.{◌≡◌, ℕ, Bool, true, false, [], ◌∷◌, take, Option, Some, refl}
-use Rattle.std.proofs.Common.{subst, arith}
+use Rattle.std.proofs.Common.{ap, sym, ◌∙◌, subst, arith}
 use Rattle.std.proofs.lemmas.Option.{same_Some}
 use Rattle.program_trees.specs.declared.expression.DataType.{DataType}
-use Rattle.program_trees.specs.declared.expression.DataType.TheVariants.{Uint64}
+use Rattle.program_trees.specs.declared.expression.DataType.TheVariants.{Uint64, Int64}
 use Rattle.program_trees.specs.declared.expression.DataType.TheVariants as datatype
 use Rattle.program_trees.specs.declared.kinds.Shape.{Shape}
 use Rattle.program_trees.specs.declared.kinds.SlotDomain.{SlotDomain}
 use Rattle.program_trees.specs.declared.kinds.SlotDomain.TheVariants as slot
 use Rattle.program_trees.specs.declared.kinds.Slot.{Slot}
 use Rattle.program_trees.specs.declared.typed_function.Returned.TheVariants.{Nothing, Value}
-use Rattle.program_trees.specs.declared.operators.OperatorSign.TheVariants.{Add, Divide, Less}
-use Rattle.program_trees.specs.declared.operators.BinaryOperator.TheVariants.{Words}
+use Rattle.program_trees.specs.declared.operators.OperatorSign.TheVariants.{Add, Divide, Less, And}
+use Rattle.program_trees.specs.declared.operators.BinaryOperator.TheVariants.{Words, Ints}
 use Rattle.program_trees.specs.declared.operators.Operands.TheVariants.{Scalars, ArrayAndScalar}
-use Rattle.program_trees.specs.TypedTree.{truth_node, slot_node, call_node, element_node, binary_node, declassify_node, typed_trees_of}
+use Rattle.program_trees.specs.TypedTree.{TypedTree, truth_node, slot_node, call_node, sum_node, lookup_node, element_node, cast_node, binary_node, declassify_node, typed_trees_of}
 use Rattle.program_trees.specs.TypedStatements.{if_statement, loop_statement, empty_statement, break_statement, return_statement, store_statement, typed_statements_of}
 use Rattle.program_trees.specs.TypedPrograms.{TypedFunctionTree}
+use Rattle.program_trees.specs.Operators.{cast_between}
 use Rattle.program_trees.specs.Shapes.{shape_of}
 use Rattle.reached_instances.specs.declared.instance.BoundDomain.TheVariants.{Private}
 use Rattle.reached_instances.specs.Domains.{Setting, domain_under, binding_of}
@@ -83,6 +84,38 @@ indexed = (Uint64, (array_slot, refl, refl), (public_slot, refl, refl), refl, re
 
 private_index : (g : Option Shape) → Gives here (element_node 2 (slot_node 3) (slot_node 1)) g → ⊥
 private_index g h = let seen = h.3 in cc
+
+-- a look-up has a private operand, be it the array or the index, and an index without a sign
+looked_up : Gives here (lookup_node 2 (slot_node 3) (slot_node 0)) (Some (scalar Uint64))
+looked_up = (Uint64, false, (array_slot, refl, refl), (public_slot, refl, refl), tt, tt, refl, refl)
+
+looked_up_in_secret : Gives here (lookup_node 2 (slot_node 3) (slot_node 1)) (Some (scalar Uint64))
+looked_up_in_secret = (Uint64, false, (array_slot, refl, refl), (private_slot, refl, refl), tt, refl, refl, refl)
+
+looked_up_by_many : Gives here (lookup_node 2 (slot_node 3) (slot_node 3)) (Some (array Uint64))
+looked_up_by_many = (Uint64, true, (array_slot, refl, refl), (array_slot, refl, refl), tt, refl, refl, refl)
+
+public_looked_up : (g : Option Shape) → Gives here (lookup_node 2 (slot_node 0) (slot_node 0)) g → ⊥
+public_looked_up g h = let seen = h.6 in cc
+
+-- numbers with a sign meet their like alone, and no operator works on their bits
+abbrev as_signed : TypedTree → TypedTree
+as_signed e = cast_node (cast_between Uint64 Int64) e
+
+signed_added : Gives here (binary_node 2 (Ints Add) Scalars (as_signed (slot_node 1)) (as_signed (slot_node 0))) (Some (scalar Int64))
+signed_added = ((false, (private_slot, refl, refl), refl), (false, (public_slot, refl, refl), refl), tt, (refl, λ e. cc), refl)
+
+signed_summed : Gives here (sum_node (as_signed (slot_node 3))) (Some (scalar Int64))
+signed_summed = (Int64, (true, (array_slot, refl, refl), refl), tt, refl)
+
+signs_mixed : (g : Option Shape) → Gives here (binary_node 2 (Ints Add) Scalars (as_signed (slot_node 0)) (slot_node 0)) g → ⊥
+signs_mixed g h = go h.1.0 h.1.1 h.1.2
+  where
+    go : (s : Slot) → Some public_slot ≡ Some s → Some (scalar Int64) ≡ Some s.shape → ⊥
+    go s e f = let no : Uint64 ≡ Int64 = ap (λ (z : Shape). z.element) (ap (λ (z : Slot). z.shape) (same_Some public_slot s e) ∙ sym (same_Some (scalar Int64) s.shape f)) in cc
+
+bits_of_signed : (g : Option Shape) → Gives here (binary_node 2 (Ints And) Scalars (as_signed (slot_node 0)) (as_signed (slot_node 0))) g → ⊥
+bits_of_signed g h = let no = h.3.0 in cc
 
 -- a call binds its parameter's domain to that of its argument, and gives back a value of its shape
 called : Gives here (call_node 2 0 (typed_trees_of (slot_node 1 ∷ []))) (Some (scalar Uint64))

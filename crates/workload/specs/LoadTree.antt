@@ -2,6 +2,7 @@
 use Rattle.std.specs.Prelude.{ℕ, ◌+◌, true, List, [], ◌∷◌, Some, None, codes}
 use Rattle.sc_text.specs.declared.span.Span.{Span}
 use Rattle.program_trees.specs.declared.expression.DataType.TheVariants.{Uint64}
+use Rattle.program_trees.specs.declared.expression.DataType.TheVariants as datatype
 use Rattle.program_trees.specs.declared.expression.Operator.{Operator}
 use Rattle.program_trees.specs.declared.expression.Operator.TheVariants as operators
 use Rattle.program_trees.specs.declared.statement.Identifier.{Identifier}
@@ -18,7 +19,7 @@ use Rattle.program_trees.specs.declared.operators.OperatorSign.{OperatorSign}
 use Rattle.program_trees.specs.declared.operators.OperatorSign.TheVariants as words
 use Rattle.program_trees.specs.declared.operators.BinaryOperator.TheVariants.{Words}
 use Rattle.program_trees.specs.declared.operators.Operands.TheVariants.{Arrays}
-use Rattle.program_trees.specs.declared.operators.Cast.TheVariants.{BoolToWord}
+use Rattle.program_trees.specs.Operators.{cast_between}
 use Rattle.program_trees.specs.TypedTree.{TypedTree, slot_node, sum_node, cast_node, binary_node, declassify_node}
 use Rattle.program_trees.specs.TypedStatements.{TypedStatementTree, input_statement, publish_statement, typed_statements_of}
 use Rattle.program_trees.specs.TypedPrograms.{TypedFunctionTree, TypedProgramTree}
@@ -111,7 +112,7 @@ main_typed =
           (input_statement 2 0 (codes "a")
           ∷ input_statement 2 1 (codes "b")
           ∷ publishes_sum (codes "dot") (both_slots words.Multiply)
-          ∷ publishes_sum (codes "less") (cast_node BoolToWord (both_slots words.Less))
+          ∷ publishes_sum (codes "less") (cast_node (cast_between datatype.Bool Uint64) (both_slots words.Less))
           ∷ []);
       size = 22;
     }

@@ -11,19 +11,20 @@ use Rattle.std.proofs.lemmas.Option.{slice_get_within}
 use Rattle.sc_text.specs.Lists.{Among}
 use Rattle.sc_text.specs.Name.{is_name, is_name_byte, IsName}
 use Rattle.program_trees.specs.declared.expression.DataType.{DataType}
-use Rattle.program_trees.specs.declared.expression.DataType.TheVariants.{Uint64}
+use Rattle.program_trees.specs.declared.expression.DataType.TheVariants.{Uint64, Int64}
 use Rattle.program_trees.specs.declared.expression.DataType.TheVariants as datatype
-use Rattle.program_trees.specs.declared.operators.OperatorSign.TheVariants as word_sign
-use Rattle.program_trees.specs.declared.operators.BoolOperator.TheVariants as truth_sign
+use Rattle.program_trees.specs.declared.operators.OperatorSign.{OperatorSign}
+use Rattle.program_trees.specs.declared.operators.OperatorSign.TheVariants as sign
 use Rattle.program_trees.specs.declared.operators.BinaryOperator.{BinaryOperator}
-use Rattle.program_trees.specs.declared.operators.BinaryOperator.TheVariants.{Words, Bools}
+use Rattle.program_trees.specs.Operators.{sign_of}
 use Rattle.bytecode.specs.declared.kind.Kind.{Kind}
+use Rattle.bytecode.specs.InMemory.{operator_byte}
 use Rattle.bytecode.specs.Kinds.{element_bit, kind_byte, return_byte}
 use Rattle.bytecode.specs.Raw.{RawFunction}
 use Rattle.bytecode.specs.Written.{short, byte, source_line, instruction_numbers, head_numbers, body_numbers, name_numbers}
 use Rattle.bytecode.specs.Writable.{Fits, IsProper, IsWritable}
-use Rattle.verified_code.specs.Steps.{Step, Function, Literal, Move, Store, Binary, Not, Cast, Classify, Fill, At, Put, Size, Cat, Sum, Bits, Declassify}
-use Rattle.verified_code.specs.Steps.{Argument, Publish, Assert, Branch, Jump, Call, Return, ReturnNone}
+use Rattle.verified_code.specs.Steps.{Step, Function, Literal, Move, Store, Binary, Not, Cast, Classify, Fill, At, Put, Size, Cat, Sum, Bits, Lookup}
+use Rattle.verified_code.specs.Steps.{Declassify, Argument, Publish, Assert, Branch, Jump, Call, Return, ReturnNone}
 use Rattle.code_model.specs.Kinded.{HasKind, ResultFits, IsIn}
 use Rattle.code_model.specs.Words.{truth_word}
 use Rattle.lowered_code.specs.Instructions.{nowhere, operator_number, register_or_nowhere, place_among, instruction, raw_function, step_names}
@@ -45,38 +46,40 @@ line_fits n h = let l = ltb-true n (2 ^ 32) h in omega (arith, l)
 word_fits : (n : ℕ) → IsTrue (is_word n) → n < 256 ^ 8
 word_fits n h = let l = ltb-true n (2 ^ 64) h in omega (arith, l)
 
+sign_low : (op : OperatorSign) → operator_byte op < 14
+sign_low sign.Add = omega arith
+sign_low sign.Subtract = omega arith
+sign_low sign.Multiply = omega arith
+sign_low sign.Divide = omega arith
+sign_low sign.Remainder = omega arith
+sign_low sign.Equal = omega arith
+sign_low sign.NotEqual = omega arith
+sign_low sign.Less = omega arith
+sign_low sign.LessOrEqual = omega arith
+sign_low sign.Greater = omega arith
+sign_low sign.GreaterOrEqual = omega arith
+sign_low sign.And = omega arith
+sign_low sign.Or = omega arith
+sign_low sign.Xor = omega arith
+
 operator_low : (op : BinaryOperator) → operator_number op < 14
-operator_low (Words word_sign.Add) = omega arith
-operator_low (Words word_sign.Subtract) = omega arith
-operator_low (Words word_sign.Multiply) = omega arith
-operator_low (Words word_sign.Divide) = omega arith
-operator_low (Words word_sign.Remainder) = omega arith
-operator_low (Words word_sign.Equal) = omega arith
-operator_low (Words word_sign.NotEqual) = omega arith
-operator_low (Words word_sign.Less) = omega arith
-operator_low (Words word_sign.LessOrEqual) = omega arith
-operator_low (Words word_sign.Greater) = omega arith
-operator_low (Words word_sign.GreaterOrEqual) = omega arith
-operator_low (Words word_sign.And) = omega arith
-operator_low (Words word_sign.Or) = omega arith
-operator_low (Words word_sign.Xor) = omega arith
-operator_low (Bools truth_sign.Equal) = omega arith
-operator_low (Bools truth_sign.NotEqual) = omega arith
-operator_low (Bools truth_sign.And) = omega arith
-operator_low (Bools truth_sign.Or) = omega arith
-operator_low (Bools truth_sign.Xor) = omega arith
+operator_low op = sign_low (sign_of op)
 
 bit_low : (b : Bool) → truth_word b < 2
 bit_low true = omega arith
 bit_low false = omega arith
 
-kind_low : (s : Bool) (e : DataType) (a : Bool) → (if s then 1 else 0) + element_bit e + (if a then 4 else 0) < 8
+kind_low : (s : Bool) (e : DataType) (a : Bool) → (if s then 1 else 0) + element_bit e + (if a then 4 else 0) < 14
 kind_low true Uint64 true = omega arith
 kind_low true Uint64 false = omega arith
+kind_low true Int64 true = omega arith
+kind_low true Int64 false = omega arith
 kind_low true datatype.Bool true = omega arith
 kind_low true datatype.Bool false = omega arith
 kind_low false Uint64 true = omega arith
 kind_low false Uint64 false = omega arith
+kind_low false Int64 true = omega arith
+kind_low false Int64 false = omega arith
 kind_low false datatype.Bool true = omega arith
 kind_low false datatype.Bool false = omega arith
 
@@ -160,7 +163,7 @@ module _ (c : List Function) (names : List (List ℕ)) (ks : List Kind) (gives :
   instruction_fits (Store d r) h m s p = (omega arith, (register d _ h.2, (register r _ h.1, tt)))
   instruction_fits (Binary line op ds d a b) h m s p =
       let low = operator_low op in
-      (omega arith, (omega (arith, low), (register d _ h.5, (register a _ h.2, (register b _ h.3, (line_fits line s, tt))))))
+      (omega arith, (omega (arith, low), (register d _ h.6, (register a _ h.2, (register b _ h.3, (line_fits line s, tt))))))
   instruction_fits (Not d r) h m s p = (omega arith, (register d _ h.3, (register r _ h.2, tt)))
   instruction_fits (Cast x d r) h m s p = (omega arith, (register d _ h.3, (register r _ h.2, tt)))
   instruction_fits (Classify d r) h m s p = (omega arith, (register d _ h.3, (register r _ h.2, tt)))
@@ -169,8 +172,9 @@ module _ (c : List Function) (names : List (List ℕ)) (ks : List Kind) (gives :
   instruction_fits (Put line a i x) h m s p = (omega arith, (register a _ h.2, (register i _ h.3, (register x _ h.4, (line_fits line s, tt)))))
   instruction_fits (Size d r) h m s p = (omega arith, (register d _ h.3, (register r _ h.2, tt)))
   instruction_fits (Cat line d a b) h m s p = (omega arith, (register d _ h.4, (register a _ h.2, (register b _ h.3, (line_fits line s, tt)))))
-  instruction_fits (Sum d r) h m s p = (omega arith, (register d _ h.2, (register r _ h.1, tt)))
+  instruction_fits (Sum d r) h m s p = (omega arith, (register d _ h.4, (register r _ h.3, tt)))
   instruction_fits (Bits line d r) h m s p = (omega arith, (register d _ h.3, (register r _ h.2, (line_fits line s, tt))))
+  instruction_fits (Lookup line d a i) h m s p = (omega arith, (register d _ h.5, (register a _ h.3, (register i _ h.4, (line_fits line s, tt)))))
   instruction_fits (Declassify d r) h m s p = (omega arith, (register d _ h.4, (register r _ h.3, tt)))
   instruction_fits (Argument line k text d) h m s p = (omega arith, (register d _ h, (p text (inl refl), (line_fits line s.0, tt))))
   instruction_fits (Publish text r) h m s p = (omega arith, (p text (inl refl), (register r _ h.1, tt)))
@@ -212,6 +216,7 @@ instruction_proper names (Size d r) = tt
 instruction_proper names (Cat line d a b) = tt
 instruction_proper names (Sum d r) = tt
 instruction_proper names (Bits line d r) = tt
+instruction_proper names (Lookup line d a i) = tt
 instruction_proper names (Declassify d r) = tt
 instruction_proper names (Argument line k text d) = tt
 instruction_proper names (Publish text r) = tt
@@ -303,6 +308,7 @@ module _ (c : List Function) (right : AreRight c) (room : HasRoom c) where
       named_so (Cat line d a b) s = tt
       named_so (Sum d r) s = tt
       named_so (Bits line d r) s = tt
+      named_so (Lookup line d a i) s = tt
       named_so (Declassify d r) s = tt
       named_so (Argument line k text d) s = (s.1, tt)
       named_so (Publish text r) s = (s, tt)

@@ -12,8 +12,8 @@ use Rattle.program_trees.specs.declared.operators.Operands.TheVariants.{Scalars}
 use Rattle.program_trees.specs.declared.operators.Connective.{Connective}
 use Rattle.program_trees.specs.declared.typed_function.Returned.{Returned}
 use Rattle.program_trees.specs.declared.typed_function.Returned.TheVariants.{Nothing, Value}
-use Rattle.program_trees.specs.TypedTree.{TypedTree, TypedTrees, word_node, truth_node, slot_node, call_node, size_node, cat_node, sum_node, bits_node, element_node}
-use Rattle.program_trees.specs.TypedTree.{not_node, cast_node, binary_node, cut_node, declassify_node}
+use Rattle.program_trees.specs.TypedTree.{TypedTree, TypedTrees, word_node, truth_node, zero_node, slot_node, call_node, size_node, cat_node, sum_node, bits_node}
+use Rattle.program_trees.specs.TypedTree.{lookup_node, element_node, not_node, cast_node, binary_node, cut_node, declassify_node}
 use Rattle.program_trees.specs.TypedTree as Tree'
 use Rattle.program_trees.specs.TypedStatements.{TypedStatementTree, TypedStatementTrees, empty_statement, block_statement, if_statement, loop_statement, do_statement}
 use Rattle.program_trees.specs.TypedStatements.{break_statement, continue_statement, return_statement, assert_statement, store_statement, default_statement}
@@ -26,11 +26,11 @@ use Rattle.code_model.specs.Words.{truth_word}
 use Rattle.code_model.specs.Evaluation.{StatementContext, place_in, gives_private, slot_is_private, slot_shape, bound_at, slots_of}
 use Rattle.code_model.specs.Evaluation.{next_is_private, behind_next}
 use Rattle.code_model.specs.Evaluation.{connective, either}
-use Rattle.verified_code.specs.Steps.{Step, Literal, Move, Store, Binary, Not, Cast, Classify, Fill, At, Put, Size, Cat, Sum, Bits, Declassify}
-use Rattle.verified_code.specs.Steps.{Argument, Publish, Assert, Branch, Jump, Call, Return, ReturnNone}
+use Rattle.verified_code.specs.Steps.{Step, Literal, Move, Store, Binary, Not, Cast, Classify, Fill, At, Put, Size, Cat, Sum, Bits, Lookup}
+use Rattle.verified_code.specs.Steps.{Declassify, Argument, Publish, Assert, Branch, Jump, Call, Return, ReturnNone}
 use Rattle.code_model.specs.Kinds.{kind_of, truth_kind, in_row}
 use Rattle.code_model.proofs.Widths.{width, widths, statement_width, statements_width}
-use Rattle.code_model.specs.Expressions.{Numbers, result_at, classifying, picked, lacks, mixes, binary_code, cat_code, deciding, settling, cut_code}
+use Rattle.code_model.specs.Expressions.{Numbers, result_at, classifying, picked, lacks, mixes, binary_code, cat_code, lookup_code, deciding, settling, cut_code}
 use Rattle.code_model.specs.Expressions.{own_at, classified_at, stands_at, next_row, expression_code, arguments_code, arguments_places, unread_code}
 use Rattle.code_model.specs.Statements.{shape_number, first_free, statements_depth, if_code, loop_code, do_code, behind_classifying}
 use Rattle.code_model.specs.Statements.{statement_code, statements_code}
@@ -117,6 +117,12 @@ cat_short i j d m n v u pc line l r ca cb a b =
     both a (both (classifying_short l m v) (both (b (pc + length ca + length (classifying l m v)))
     (both (classifying_short r n u) (one (Cat line d (picked l m v) (picked r n u)) (omega arith)))))
 
+lookup_short : (i j d m n v u pc line : ℕ) (l r : Bool) (ca : List Step) (cb : ℕ → List Step) → IsShort i 0 ca → ((p : ℕ) → IsShort j 0 (cb p))
+    → IsShort (i + (j + 3)) 0 (lookup_code d m n v u pc line l r ca cb)
+lookup_short i j d m n v u pc line l r ca cb a b =
+    both a (both (b (pc + length ca)) (both (classifying_short l m v) (both (classifying_short r n u)
+    (one (Lookup line d (picked l m v) (picked r n u)) (omega arith)))))
+
 cut_short : (i j d q v u pc : ℕ) (c : Connective) (secret : Bool) (ca : List Step) (cb : ℕ → List Step) → IsShort i 0 ca → ((p : ℕ) → IsShort j 0 (cb p))
     → IsShort (i + (1 + (j + 4))) 0 (cut_code d q v u pc c secret ca cb)
 cut_short i j d q v u pc c secret ca cb a b =
@@ -147,6 +153,7 @@ module _ (number : Numbers) (here : Setting) where
     pub expression_short : (e : TypedTree) (t pc : ℕ) → Short e (expression_code number here t pc e)
     expression_short (word_node n) t pc = fewer 2 0 (omega arith) (omega arith) (one (Literal (own_at here (word_node n) t) Uint64 n) (omega arith))
     expression_short (truth_node b) t pc = fewer 2 0 (omega arith) (omega arith) (one (Literal (own_at here (truth_node b) t) datatype.Bool (truth_word b)) (omega arith))
+    expression_short zero_node t pc = fewer 2 0 (omega arith) (omega arith) nothing
     expression_short (slot_node k) t pc = fewer 2 0 (omega arith) (omega arith) nothing
     expression_short (call_node line k es) t pc =
         fewer (two (1 + widths es)) 0 (omega arith) (omega arith) (both (arguments_short (bound_of k es) (slots_at k) es t pc)
@@ -164,6 +171,12 @@ module _ (number : Numbers) (here : Setting) where
     expression_short (sum_node e) t pc = behind_one e (Sum (own_at here (sum_node e) t) (stands_at here e t)) (omega arith) (expression_short e t pc)
     expression_short (bits_node line e) t pc =
         behind_one e (Bits line (own_at here (bits_node line e) t) (stands_at here e t)) (omega arith) (expression_short e t pc)
+    expression_short (lookup_node line a i) t pc =
+        let u = next_row t in
+        fewer (two (3 + width a + width i)) 0 (omega arith) (omega arith)
+        (lookup_short (two (width a)) (two (width i)) (own_at here (lookup_node line a i) t) (classified_at here a t) (classified_at here i u)
+        (stands_at here a t) (stands_at here i u) pc line (lacks true (gives_private here a)) (lacks true (gives_private here i))
+        (expression_code number here t pc a) (λ p. expression_code number here u p i) (expression_short a t pc) (λ p. expression_short i u p))
     expression_short (element_node line a i) t pc =
         let u = next_row t in
         let ca = expression_code number here t pc a in
@@ -211,6 +224,7 @@ module _ (number : Numbers) (here : Setting) where
   unread_short : (e : TypedTree) (t pc : ℕ) → Short e (unread_code number here t pc e)
   unread_short (word_node n) t pc = expression_short (word_node n) t pc
   unread_short (truth_node b) t pc = expression_short (truth_node b) t pc
+  unread_short zero_node t pc = expression_short zero_node t pc
   unread_short (slot_node k) t pc = expression_short (slot_node k) t pc
   unread_short (call_node line k es) t pc =
       fewer (two (1 + widths es)) 0 (omega arith) (omega arith) (both (arguments_short (bound_of k es) (slots_at k) es t pc)
@@ -220,6 +234,7 @@ module _ (number : Numbers) (here : Setting) where
   unread_short (cat_node line a b) t pc = expression_short (cat_node line a b) t pc
   unread_short (sum_node e) t pc = expression_short (sum_node e) t pc
   unread_short (bits_node line e) t pc = expression_short (bits_node line e) t pc
+  unread_short (lookup_node line a i) t pc = expression_short (lookup_node line a i) t pc
   unread_short (element_node line a i) t pc = expression_short (element_node line a i) t pc
   unread_short (not_node e) t pc = expression_short (not_node e) t pc
   unread_short (cast_node c e) t pc = expression_short (cast_node c e) t pc

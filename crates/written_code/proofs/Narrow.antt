@@ -3,8 +3,8 @@ use Rattle.std.proofs.Common.{◌≡◌, ℕ, zero, suc, ◌+◌, ◌<◌, ◌�
 use Rattle.std.specs.Prelude.{slice_get, max}
 use Rattle.std.proofs.Math.Nat.{le-max_left, le-max_right}
 use Rattle.std.proofs.lemmas.Option.{none-some, same_Some}
-use Rattle.program_trees.specs.TypedTree.{TypedTree, TypedTrees, word_node, truth_node, slot_node, call_node, size_node, cat_node, sum_node, bits_node, element_node}
-use Rattle.program_trees.specs.TypedTree.{not_node, cast_node, binary_node, cut_node, declassify_node}
+use Rattle.program_trees.specs.TypedTree.{TypedTree, TypedTrees, word_node, truth_node, zero_node, slot_node, call_node, size_node, cat_node, sum_node, bits_node}
+use Rattle.program_trees.specs.TypedTree.{lookup_node, element_node, not_node, cast_node, binary_node, cut_node, declassify_node}
 use Rattle.program_trees.specs.TypedTree as Tree'
 use Rattle.program_trees.specs.TypedStatements.{TypedStatementTree, TypedStatementTrees, empty_statement, block_statement, if_statement, loop_statement, do_statement}
 use Rattle.program_trees.specs.TypedStatements.{break_statement, continue_statement, return_statement, assert_statement, store_statement, default_statement}
@@ -32,12 +32,14 @@ max-grows a b m n h k =
 some_node : (e : TypedTree) → 0 < nodes e
 some_node (word_node n) = omega arith
 some_node (truth_node b) = omega arith
+some_node zero_node = omega arith
 some_node (slot_node k) = omega arith
 some_node (call_node line k es) = omega arith
 some_node (size_node e) = omega arith
 some_node (cat_node line a b) = omega arith
 some_node (sum_node e) = omega arith
 some_node (bits_node line e) = omega arith
+some_node (lookup_node line a i) = omega arith
 some_node (element_node line a i) = omega arith
 some_node (not_node e) = omega arith
 some_node (cast_node c e) = omega arith
@@ -53,6 +55,7 @@ mutual
   expression_deep : (e : TypedTree) → depth e ≤ nodes e
   expression_deep (word_node n) = omega arith
   expression_deep (truth_node b) = omega arith
+  expression_deep zero_node = omega arith
   expression_deep (slot_node k) = omega arith
   expression_deep (call_node line k es) =
       let l = arguments_deep es in
@@ -61,6 +64,7 @@ mutual
   expression_deep (cat_node line a b) = pair_deep a b (expression_deep a) (expression_deep b)
   expression_deep (sum_node e) = let l = expression_deep e in omega (arith, l)
   expression_deep (bits_node line e) = let l = expression_deep e in omega (arith, l)
+  expression_deep (lookup_node line a i) = pair_deep a i (expression_deep a) (expression_deep i)
   expression_deep (element_node line a i) = pair_deep a i (expression_deep a) (expression_deep i)
   expression_deep (not_node e) = let l = expression_deep e in omega (arith, l)
   expression_deep (cast_node c e) = let l = expression_deep e in omega (arith, l)

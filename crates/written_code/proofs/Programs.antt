@@ -22,8 +22,8 @@ use Rattle.reached_instances.proofs.ReachedLists.{is_the_only_list}
 use Rattle.reached_instances.specs.Limits as limits
 use Rattle.reached_instances.specs.Templates.{is_of_template}
 use Rattle.reached_instances.specs.Limits.{sizes, IsWithinLimits}
-use Rattle.verified_code.specs.Steps.{Step, Function, Literal, Move, Store, Binary, Not, Cast, Classify, Fill, At, Put, Size, Cat, Sum, Bits, Declassify}
-use Rattle.verified_code.specs.Steps.{Argument, Publish, Assert, Branch, Jump, Call, Return, ReturnNone}
+use Rattle.verified_code.specs.Steps.{Step, Function, Literal, Move, Store, Binary, Not, Cast, Classify, Fill, At, Put, Size, Cat, Sum, Bits, Lookup}
+use Rattle.verified_code.specs.Steps.{Declassify, Argument, Publish, Assert, Branch, Jump, Call, Return, ReturnNone}
 use Rattle.code_model.specs.Programs.{numbers_in, code_of_found, instance_code, code_of}
 use Rattle.lowered_code.specs.Instructions.{function_names}
 use Rattle.lowered_code.proofs.Passing.{unmapped}
@@ -125,6 +125,7 @@ both_say (Size d r) w s = tt
 both_say (Cat line d a b) w s = s
 both_say (Sum d r) w s = tt
 both_say (Bits line d r) w s = s
+both_say (Lookup line d a i) w s = s
 both_say (Declassify d r) w s = tt
 both_say (Argument line k text d) w s = s
 both_say (Publish text r) w s = s

@@ -3,7 +3,7 @@ use Rattle.std.proofs.Common.{◌≡◌, ℕ, List, [], ◌∷◌, length, map, 
 use Rattle.std.specs.Prelude.{nat_eq}
 use Rattle.sc_text.specs.Name.{is_name}
 use Rattle.program_trees.specs.declared.expression.DataType.{DataType}
-use Rattle.program_trees.specs.declared.expression.DataType.TheVariants.{Uint64}
+use Rattle.program_trees.specs.declared.expression.DataType.TheVariants.{Uint64, Int64}
 use Rattle.program_trees.specs.declared.expression.DataType.TheVariants as datatype
 use Rattle.program_trees.specs.Tree.{Tree, Trees, number, truth, variable, call, index, parentheses, negation, cast, binary, declassify, argument, publish}
 use Rattle.program_trees.specs.Tree as Tree'
@@ -13,7 +13,7 @@ use Rattle.program_trees.specs.Statements.{steps_by_nothing, steps_by_assignment
 use Rattle.program_trees.specs.Statements.{do_loop, for_loop, breaks, continues, returns, assertion, declaration, assignment, evaluation, StatementTrees}
 use Rattle.program_trees.specs.Statements as Statements'
 use Rattle.domain_types.specs.BuiltIn.{BuiltIn}
-use Rattle.domain_types.specs.BuiltIn.TheVariants.{Size, Cat, Sum, BitExtract}
+use Rattle.domain_types.specs.BuiltIn.TheVariants.{Size, Cat, Sum, BitExtract, Lookup}
 use Rattle.domain_types.specs.Declarations.{Declared, Callee, built_in, defined, callee}
 use Rattle.program_trees.specs.declared.operators.BinaryOperator.{BinaryOperator}
 use Rattle.program_trees.specs.declared.operators.Connective.{Connective}
@@ -71,6 +71,10 @@ built_in_said line Sum (a ∷ b ∷ vs) v l h e = cc
 built_in_said line BitExtract [] v l h e = cc
 built_in_said line BitExtract (a ∷ []) v l h e = subst ValueSaid (some_is _ v e) (l, h.0)
 built_in_said line BitExtract (a ∷ b ∷ vs) v l h e = cc
+built_in_said line Lookup [] v l h e = cc
+built_in_said line Lookup (a ∷ []) v l h e = cc
+built_in_said line Lookup (a ∷ i ∷ []) v l h e = subst ValueSaid (some_is _ v e) (l, h.0, h.1.0)
+built_in_said line Lookup (a ∷ i ∷ c ∷ vs) v l h e = cc
 
 called_said : (line : ℕ) (k : Callee) (vs : List TypedValue) (c : TypedCall) → IsLine line → AllSaid vs → called line k vs ≡ Some c → Said c.tree
 called_said line (built_in b) vs c l h e =
@@ -196,6 +200,7 @@ from_value_made d k (publish p x e) h = store_made d k (publish p x e) h
 
 default_said : (element : DataType) → Said (default_of element)
 default_said Uint64 = refl
+default_said Int64 = tt
 default_said datatype.Bool = tt
 
 initial_made : (d : Declared) (line k : ℕ) (element : DataType) (size value : Option Tree) → IsLine line → IsPlacedIf size → IsPlacedIf value

@@ -13,8 +13,8 @@ use Rattle.program_trees.specs.declared.operators.Operands.TheVariants.{Scalars}
 use Rattle.program_trees.specs.declared.operators.Connective.{Connective}
 use Rattle.program_trees.specs.declared.typed_function.Returned.{Returned}
 use Rattle.program_trees.specs.declared.typed_function.Returned.TheVariants.{Nothing, Value}
-use Rattle.program_trees.specs.TypedTree.{TypedTree, TypedTrees, word_node, truth_node, slot_node, call_node, size_node, cat_node, sum_node, bits_node, element_node}
-use Rattle.program_trees.specs.TypedTree.{not_node, cast_node, binary_node, cut_node, declassify_node}
+use Rattle.program_trees.specs.TypedTree.{TypedTree, TypedTrees, word_node, truth_node, zero_node, slot_node, call_node, size_node, cat_node, sum_node, bits_node}
+use Rattle.program_trees.specs.TypedTree.{lookup_node, element_node, not_node, cast_node, binary_node, cut_node, declassify_node}
 use Rattle.program_trees.specs.TypedTree as Tree'
 use Rattle.program_trees.specs.TypedStatements.{TypedStatementTree, TypedStatementTrees, empty_statement, block_statement, if_statement, loop_statement, do_statement}
 use Rattle.program_trees.specs.TypedStatements.{break_statement, continue_statement, return_statement, assert_statement, store_statement, default_statement}
@@ -28,11 +28,11 @@ use Rattle.code_model.specs.Words.{truth_word}
 use Rattle.code_model.specs.Evaluation.{StatementContext, place_in, gives_private, slot_is_private, slot_shape, bound_at, slots_of}
 use Rattle.code_model.specs.Evaluation.{next_is_private, behind_next}
 use Rattle.code_model.specs.Evaluation.{connective, either}
-use Rattle.verified_code.specs.Steps.{Step, Function, Literal, Move, Store, Binary, Not, Cast, Classify, Fill, At, Put, Size, Cat, Sum, Bits, Declassify}
-use Rattle.verified_code.specs.Steps.{Argument, Publish, Assert, Branch, Jump, Call, Return, ReturnNone}
+use Rattle.verified_code.specs.Steps.{Step, Function, Literal, Move, Store, Binary, Not, Cast, Classify, Fill, At, Put, Size, Cat, Sum, Bits, Lookup}
+use Rattle.verified_code.specs.Steps.{Declassify, Argument, Publish, Assert, Branch, Jump, Call, Return, ReturnNone}
 use Rattle.code_model.specs.Kinds.{kind_of, truth_kind, in_row}
 use Rattle.code_model.specs.Kinded.{IsIn}
-use Rattle.code_model.specs.Expressions.{Numbers, result_at, classifying, picked, lacks, mixes, binary_code, cat_code, deciding, settling, cut_code}
+use Rattle.code_model.specs.Expressions.{Numbers, result_at, classifying, picked, lacks, mixes, binary_code, cat_code, lookup_code, deciding, settling, cut_code}
 use Rattle.code_model.specs.Expressions.{own_at, classified_at, stands_at, next_row, expression_code, arguments_code, arguments_places, unread_code}
 use Rattle.code_model.specs.Statements.{shape_number, first_free, statements_depth, if_code, loop_code, do_code, behind_classifying}
 use Rattle.code_model.specs.Statements.{statement_code, statements_code}
@@ -120,6 +120,12 @@ module _ (is_word is_line : ℕ → Bool) (is_text : List ℕ → Bool) where
         both a (both (classifying_says l m v) (both (b (pc + length ca + length (classifying l m v)))
         (both (classifying_says r n u) (one (Cat line d (picked l m v) (picked r n u)) h))))
 
+    lookup_says : (d m n v u pc line : ℕ) (l r : Bool) (ca : List Step) (cb : ℕ → List Step) → IsTrue (is_line line) → AllSay ca
+        → ((p : ℕ) → AllSay (cb p)) → AllSay (lookup_code d m n v u pc line l r ca cb)
+    lookup_says d m n v u pc line l r ca cb h a b =
+        both a (both (b (pc + length ca)) (both (classifying_says l m v) (both (classifying_says r n u)
+        (one (Lookup line d (picked l m v) (picked r n u)) h))))
+
     cut_says : (d q v u pc : ℕ) (c : Connective) (secret : Bool) (ca : List Step) (cb : ℕ → List Step) → AllSay ca → ((p : ℕ) → AllSay (cb p))
         → AllSay (cut_code d q v u pc c secret ca cb)
     cut_says d q v u pc c secret ca cb a b =
@@ -140,6 +146,7 @@ module _ (is_word is_line : ℕ → Bool) (is_text : List ℕ → Bool) where
         pub expression_says : (e : TypedTree) (t pc : ℕ) → TreeSays is_word is_line is_text e → AllSay (expression_code number here t pc e)
         expression_says (word_node n) t pc h = one (Literal (own_at here (word_node n) t) Uint64 n) h
         expression_says (truth_node b) t pc h = one (Literal (own_at here (truth_node b) t) datatype.Bool (truth_word b)) (truth_says b)
+        expression_says zero_node t pc h = nothing
         expression_says (slot_node k) t pc h = nothing
         expression_says (call_node line k es) t pc h =
             both (arguments_say (bound_of k es) (slots_at k) es t pc h.1)
@@ -158,6 +165,12 @@ module _ (is_word is_line : ℕ → Bool) (is_text : List ℕ → Bool) where
             (one (Sum (own_at here (sum_node e) t) (stands_at here e t)) tt)
         expression_says (bits_node line e) t pc h =
             both (expression_says e t pc h.1) (one (Bits line (own_at here (bits_node line e) t) (stands_at here e t)) h.0)
+        expression_says (lookup_node line a i) t pc h =
+            let u = next_row t in
+            lookup_says (own_at here (lookup_node line a i) t) (classified_at here a t) (classified_at here i u) (stands_at here a t) (stands_at here i u) pc
+            line (lacks true (gives_private here a)) (lacks true (gives_private here i))
+            (expression_code number here t pc a) (λ p. expression_code number here u p i) h.0
+            (expression_says a t pc h.1) (λ p. expression_says i u p h.2)
         expression_says (element_node line a i) t pc h =
             let u = next_row t in
             let ca = expression_code number here t pc a in
@@ -204,6 +217,7 @@ module _ (is_word is_line : ℕ → Bool) (is_text : List ℕ → Bool) where
       unread_says : (e : TypedTree) (t pc : ℕ) → TreeSays is_word is_line is_text e → AllSay (unread_code number here t pc e)
       unread_says (word_node n) t pc h = expression_says (word_node n) t pc h
       unread_says (truth_node b) t pc h = expression_says (truth_node b) t pc h
+      unread_says zero_node t pc h = expression_says zero_node t pc h
       unread_says (slot_node k) t pc h = expression_says (slot_node k) t pc h
       unread_says (call_node line k es) t pc h =
           both (arguments_say (bound_of k es) (slots_at k) es t pc h.1)
@@ -213,6 +227,7 @@ module _ (is_word is_line : ℕ → Bool) (is_text : List ℕ → Bool) where
       unread_says (cat_node line a b) t pc h = expression_says (cat_node line a b) t pc h
       unread_says (sum_node e) t pc h = expression_says (sum_node e) t pc h
       unread_says (bits_node line e) t pc h = expression_says (bits_node line e) t pc h
+      unread_says (lookup_node line a i) t pc h = expression_says (lookup_node line a i) t pc h
       unread_says (element_node line a i) t pc h = expression_says (element_node line a i) t pc h
       unread_says (not_node e) t pc h = expression_says (not_node e) t pc h
       unread_says (cast_node c e) t pc h = expression_says (cast_node c e) t pc h

@@ -30,7 +30,7 @@ use Rattle.written_code.proofs.Making.{body_made}
 pub record IsModest (size : ℕ) (t : TypedFunctionTree) : Type 0 where
   pub steps : two (statements_width t.body) + two (counts t.body) + 1 ≤ 6 * size
   pub typed_statements : counts t.body + 2 ≤ size
-  pub registers : 8 * statements_depth t.body + length t.slots + 5 ≤ 16 * size
+  pub registers : 12 * statements_depth t.body + length t.slots + 7 ≤ 16 * size
 
 pub function_modest : (d : Declared) (f : FunctionTree) (t : TypedFunctionTree) → typed_function d f ≡ Some t → t.size < 4294967295 → IsModest t.size t
 function_modest d f t e full =

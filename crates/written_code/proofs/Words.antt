@@ -6,8 +6,8 @@ use Rattle.program_trees.specs.declared.kinds.Shape.{Shape}
 use Rattle.program_trees.specs.declared.kinds.Slot.{Slot}
 use Rattle.program_trees.specs.declared.typed_function.Returned.{Returned}
 use Rattle.program_trees.specs.declared.typed_function.Returned.TheVariants.{Nothing, Value}
-use Rattle.program_trees.specs.TypedTree.{TypedTree, TypedTrees, word_node, truth_node, slot_node, call_node, size_node, cat_node, sum_node, bits_node, element_node}
-use Rattle.program_trees.specs.TypedTree.{not_node, cast_node, binary_node, cut_node, declassify_node}
+use Rattle.program_trees.specs.TypedTree.{TypedTree, TypedTrees, word_node, truth_node, zero_node, slot_node, call_node, size_node, cat_node, sum_node, bits_node}
+use Rattle.program_trees.specs.TypedTree.{lookup_node, element_node, not_node, cast_node, binary_node, cut_node, declassify_node}
 use Rattle.program_trees.specs.TypedTree as Tree'
 use Rattle.program_trees.specs.TypedStatements.{TypedStatementTree, TypedStatementTrees, empty_statement, block_statement, if_statement, loop_statement, do_statement}
 use Rattle.program_trees.specs.TypedStatements.{break_statement, continue_statement, return_statement, assert_statement, store_statement, default_statement}
@@ -34,12 +34,14 @@ module _ (here : Setting) where
     tree_says : (e : TypedTree) (g : Option Shape) → Gives here e g → Says e
     tree_says (word_node n) g h = lt-ltb n (2 ^ 64) h.0
     tree_says (truth_node b) g h = tt
+    tree_says zero_node g h = tt
     tree_says (slot_node k) g h = tt
     tree_says (call_node line k es) g h = (refl, trees_say _ _ es h.2)
     tree_says (size_node e) g h = tree_says e _ h.1
     tree_says (cat_node line a b) g h = (refl, tree_says a _ h.1, tree_says b _ h.2)
-    tree_says (sum_node e) g h = tree_says e _ h.0
+    tree_says (sum_node e) g h = tree_says e _ h.1
     tree_says (bits_node line e) g h = (refl, tree_says e _ h.1)
+    tree_says (lookup_node line a i) g h = (refl, tree_says a _ h.2, tree_says i _ h.3)
     tree_says (element_node line a i) g h = (refl, tree_says a _ h.1, tree_says i _ h.2)
     tree_says (not_node e) g h = tree_says e _ h.1
     tree_says (cast_node c e) g h = tree_says e _ h.1

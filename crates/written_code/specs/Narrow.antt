@@ -1,8 +1,8 @@
 -- How many registers a function needs: they hang on its largest statement, and not on how many statements there are.
 use Rattle.std.specs.Prelude.{◌≡◌, ℕ, ◌+◌, ◌*◌, ◌≤◌, max, List, length, Some, None}
 use Rattle.std.specs.List.{slice_get}
-use Rattle.program_trees.specs.TypedTree.{TypedTree, TypedTrees, word_node, truth_node, slot_node, call_node, size_node, cat_node, sum_node, bits_node, element_node}
-use Rattle.program_trees.specs.TypedTree.{not_node, cast_node, binary_node, cut_node, declassify_node}
+use Rattle.program_trees.specs.TypedTree.{TypedTree, TypedTrees, word_node, truth_node, zero_node, slot_node, call_node, size_node, cat_node, sum_node, bits_node}
+use Rattle.program_trees.specs.TypedTree.{lookup_node, element_node, not_node, cast_node, binary_node, cut_node, declassify_node}
 use Rattle.program_trees.specs.TypedTree as Tree'
 use Rattle.program_trees.specs.TypedStatements.{TypedStatementTree, TypedStatementTrees, empty_statement, block_statement, if_statement, loop_statement, do_statement}
 use Rattle.program_trees.specs.TypedStatements.{break_statement, continue_statement, return_statement, assert_statement, store_statement, default_statement}
@@ -17,12 +17,14 @@ abbrev mutual
   pub nodes : TypedTree → ℕ
   nodes (word_node n) = 1
   nodes (truth_node b) = 1
+  nodes zero_node = 1
   nodes (slot_node k) = 1
   nodes (call_node line k es) = 1 + nodes_of_all es
   nodes (size_node e) = 1 + nodes e
   nodes (cat_node line a b) = 1 + nodes a + nodes b
   nodes (sum_node e) = 1 + nodes e
   nodes (bits_node line e) = 1 + nodes e
+  nodes (lookup_node line a i) = 1 + nodes a + nodes i
   nodes (element_node line a i) = 1 + nodes a + nodes i
   nodes (not_node e) = 1 + nodes e
   nodes (cast_node c e) = 1 + nodes e

@@ -2,8 +2,8 @@
 use Rattle.std.specs.Prelude.{◌≡◌, ℕ, Bool, IsTrue, List, Option, Some, None}
 use Rattle.std.specs.List.{slice_get}
 use Rattle.sc_text.specs.Lists.{Among}
-use Rattle.program_trees.specs.TypedTree.{TypedTree, TypedTrees, word_node, truth_node, slot_node, call_node, size_node, cat_node, sum_node, bits_node, element_node}
-use Rattle.program_trees.specs.TypedTree.{not_node, cast_node, binary_node, cut_node, declassify_node}
+use Rattle.program_trees.specs.TypedTree.{TypedTree, TypedTrees, word_node, truth_node, zero_node, slot_node, call_node, size_node, cat_node, sum_node, bits_node}
+use Rattle.program_trees.specs.TypedTree.{lookup_node, element_node, not_node, cast_node, binary_node, cut_node, declassify_node}
 use Rattle.program_trees.specs.TypedTree as Tree'
 use Rattle.program_trees.specs.TypedStatements.{TypedStatementTree, TypedStatementTrees, empty_statement, block_statement, if_statement, loop_statement, do_statement}
 use Rattle.program_trees.specs.TypedStatements.{break_statement, continue_statement, return_statement, assert_statement, store_statement, default_statement}
@@ -11,8 +11,8 @@ use Rattle.program_trees.specs.TypedStatements.{fill_statement, input_statement,
 use Rattle.program_trees.specs.TypedStatements as Statements'
 use Rattle.program_trees.specs.TypedPrograms.{TypedFunctionTree, TypedProgramTree}
 use Rattle.reached_instances.specs.Instances.{Instance}
-use Rattle.verified_code.specs.Steps.{Step, Literal, Move, Store, Binary, Not, Cast, Classify, Fill, At, Put, Size, Cat, Sum, Bits, Declassify}
-use Rattle.verified_code.specs.Steps.{Argument, Publish, Assert, Branch, Jump, Call, Return, ReturnNone}
+use Rattle.verified_code.specs.Steps.{Step, Literal, Move, Store, Binary, Not, Cast, Classify, Fill, At, Put, Size, Cat, Sum, Bits, Lookup}
+use Rattle.verified_code.specs.Steps.{Declassify, Argument, Publish, Assert, Branch, Jump, Call, Return, ReturnNone}
 
 -- each of them passes
 module _ (is_word is_line : ℕ → Bool) (is_text : List ℕ → Bool) where
@@ -20,12 +20,14 @@ module _ (is_word is_line : ℕ → Bool) (is_text : List ℕ → Bool) where
     pub TreeSays : TypedTree → Type 0
     TreeSays (word_node n) = IsTrue (is_word n)
     TreeSays (truth_node b) = Unit {0}
+    TreeSays zero_node = Unit {0}
     TreeSays (slot_node k) = Unit {0}
     TreeSays (call_node line k es) = IsTrue (is_line line) × TreesSay es
     TreeSays (size_node e) = TreeSays e
     TreeSays (cat_node line a b) = IsTrue (is_line line) × TreeSays a × TreeSays b
     TreeSays (sum_node e) = TreeSays e
     TreeSays (bits_node line e) = IsTrue (is_line line) × TreeSays e
+    TreeSays (lookup_node line a i) = IsTrue (is_line line) × TreeSays a × TreeSays i
     TreeSays (element_node line a i) = IsTrue (is_line line) × TreeSays a × TreeSays i
     TreeSays (not_node e) = TreeSays e
     TreeSays (cast_node c e) = TreeSays e
@@ -84,6 +86,7 @@ module _ (is_word is_line : ℕ → Bool) (is_text : List ℕ → Bool) where
   StepSays (Cat line d a b) = IsTrue (is_line line)
   StepSays (Sum d r) = Unit {0}
   StepSays (Bits line d r) = IsTrue (is_line line)
+  StepSays (Lookup line d a i) = IsTrue (is_line line)
   StepSays (Declassify d r) = Unit {0}
   StepSays (Argument line k text d) = IsTrue (is_line line) × IsTrue (is_text text)
   StepSays (Publish text r) = IsTrue (is_text text)

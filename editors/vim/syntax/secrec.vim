@@ -9,11 +9,11 @@ syntax keyword secrecRepeat while do for break continue
 syntax keyword secrecStatement return assert
 syntax keyword secrecInclude import
 syntax keyword secrecStructure kind domain template
-syntax keyword secrecType void uint64 uint bool
+syntax keyword secrecType void uint64 uint int64 int bool
 syntax keyword secrecStorage public
 syntax keyword secrecBoolean true false
 syntax keyword secrecBoundary argument publish declassify
-syntax keyword secrecBuiltin size cat sum bitExtract
+syntax keyword secrecBuiltin size cat sum bitExtract lookup
 syntax keyword secrecTodo contained TODO FIXME XXX
 
 " (of several matches at one place the last one counts)

@@ -6,7 +6,7 @@ use Rattle.program_trees.specs.declared.expression.DataType.TheVariants.{Uint64}
 use Rattle.program_trees.specs.declared.expression.DataType.TheVariants as datatype
 use Rattle.program_trees.specs.declared.kinds.Shape.{Shape}
 use Rattle.program_trees.specs.Shapes.{shape_of}
-use Rattle.program_trees.specs.TypedTree.{TypedTree, TypedTrees, word_node, truth_node, slot_node, call_node, size_node, cat_node, sum_node, bits_node, element_node}
+use Rattle.program_trees.specs.TypedTree.{TypedTree, TypedTrees, word_node, truth_node, slot_node, call_node, size_node, cat_node, sum_node, bits_node, lookup_node, element_node}
 use Rattle.program_trees.specs.TypedTree.{not_node, cast_node, binary_node, cut_node, declassify_node}
 use Rattle.program_trees.specs.TypedTree as Tree'
 use Rattle.reached_instances.specs.declared.instance.BoundDomain.{BoundDomain}
@@ -32,7 +32,7 @@ given_in here e = given_of (domain here e) (shape_in here e)
 -- what an operation on one operand gives
 abbrev pub one_given : One → Given → Given
 one_given ones.Size g = given_of Public (shape_of Uint64 false)
-one_given ones.Sum g = given_of g.domain (shape_of Uint64 false)
+one_given ones.Sum g = given_of g.domain (shape_of g.shape.element false)
 one_given (ones.Bits line) g = given_of g.domain (shape_of datatype.Bool true)
 one_given ones.Not g = g
 one_given (ones.Cast c) g = given_of g.domain (cast_shape c g.shape.array)
@@ -52,6 +52,7 @@ abbrev mutual
   operands_notes here (cat_node line a b) = noted (given_in here a) (operands_notes here a) ++ noted (given_in here b) (operands_notes here b)
   operands_notes here (sum_node e) = noted (given_in here e) (operands_notes here e)
   operands_notes here (bits_node line e) = noted (given_in here e) (operands_notes here e)
+  operands_notes here (lookup_node line a i) = noted (given_in here a) (operands_notes here a) ++ noted (given_in here i) (operands_notes here i)
   operands_notes here (element_node line a i) = noted (given_in here a) (operands_notes here a) ++ noted (given_in here i) (operands_notes here i)
   operands_notes here (not_node e) = noted (given_in here e) (operands_notes here e)
   operands_notes here (cast_node c e) = noted (given_in here e) (operands_notes here e)

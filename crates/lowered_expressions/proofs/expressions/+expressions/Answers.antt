@@ -6,7 +6,7 @@ use Rattle.program_trees.specs.declared.typed_expression.TypedExpression.{TypedE
 use Rattle.program_trees.specs.declared.operators.BinaryOperator.TheVariants as binary
 use Rattle.program_trees.specs.declared.operators.BoolOperator.{BoolOperator}
 use Rattle.program_trees.specs.declared.operators.Operands.TheVariants.{Scalars}
-use Rattle.program_trees.specs.TypedTree.{binary_node, cat_node, cut_node, element_node, typed_tree, typed_trees_of}
+use Rattle.program_trees.specs.TypedTree.{binary_node, cat_node, cut_node, element_node, lookup_node, typed_tree, typed_trees_of}
 use Rattle.language_model.specs.Evaluation.{either, gives_private, connective, next_is_private}
 use Rattle.verified_code.specs.Steps.{ReturnNone}
 use Rattle.code_model.specs.Kinds.{truth_kind, in_row}
@@ -17,7 +17,7 @@ use Rattle.lowered_expressions.specs.Parts.{binary_rest, cut_rest, cut_closed, w
 use Rattle.lowered_expressions.specs.Views.{built, here_of, numbers_of}
 use Rattle.lowered_expressions.specs.inner.Notes.{notes_of, arguments_notes, behind_part, first_part, first_is_private, first_kind, first_private_kind}
 use Rattle.lowered_expressions.proofs.Building.{two_parts, then_steps, places_more}
-use Rattle.lowered_expressions.proofs.Nodes.{element_made, cat_made, cat_of, cut_of}
+use Rattle.lowered_expressions.proofs.Nodes.{element_made, lookup_made, cat_made, cat_of, cut_of}
 use Rattle.lowered_expressions.proofs.Cuts.{cut_made}
 use Rattle.lowered_expressions.proofs.Arguments as several
 use Rattle.lowered_expressions.proofs.Noted.{left_found, right_found, first_is, behind_is, rest_of}
@@ -53,6 +53,50 @@ element-returns t c =
     (c.in_ok-to.ensures ∙ ap (in_row t) (c.first_kind.ensures ∙ ap first_kind c.requires))
     c.in_ok-from.ensures.register (c.in_ok-at.ensures.register ∙ ap (stands_at here i) c.in_ok-second.ensures))
     c.push.ensures
+
+-- ---- LOOK-UPS
+
+pub lookup-expression-requires : goal.lookup-expression-requires
+lookup-expression-requires t c =
+    let here = here_of c.args.around.now in
+    let a = typed_tree c.args.array.now in
+    let i = typed_tree c.args.index.now in
+    let smaller : 4 * width a + 1 < 4 * (width a + width i) + 2 = omega arith in
+    let found : c.parted.result.0.now ≡ notes_of here a =
+    left_found here _ a i c.args.notes.now c.behind_first.result.now c.parted.result.0.now c.requires c.behind_first.ensures c.parted.ensures.first in
+    search rules
+
+pub lookup-returns : goal.lookup-returns
+lookup-returns t c =
+    let number = numbers_of c.args.around.now in
+    let here = here_of c.args.around.now in
+    let a = typed_tree c.args.array.now in
+    let i = typed_tree c.args.index.now in
+    let b = built c.args.body.now in
+    let f = built c.expression.new.body in
+    let g = built c.expression-2.new.body in
+    let t = c.args.row in
+    let u = next_row t in
+    let node = lookup_node c.args.line a i in
+    let left : c.parted.result.0.now ≡ notes_of here a =
+    left_found here _ a i c.args.notes.now c.behind_first.result.now c.parted.result.0.now c.requires c.behind_first.ensures c.parted.ensures.first in
+    let right : c.parted.result.1.now ≡ notes_of here i =
+    right_found here _ a i c.args.notes.now c.behind_first.result.now c.parted.result.1.now c.requires c.behind_first.ensures c.parted.ensures.behind in
+    on_ok_weaker c.close_lookup.result
+    (λ p. lookup_made b f g (built c.close_lookup.new.body)
+    (λ q. expression_code number here t q a) (λ q. expression_code number here u q i) c.args.line
+    c.in_ok-to.to c.lacks.result c.in_ok-beside.beside c.in_ok-from.from c.lacks-2.result c.in_ok-classified.classified c.in_ok-at.at
+    (own_at here node t) (lacks true (gives_private here a)) (classified_at here a t) (stands_at here a t)
+    (lacks true (gives_private here i)) (classified_at here i u) (stands_at here i u)
+    c.in_ok-from.ensures.built (c.in_ok-at.ensures.built ∙ ap (λ (r : ℕ). with_expression number here f r i) c.in_ok-second.ensures) p
+    (c.in_ok-to.ensures ∙ ap (in_row t) (c.first_kind.ensures ∙ ap first_kind c.requires))
+    (c.lacks.ensures ∙ ap (lacks true) (c.first_is_private.ensures ∙ ap first_is_private left))
+    (c.in_ok-beside.ensures ∙ ap (in_row t) (c.first_private_kind.ensures ∙ ap first_private_kind left))
+    c.in_ok-from.ensures.register
+    (c.lacks-2.ensures ∙ ap (lacks true) (c.first_is_private-2.ensures ∙ ap first_is_private right))
+    (c.in_ok-classified.ensures ∙ ap₂ in_row c.in_ok-second.ensures (c.first_private_kind-2.ensures ∙ ap first_private_kind right))
+    (c.in_ok-at.ensures.register ∙ ap (stands_at here i) c.in_ok-second.ensures))
+    c.close_lookup.ensures
 
 -- ---- ARRAYS ONE BEHIND ANOTHER
 
@@ -313,9 +357,9 @@ arguments-loop-e-preserved t c =
     sym (ap (λ (z : Built). length z.pieces) c.loop-e.invariant.code ∙ places_more b code) in
     let taken : length ts ≡ i = several.length_taken xs i c.loop-e-test.true in
     let slots : drop (length ts) ss ≡ drop i ss = ap (λ k. drop k ss) taken in
-    let row : r + 8 * length ts ≡ n = sym (c.loop-e.invariant.row ∙ ap (λ k. r + 8 * k) (sym taken)) in
+    let row : r + 12 * length ts ≡ n = sym (c.loop-e.invariant.row ∙ ap (λ k. r + 12 * k) (sym taken)) in
     let last = several.argument_code number here bound (drop i ss) n (length before.pieces) e in
-    let next : c.in_ok-row.row ≡ r + 8 * (i + 1) = omega (arith, c.in_ok-row.ensures, c.loop-e.invariant.row) in
+    let next : c.in_ok-row.row ≡ r + 12 * (i + 1) = omega (arith, c.in_ok-row.ensures, c.loop-e.invariant.row) in
     record {
       rest =
           c.parted.ensures.behind

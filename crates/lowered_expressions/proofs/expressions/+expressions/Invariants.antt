@@ -23,6 +23,9 @@ decreases-one l = 4 * width (typed_tree l.x.now) + 2
 abbrev pub decreases-element : goal.decreases-element
 decreases-element l = 4 * (width (typed_tree l.array.now) + width (typed_tree l.index.now)) + 2
 
+abbrev pub decreases-lookup : goal.decreases-lookup
+decreases-lookup l = 4 * (width (typed_tree l.array.now) + width (typed_tree l.index.now)) + 2
+
 abbrev pub decreases-cat : goal.decreases-cat
 decreases-cat l = 4 * (width (typed_tree l.a.now) + width (typed_tree l.b.now)) + 3
 
@@ -51,7 +54,7 @@ abbrev pub invariant-arguments-loop-e : goal.invariant-arguments-loop-e
 invariant-arguments-loop-e l = record {
   rest : l.rest ≡ arguments_notes (here_of l.around) (typed_trees_of (map typed_tree (drop l.e-index l.e-items)));
   count : length l.registers.items ≡ l.e-index;
-  row : l.row ≡ l.first + 8 * l.e-index;
+  row : l.row ≡ l.first + 12 * l.e-index;
   code : built l.body ≡ with_steps (built l.initial.body)
       (arguments_code (numbers_of l.around) (here_of l.around) l.binding l.slots l.first (length (built l.initial.body).pieces)
       (typed_trees_of (map typed_tree (take l.e-index l.e-items))));

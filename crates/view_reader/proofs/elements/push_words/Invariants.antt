@@ -1,5 +1,5 @@
 use Rattle.std.proofs.Common.{◌≡◌, ◌++◌, map, take}
-use Rattle.view_reader.specs.Opened.{element_word}
+use Rattle.sc_text.specs.Elements.{element_word}
 use Rattle.view_reader.proofs.elements.push_words.Given as goal
 
 abbrev pub invariant-loop-element : goal.invariant-loop-element

@@ -1,5 +1,5 @@
 use Rattle.std.proofs.Common.{◌≡◌, map, take}
-use Rattle.language_model.specs.Learned.{element_word}
+use Rattle.sc_text.specs.Elements.{element_word}
 use Rattle.view_simulator.proofs.learned.words_of.Given as goal
 
 abbrev pub invariant-loop-element : goal.invariant-loop-element
