@@ -37,7 +37,7 @@ pub use inputs::{Asked, asked_for};
 pub use one_operand::{bits_extracted, cast_to, negated, size_told, summed};
 pub use opening::declassified;
 pub use operators::{operated, operation};
-pub use private_index::lookup;
+pub use private_index::{looked_up, lookup};
 pub use publishing::published;
 pub use stage::{Drawn, Stage};
 pub use steps::{MOST_CALLS, charge, charge_elements, charged, test_at};
