@@ -6,7 +6,16 @@ use std::alloc::{AllocError, Global};
 use std::fmt;
 use std::marker::Model;
 
-const SIGN_BIT: u64 = 1 << 63;
+/// What the elements of a value are, whatever they are: an element that isn't below 0 doesn't tell by itself whether it may have a sign.
+#[derive(Clone, Copy)]
+pub enum ElementKind {
+    /// Numbers without a sign.
+    Unsigned,
+    /// Numbers with a sign.
+    Signed,
+    /// Truth values.
+    TruthValue,
+}
 
 /// An element of a printed value.
 #[derive(Clone, Copy)]
@@ -32,20 +41,14 @@ impl Element {
     }
 }
 
-/// What the elements of a value are.
-#[derive(Clone, Copy, PartialEq, Eq)]
-pub enum ElementKind {
-    /// Numbers below 2^64.
-    Unsigned,
-    /// Numbers from -2^63 to 2^63 - 1.
-    Signed,
-    TruthValue,
-}
+/// How many words there are whose number with a sign isn't below 0.
+const HALF: u64 = 1 << 63;
 
+/// A word as a number with a sign, by its two's complement.
 fn signed(word: u64) -> Element
     ensures { result ≡ signed_element word }
 {
-    if word < SIGN_BIT {
+    if word < HALF {
         Element::Word(word)
     } else {
         Element::Negative(word.wrapping_neg())

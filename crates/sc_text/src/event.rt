@@ -11,7 +11,7 @@ pub enum Event {
     Open(Elements),
     /// A public value was published under a name.
     Publish(Name, Elements),
-    /// A private value was handed to the client under a name; its elements are of this kind. Its line is that of a publication.
+    /// A private value with elements of this kind was handed to the client under a name. Its line is that of a publication.
     Hand(Name, ElementKind, Elements),
 }
 
