@@ -1,6 +1,6 @@
 ghost use Rattle.std.specs.Prelude.{◌≡◌, [], ◌∷◌, ◌++◌, List, Some, OnOk, OnErr};
 ghost use Rattle.sc_text.specs.declared.elements.Element.{Element};
-ghost use Rattle.sc_text.specs.Elements.{element_as, element_text, elements_text, element_word, signed_element};
+ghost use Rattle.sc_text.specs.Elements.{element_text, elements_text, element_word};
 
 use std::alloc::{AllocError, Global};
 use std::fmt;
@@ -37,33 +37,6 @@ impl Element {
             Element::Negative(below) => below.wrapping_neg(),
             Element::Truth(true) => 1,
             Element::Truth(false) => 0,
-        }
-    }
-}
-
-/// How many words there are whose number with a sign isn't below 0.
-const HALF: u64 = 1 << 63;
-
-/// A word as a number with a sign, by its two's complement.
-fn signed(word: u64) -> Element
-    ensures { result ≡ signed_element word }
-{
-    if word < HALF {
-        Element::Word(word)
-    } else {
-        Element::Negative(word.wrapping_neg())
-    }
-}
-
-impl ElementKind {
-    /// The element of this kind that a word stands for: a number with a sign by two's complement, a truth value by bit 0.
-    pub fn element(self, word: u64) -> Element
-        ensures { result ≡ element_as self word }
-    {
-        match self {
-            ElementKind::Unsigned => Element::Word(word),
-            ElementKind::Signed => signed(word),
-            ElementKind::TruthValue => Element::Truth(word % 2 != 0),
         }
     }
 }
