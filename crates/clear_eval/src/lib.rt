@@ -22,7 +22,7 @@ mod slots;
 mod steps;
 mod words;
 
-pub use blind_run::{BlindErr, blind};
+pub use blind_run::{BlindErr, BlindRun, blind, blind_run};
 pub use dealer::dealing;
 pub use laws::public_parts_are_public;
 pub use public_offering::parts_given;
