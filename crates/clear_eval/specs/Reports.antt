@@ -9,8 +9,6 @@ use Rattle.clear_eval.specs.declared.ran.StopReason as halted
 use Rattle.clear_eval.specs.declared.ran.StopReason.TheVariants as stop
 use Rattle.clear_eval.specs.declared.ran.Ran as finished
 use Rattle.clear_eval.specs.declared.blind_run.BlindErr.{BlindErr}
-use Rattle.clear_eval.specs.declared.blind_run.BlindRun.{BlindRun}
-use Rattle.clear_eval.specs.declared.blind_run.BlindRun.TheVariants.{Ended as WithReport, Short as WithEvents}
 use Rattle.clear_eval.specs.declared.blind_run.BlindErr.TheVariants.{OpenedShort, Memory}
 
 abbrev pub drawn_seen : words.Needs → Words
@@ -44,11 +42,6 @@ ran_seen r =
       opened = r.stage.opened.items;
       gates = r.stage.gates.items;
     }
-
--- a blind run's report; of one for which all answers were too few, what it told
-abbrev pub IsBlindRun : BlindRun → Report → Type 0
-IsBlindRun (WithReport report) r = report_seen report ≡ r
-IsBlindRun (WithEvents events) r = (r.stop ≡ Short) × (events.items ≡ r.events)
 
 -- a blind run answers with its report, or that all answers, so many, were too few; unless memory ran short
 abbrev pub IsBlindAnswer : Result told.Report BlindErr → Report → (count : ℕ) → Type 0

@@ -3,7 +3,8 @@ ghost use Rattle.std.specs.Prelude.{◌≡◌, length, IfOk};
 ghost use Rattle.program_trees.specs.TypedPrograms.{typed_program_tree};
 ghost use Rattle.program_trees.specs.Sound.{IsSound};
 ghost use Rattle.value_file.specs.PublicFile.{IsWritable};
-ghost use Rattle.clear_eval.specs.Reports.{report_seen, IsBlindRun};
+ghost use Rattle.clear_eval.specs.Reports.{report_seen};
+ghost use Rattle.clear_eval.specs.ToldRuns.{IsBlindRun};
 ghost use Rattle.code_inputs.specs.Accepted.{IsAcceptedProgram};
 ghost use Rattle.view_model.specs.Dealing.{hidden_sizes};
 ghost use Rattle.view_model.specs.TapeMaps.{miners_of};
@@ -18,7 +19,7 @@ use crate::making::made_from;
 use crate::simulate_err::SimulateErr;
 use crate::told::{gate_words_of, told_events};
 use crate::zeros::shared_zeros;
-use clear_eval::{BlindRun, Report, blind_run};
+use clear_eval::{BlindRun, Report, run_blind};
 use client_runs::sightings;
 use client_text::{ClientView, Given};
 use gates::Gate;
@@ -58,7 +59,7 @@ fn run_told(alloc: Global, run: &SimulatedRun) -> Result<BlindRun, AllocError>
     see_part(run.part.entries());
     see_words(run.opened);
     see_tapes(run.tapes);
-    blind_run(
+    run_blind(
         alloc,
         run.program,
         run.part,

@@ -2,7 +2,7 @@ use Rattle.std.proofs.Common.{ℕ, List, All, subst}
 use Rattle.program_trees.specs.TypedPrograms.{typed_program_tree}
 use Rattle.value_file.specs.declared.public.PublicEntry.{PublicEntry}
 use Rattle.language_model.specs.Reports.{Report}
-use Rattle.clear_eval.specs.Reports.{IsBlindRun}
+use Rattle.clear_eval.specs.ToldRuns.{IsBlindRun}
 use Rattle.tape_twin.proofs.Passing.{if-ok}
 use Rattle.view_model.specs.TapeMaps.{AreTapes}
 use Rattle.program_views.specs.Views.{lengths_of, told_run}
@@ -15,8 +15,8 @@ pub returns-clause-told : goal.returns-clause-told
 returns-clause-told c =
     let run = c.args.run.now in
     subst
-    (λ (ls : List ℕ). IfOk c.blind_run.result (λ told. IsBlindRun told
-    (told_run (typed_program_tree run.program.now) run.part.now run.opened.now ls run.budget))) c.lengths.ensures c.blind_run.ensures
+    (λ (ls : List ℕ). IfOk c.run_blind.result (λ told. IsBlindRun told
+    (told_run (typed_program_tree run.program.now) run.part.now run.opened.now ls run.budget))) c.lengths.ensures c.run_blind.ensures
 
 pub returns-clause-can : goal.returns-clause-can
 returns-clause-can c =
@@ -32,5 +32,5 @@ returns-clause-can c =
     record { form = c.requires.part; known = known; opened_words = c.see_words.ensures.words; tapes = are } in
     let can : CanBeMade part (told_run p part opened (lengths_of s) run.budget).gates s =
     can_be_made accepted.source p accepted.instances accepted.accepted part opened s run.budget told in
-    if-ok (λ told. Unit {0}) (λ told. CanBeMade part (told_run p part opened (lengths_of s) run.budget).gates s) (λ told h. can) c.blind_run.result
-    (all-ok c.blind_run.result)
+    if-ok (λ told. Unit {0}) (λ told. CanBeMade part (told_run p part opened (lengths_of s) run.budget).gates s) (λ told h. can) c.run_blind.result
+    (all-ok c.run_blind.result)
