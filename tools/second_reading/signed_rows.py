@@ -274,9 +274,11 @@ def lookup_inputs(index: int, table: tuple[int, ...] = TABLE) -> list:
     ]
 
 
-LARGE = (
+LARGEST = (
     'p uint64[[1]] a (1024) = 7; p uint64[[1]] i (1024); publish("v", sum(lookup(a, i)));',
     'p uint64[[1]] a (1048576) = 7; a[1048575] = 9; p uint64 i = 1048575; publish("v", declassify(lookup(a, i)));',
+)
+TOO_LARGE = (
     'p uint64[[1]] a (1025); p uint64[[1]] i (1024); publish("v", lookup(a, i));',
     'p uint64[[1]] a (1048576); p uint64[[1]] i (2); publish("v", lookup(a, i));',
 )
@@ -295,9 +297,14 @@ def lookup_rows() -> TruthRows:
     own = [entry("a", True, Data.NUMBER, True), entry("i", True, Data.NUMBER, False, 5)]
     rows.programs("in an empty table", own, declarations(own))
     rows.done(LOOKED_UP[0])
-    rows.programs("about the largest, in the clear", [], call="eval p.sc --input p.json --budget 9000000")
-    for body in LARGE:
+    rows.programs("over the largest", [], call="eval p.sc --input p.json --budget 9000000")
+    for body in TOO_LARGE:
         rows.done(body)
+    rows.group("the largest, which takes more words than a tape has")
+    for body in LARGEST:
+        found = {"p.sc": f"{HEAD}{body}\n}}\n".encode(), "p.json": b'{"inputs":[]}'}
+        rows.call("the words", "need p.sc --input p.json --budget 9000000", found, "p.sc", "p.json")
+        rows.call("on shares", f"run p.sc --input p.json --seed {'0' * 64} --words 1000 --budget 9000000", found, "p.sc", "p.json")
     template = 'template <domain D> D uint64 at(p uint64[[1]] x, D uint64 y) { p uint64 z = lookup(x, y); return y; }'
     rows.add("", "group under both bindings of a domain variable", "before",
              f">import stdlib; import shared3p; domain p shared3p; {template} template <domain D> p uint64 of(D uint64[[1]] x, D uint64 y) {{ return lookup(x, y); }} "

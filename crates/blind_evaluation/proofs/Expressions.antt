@@ -1,13 +1,13 @@
 -- Expressions are evaluated alike, in frames that are alike.
 use Rattle.std.proofs.Common.{ℕ, List, [], ◌∷◌, Bool, true, false}
 use Rattle.std.specs.Prelude.{slice_get}
-use Rattle.program_trees.specs.declared.expression.DataType.TheVariants.{Uint64}
+use Rattle.program_trees.specs.declared.expression.DataType.TheVariants.{Uint64, Int64}
 use Rattle.program_trees.specs.declared.expression.DataType.TheVariants as datatype
 use Rattle.program_trees.specs.declared.kinds.Slot.{Slot}
 use Rattle.program_trees.specs.declared.operators.BinaryOperator.TheVariants as binary
 use Rattle.program_trees.specs.declared.operators.Operands.TheVariants.{Scalars}
 use Rattle.program_trees.specs.declared.operators.Connective.{Connective}
-use Rattle.program_trees.specs.TypedTree.{TypedTree, TypedTrees, word_node, truth_node, slot_node, call_node, size_node, cat_node, sum_node, bits_node}
+use Rattle.program_trees.specs.TypedTree.{TypedTree, TypedTrees, word_node, truth_node, zero_node, slot_node, call_node, size_node, cat_node, sum_node, bits_node}
 use Rattle.program_trees.specs.TypedTree.{lookup_node, element_node, not_node, cast_node, binary_node, cut_node, declassify_node}
 use Rattle.program_trees.specs.TypedTree as Tree'
 use Rattle.language_model.specs.BoundDomain.{BoundDomain}
@@ -54,6 +54,7 @@ module _ (o : Offered) where
           → Alike LikeValues (value (clear o) calls here e fr) (value (unseen o) calls' here e fr')
       value_alike (word_node n) fr fr' l = plain_alike (shape_of Uint64 false) (n ∷ [])
       value_alike (truth_node b) fr fr' l = plain_alike (shape_of datatype.Bool false) (truth_word b ∷ [])
+      value_alike zero_node fr fr' l = plain_alike (shape_of Int64 false) (0 ∷ [])
       value_alike (slot_node k) fr fr' l = alike_done (l k)
       value_alike (call_node line k es) fr fr' l =
           alike_bind (arguments_alike (bound_at (slice_get here.functions k) (domains here es)) (slots_of (slice_get here.functions k)) es fr fr' l)

@@ -38,11 +38,7 @@ fn kinds(
     Ok(found)
 }
 
-fn next_head(
-    alloc: Global,
-    reader: &mut Reader<'_>,
-    version: CodeVersion,
-) -> Result<Head, Stopped>
+fn next_head(alloc: Global, reader: &mut Reader<'_>, version: CodeVersion) -> Result<Head, Stopped>
     ensures { Reads raw_head (read (head_layout version) reader.old) result reader.new }
 {
     let parameters = reader.short()?;

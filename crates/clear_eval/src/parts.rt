@@ -36,9 +36,10 @@ pub fn parts_of(e: &TypedExpression) -> Parts<'_>
     ensures { HasParts (typed_tree e.now) result }
 {
     match e {
-        TypedExpression::Word(_) | TypedExpression::Truth(_) | TypedExpression::Variable(_) => {
-            Parts::Leaf
-        }
+        TypedExpression::Word(_)
+        | TypedExpression::Truth(_)
+        | TypedExpression::Zero
+        | TypedExpression::Variable(_) => Parts::Leaf,
         TypedExpression::Size(x) => Parts::One(x),
         TypedExpression::Sum(x) => Parts::One(x),
         TypedExpression::BitExtract(_, x) => Parts::One(x),

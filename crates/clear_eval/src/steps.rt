@@ -16,7 +16,7 @@ use crate::flow::Flow;
 use crate::held::Held;
 use crate::place::{Around, StatementContext};
 use crate::slots::{ArrayPlace, default_value, put, set_element, slot_value, store};
-use crate::words::truth_value;
+use crate::words::{truth_value, zero_with_sign};
 use program_trees::{Operation, TypedExpression, TypedStatement};
 use reached_instances::{domain, slot_is_private, slot_shape};
 use std::alloc::Global;
@@ -42,6 +42,7 @@ pub fn leaf(
     match e {
         TypedExpression::Word(word) => Ok(Value::number(around.alloc, *word)?),
         TypedExpression::Truth(truth) => Ok(truth_value(around.alloc, *truth)?),
+        TypedExpression::Zero => Ok(zero_with_sign(around.alloc)?),
         TypedExpression::Variable(slot) => Ok(slot_value(frame, *slot).copy(around.alloc)?),
         _ => unreachable!(),
     }

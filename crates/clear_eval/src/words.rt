@@ -1,6 +1,9 @@
 // Values that come from the program's text.
-ghost use Rattle.std.specs.Prelude.{◌≡◌, IfOk};
+ghost use Rattle.std.specs.Prelude.{◌≡◌, [], ◌∷◌, false, IfOk};
+ghost use Rattle.program_trees.specs.declared.expression.DataType.TheVariants.{Int64};
+ghost use Rattle.program_trees.specs.Shapes.{shape_of};
 ghost use Rattle.language_model.specs.Evaluation.{truth_value, decides};
+ghost use Rattle.language_model.specs.Values.{plain};
 ghost use Rattle.value_steps.specs.Views.{value_seen};
 
 use program_trees::{Connective, DataType, Shape};
@@ -15,6 +18,17 @@ pub fn truth_value(alloc: Global, truth: bool) -> Result<Value, AllocError>
         secrecy: Secrecy::Plain,
         shape: Shape::scalar(DataType::Bool),
         words: vec![in alloc; u64::from(truth)]?,
+    })
+}
+
+/// 0 as a public number with a sign.
+pub fn zero_with_sign(alloc: Global) -> Result<Value, AllocError>
+    ensures { IfOk result (λ v. value_seen v ≡ plain (shape_of Int64 false) (0 ∷ [])) }
+{
+    Ok(Value {
+        secrecy: Secrecy::Plain,
+        shape: Shape::scalar(DataType::Int64),
+        words: vec![in alloc; 0]?,
     })
 }
 

@@ -47,7 +47,7 @@ module _ (w : World) (p : List Function) (m : Machine) where
   act (Some (Cat line d a b)) = sets d _ (walk.concatenated_holds w w (is_onward w) law line (m.registers a) (m.registers b))
   act (Some (Sum d r)) = sets d _ (walk.summed_holds w w (is_onward w) law (m.registers r))
   act (Some (Bits line d r)) = sets d _ (walk.bits_holds w w (is_onward w) law line (m.registers r))
-  act (Some (Lookup line d a i)) = sets d _ (walk.lookup_holds w w (is_onward w) law line (m.registers a) (m.registers i))
+  act (Some (Lookup line d a i)) = sets d _ (walk.looked_up_holds w w (is_onward w) law line (m.registers a) (m.registers i))
   act (Some (Declassify d r)) = sets d _ (walk.declassified_holds w w (is_onward w) law (m.registers r))
   act (Some (Argument line k text d)) = sets d _ (walk.input_holds w w (is_onward w) law k.secret (kind_shape k) line text)
   act (Some (Publish text r)) = goes _ _ (walk.published_holds w w (is_onward w) law text (m.registers r))

@@ -11,7 +11,7 @@ use program_trees::Operation;
 use std::alloc::Global;
 use value_steps::{
     Applied, Halt, Stage, Value, World, bits_extracted, concatenated, element_of_array, filled,
-    lookup, operated,
+    looked_up, operated,
 };
 
 /// An operation between two registers.
@@ -120,8 +120,8 @@ pub(crate) fn bits(
     bits_extracted(alloc, world, stage, line, machine.register(source))
 }
 
-/// The elements of an array at these indices, of which nobody learns which they are.
-pub(crate) fn looked_up(
+/// The elements of a private array at private indices. Neither is copied.
+pub(crate) fn found(
     alloc: Global,
     world: &World<'_>,
     machine: &Machine,
@@ -132,10 +132,15 @@ pub(crate) fn looked_up(
 ) -> Result<Value, Halt>
     requires array_there { IsThere machine.now array }
     requires index_there { IsThere machine.now index }
-    ensures { Does value_seen (row.lookup (world_seen world.now) line (kept machine.now array) (kept machine.now index))
+    ensures { Does value_seen (row.looked_up (world_seen world.now) line (kept machine.now array) (kept machine.now index))
         (stage_seen stage.old) result (stage_seen stage.new) }
 {
-    let elements = machine.copied(alloc, array)?;
-    let places = machine.copied(alloc, index)?;
-    lookup(alloc, world, stage, line, elements, places)
+    looked_up(
+        alloc,
+        world,
+        stage,
+        line,
+        machine.register(array),
+        machine.register(index),
+    )
 }

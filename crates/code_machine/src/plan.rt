@@ -16,7 +16,7 @@ use crate::arrays::{PutStep, put};
 use crate::calls::{charge_call, registers_for};
 use crate::change::{Change, into_register};
 use crate::machine::Machine;
-use crate::operands::{BinaryStep, appended, bits, combined, element, looked_up, repeated};
+use crate::operands::{BinaryStep, appended, bits, combined, element, found, repeated};
 use crate::places::{assert_at, branch, into_place};
 use crate::texts::{argument, publish};
 use crate::values::{
@@ -168,7 +168,7 @@ pub(crate) fn change_of(
             index,
         } => into_register(
             to,
-            looked_up(alloc, world, machine, stage, line, array, index),
+            found(alloc, world, machine, stage, line, array, index),
         ),
         Step::Declassify { to, source } => {
             into_register(to, opened(alloc, world, machine, stage, source))

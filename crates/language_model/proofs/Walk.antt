@@ -30,7 +30,7 @@ use Rattle.reached_instances.specs.Operands.{Operands}
 use Rattle.reached_instances.specs.Operands.TheVariants.{Scalars}
 use Rattle.reached_instances.specs.Cast.{Cast}
 use Rattle.reached_instances.specs.Connective.{Connective}
-use Rattle.reached_instances.specs.TypedTree.{TypedTree, TypedTrees, word_node, truth_node, slot_node, call_node, size_node, cat_node, sum_node, bits_node}
+use Rattle.reached_instances.specs.TypedTree.{TypedTree, TypedTrees, word_node, truth_node, zero_node, slot_node, call_node, size_node, cat_node, sum_node, bits_node}
 use Rattle.reached_instances.specs.TypedTree.{lookup_node, element_node, not_node, cast_node, binary_node, cut_node, declassify_node}
 use Rattle.reached_instances.specs.TypedTree as Tree'
 use Rattle.reached_instances.specs.TypedStatements.{TypedStatementTree, TypedStatementTrees, empty_statement, block_statement, if_statement, loop_statement}
@@ -78,7 +78,8 @@ pub record IsLaw (w w' : World) (P : (A : Type 0) → Effect A → Effect A → 
   pub on_gate : (g : Gate) → P _ (gate g) (gate g)
   pub on_number : P _ next_number next_number
   pub on_gates : (gs : List Gate) → P _ (put_gates gs) (put_gates gs)
-  pub on_publish : (x : Secrecy) (text : List ℕ) (elements : List Element) → P _ (emit (publication x text elements)) (emit (publication x text elements))
+  pub on_publish : (x : Secrecy) (e : DataType) (text : List ℕ) (elements : List Element)
+      → P _ (emit (publication x e text elements)) (emit (publication x e text elements))
   pub on_answers : (n : ℕ) → P _ (next_answers n) (next_answers n)
   pub on_told : (shape : Shape) (words : List ℕ) → P _ (told_open shape words) (told_open shape words)
   pub on_turns : {condition condition' : Frame → Effect Value} {step step' body body' : Frame → Effect Flow}
@@ -331,7 +332,7 @@ module _ (w w' : World) (P : (A : Type 0) → Effect A → Effect A → Type 0) 
   handed_holds (Private k) v = law.bind (law.on_draw _) (λ _. law.bind (number_holds v) (λ u. law.bind (law.on_gate _) (λ _. law.on_done tt)))
 
   pub published_holds : (text : List ℕ) (v : Value) → P _ (published w text v) (published w' text v)
-  published_holds text v = law.bind (untrapped_holds (size v)) (λ _. law.bind (handed_holds v.secrecy v) (λ _. law.on_publish _ _ _))
+  published_holds text v = law.bind (untrapped_holds (size v)) (λ _. law.bind (handed_holds v.secrecy v) (λ _. law.on_publish _ _ _ _))
 
   pub tested_holds : (v : Value) → P _ (tested v) (tested v)
   tested_holds v = law.bind (law.on_charge 1) (λ _. law.on_done _)
@@ -378,6 +379,7 @@ module _ (w w' : World) (P : (A : Type 0) → Effect A → Effect A → Type 0) 
       value_holds : (here : Setting) (e : TypedTree) (fr : Frame) → P _ (value w calls here e fr) (value w' calls' here e fr)
       value_holds here (word_node n) fr = law.on_done _
       value_holds here (truth_node b) fr = law.on_done _
+      value_holds here zero_node fr = law.on_done _
       value_holds here (slot_node k) fr = law.on_done _
       value_holds here (call_node line k es) fr =
           let bs = bound_at (slice_get here.functions k) (domains here es) in

@@ -38,7 +38,7 @@ use Rattle.language_model.specs.Operations.{operator_gates}
 use Rattle.language_model.specs.Operations.{result_shape, private_result, product_with, combined_from, operator_traps, operated, negated_from}
 use Rattle.language_model.specs.Operations.{negated, words_of_cast}
 use Rattle.language_model.specs.Operations.{cast_shape, truth_gates, conversion_gates, gates_between, changed, converted, relabelled, cast_from, cast_to}
-use Rattle.language_model.specs.Operations.{scalar_word, size_told, summed_from, summed, words_for_lookup, looked_up, lookup}
+use Rattle.language_model.specs.Operations.{scalar_word, size_told, summed_from, summed, words_for_lookup, looked_up}
 use Rattle.language_model.specs.Operations.{words_for_bits, bits_from}
 use Rattle.language_model.specs.Operations.{bits_extracted, concatenated_from, concatenated, position, element_from, element_of_array}
 use Rattle.language_model.specs.Operations.{with_element_from, with_element}
@@ -260,16 +260,12 @@ concatenated_from_besides (Private j) (Private k) x y = cat_besides x y
 pub concatenated_besides : (line : ℕ) (x y : Value) → Besides (concatenated line x y)
 concatenated_besides line x y = besides_bind (large_besides line (size x + size y)) (λ _. concatenated_from_besides x.secrecy y.secrecy x y)
 
-looked_up_besides : (w : World) (line : ℕ) (a i : Value) → Besides (looked_up w line a i)
+pub looked_up_besides : (w : World) (line : ℕ) (a i : Value) → Besides (looked_up w line a i)
 looked_up_besides w line a i =
     let n = size a * size i in
     besides_bind (large_besides line n) (λ _. besides_bind (besides_draw w (words_for_lookup n)) (λ _. besides_bind (number_besides a) (λ u.
     besides_bind (number_besides i) (λ v. besides_bind (besides_planned (λ first. lookup_plan first u v (size a) (size i))) (λ r.
     made_besides (shape_of a.shape.element i.shape.array) (looked a.words i.words) r)))))
-
-pub lookup_besides : (w : World) (line : ℕ) (a i : Value) → Besides (lookup w line a i)
-lookup_besides w line a i =
-    besides_bind (classified_besides a) (λ x. besides_bind (classified_besides i) (λ k. looked_up_besides w line x k))
 
 element_from_besides : (x : Secrecy) (v : Value) (i : ℕ) → Besides (element_from x v i)
 element_from_besides Plain v i = besides_done (plain (shape_of v.shape.element false) (get_or v.words i 0 ∷ []))
@@ -331,4 +327,4 @@ handed_besides w (Private k) v =
 pub published_besides : (w : World) (text : List ℕ) (v : Value) → Besides (published w text v)
 published_besides w text v =
     besides_bind (untrapped_besides (size v)) (λ _. besides_bind (handed_besides w v.secrecy v) (λ _.
-    besides_emit (publication v.secrecy text (elements_of v))))
+    besides_emit (publication v.secrecy v.shape.element text (elements_of v))))

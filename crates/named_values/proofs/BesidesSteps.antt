@@ -17,7 +17,7 @@ use Rattle.named_values.specs.Besides.{ran_behind_others, EarlierGatesChangeNoth
 use Rattle.named_values.proofs.Besides.{ran_with_gates, Besides, besides_bind, besides_done, besides_end, besides_charge, besides_test}
 use Rattle.named_values.proofs.BesidesRows.{untrapped_besides, classified_besides, declassified_besides, operated_besides}
 use Rattle.named_values.proofs.BesidesRows.{negated_besides, cast_besides, size_besides, summed_besides, bits_besides}
-use Rattle.named_values.proofs.BesidesRows.{lookup_besides, concatenated_besides, element_besides, with_element_besides, filled_besides, tested_besides}
+use Rattle.named_values.proofs.BesidesRows.{looked_up_besides, concatenated_besides, element_besides, with_element_besides, filled_besides, tested_besides}
 use Rattle.named_values.proofs.BesidesRows.{asserted_besides, asked_besides, published_besides}
 
 resume_besides : (cs : List Caller) (v : Value) → Besides (resume cs v)
@@ -47,7 +47,7 @@ module _ (w : World) (c : List Function) (m : Machine) where
   step_besides (Some (Sum d r)) = besides_bind (summed_besides (m.registers r)) (λ v. besides_done _)
   step_besides (Some (Bits line d r)) = besides_bind (bits_besides w line (m.registers r)) (λ v. besides_done _)
   step_besides (Some (Lookup line d a i)) =
-      besides_bind (lookup_besides w line (m.registers a) (m.registers i)) (λ v. besides_done _)
+      besides_bind (looked_up_besides w line (m.registers a) (m.registers i)) (λ v. besides_done _)
   step_besides (Some (Declassify d r)) = besides_bind (declassified_besides w (m.registers r)) (λ v. besides_done _)
   step_besides (Some (Argument line kind text d)) =
       besides_bind (asked_besides kind.secret (kind_shape kind) line (input_named w text)) (λ v. besides_done _)

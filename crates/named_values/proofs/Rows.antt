@@ -342,7 +342,7 @@ module _ (N : Numbers) where
     pub published_naming : (w : World) (text : List ℕ) → Naming N (row.published w text v) (Any {A = Unit {0}})
     published_naming w text =
         naming_bind (plain_charge (size v)) (λ _ _. naming_bind (handed_naming w v.secrecy) (λ _ _.
-        emit_naming (row.publication v.secrecy text (elements_of v))))
+        emit_naming (row.publication v.secrecy v.shape.element text (elements_of v))))
 
   module _ (x y : Value) (a : Names N x) (b : Names N y) where
     both_naming : {f : ℕ → ℕ → Effect ℕ} (shape : Shape) (words : List ℕ) → ((u v : ℕ) → N u → N v → Naming N (f u v) N)
@@ -379,7 +379,7 @@ module _ (N : Numbers) where
 
   -- ---- look-ups
 
-  looked_up_naming : (w : World) (line : ℕ) (x y : Value) → Names N x → Names N y → Naming N (row.looked_up w line x y) (Names N)
+  pub looked_up_naming : (w : World) (line : ℕ) (x y : Value) → Names N x → Names N y → Naming N (row.looked_up w line x y) (Names N)
   looked_up_naming w line x y a b =
       let n = size x * size y in
       naming_bind (large_charge line n) (λ _ _. naming_bind (draw_naming w (row.words_for_lookup n)) (λ _ _.
@@ -388,10 +388,6 @@ module _ (N : Numbers) where
       (planned_naming (λ first. lookup_plan first u v (size x) (size y)) (λ first. lookup_some first u v (size x) (size y))
       (λ first new. lookup_takes N first u v (size x) (size y) new f g))
       (λ r m. made_naming (shape_of x.shape.element y.shape.array) (looked x.words y.words) r m)))))
-
-  pub lookup_naming : (w : World) (line : ℕ) (x y : Value) → Names N x → Names N y → Naming N (row.lookup w line x y) (Names N)
-  lookup_naming w line x y a b =
-      naming_bind (classified_naming x a) (λ p h. naming_bind (classified_naming y b) (λ q k. looked_up_naming w line p q h k))
 
   pub tested_naming : (v : Value) → Naming N (row.tested v) (Any {A = Bool})
   tested_naming v = naming_bind (charge_naming 1) (λ _ _. naming_done tt)

@@ -19,7 +19,7 @@ use Rattle.named_values.specs.Laws.{Grows, Arrives, StepTakesWhatIsNamed, Ends, 
 use Rattle.named_values.proofs.Effects.{HasFrom, Comes, Naming, grows_then, naming_bind, naming_done, naming_end, charge_naming, test_naming}
 use Rattle.named_values.proofs.Rows.{Names, plain_names, never_names, plain_charge, classified_naming, declassified_naming, operated_naming, negated_naming}
 use Rattle.named_values.proofs.Rows.{cast_naming, size_naming, summed_naming, bits_naming, element_naming, filled_naming, published_naming, concatenated_naming}
-use Rattle.named_values.proofs.Rows.{lookup_naming, with_element_naming, tested_naming, asserted_naming, asked_naming}
+use Rattle.named_values.proofs.Rows.{looked_up_naming, with_element_naming, tested_naming, asserted_naming, asked_naming}
 
 -- ---- REGISTERS
 
@@ -99,7 +99,7 @@ module _ (N : Numbers) where
     act w p (Some (Cat line d a b)) = setting d (concatenated_naming N (m.registers a) (m.registers b) (own a) (own b) line)
     act w p (Some (Sum d r)) = setting d (summed_naming N (m.registers r) (own r))
     act w p (Some (Bits line d r)) = setting d (bits_naming N (m.registers r) (own r) w line)
-    act w p (Some (Lookup line d a i)) = setting d (lookup_naming N w line (m.registers a) (m.registers i) (own a) (own i))
+    act w p (Some (Lookup line d a i)) = setting d (looked_up_naming N w line (m.registers a) (m.registers i) (own a) (own i))
     act w p (Some (Declassify d r)) = setting d (declassified_naming N w (m.registers r) (own r))
     act w p (Some (Argument line kind text d)) = setting d (asked_naming N kind.secret (kind_shape kind) line (input_named w text))
     act w p (Some (Publish text r)) = naming_bind (published_naming N (m.registers r) (own r) w text) (λ _ _. moving (m.pc + 1))

@@ -11,7 +11,7 @@ use Rattle.sc_text.specs.End.{end_line}
 unfoldable pub event_line : Event → List ℕ
 event_line (events.Open opened) = codes "open" ++ elements_text opened ++ codes "\n"
 event_line (events.Publish name published) = codes "publish " ++ name ++ elements_text published ++ codes "\n"
-event_line (events.Hand name handed) = codes "publish " ++ name ++ elements_text handed ++ codes "\n"
+event_line (events.Hand name kind handed) = codes "publish " ++ name ++ elements_text handed ++ codes "\n"
 
 -- the lines of the events in their order, then the line of the end
 unfoldable pub run_text : List Event → End → List ℕ

@@ -6,6 +6,17 @@ use std::alloc::{AllocError, Global};
 use std::fmt;
 use std::marker::Model;
 
+/// What the elements of a value are, whatever they are: an element that isn't below 0 doesn't tell by itself whether it may have a sign.
+#[derive(Clone, Copy)]
+pub enum ElementKind {
+    /// Numbers without a sign.
+    Unsigned,
+    /// Numbers with a sign.
+    Signed,
+    /// Truth values.
+    TruthValue,
+}
+
 /// An element of a printed value.
 #[derive(Clone, Copy)]
 pub enum Element {

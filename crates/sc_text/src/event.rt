@@ -1,7 +1,7 @@
 ghost use Rattle.std.specs.Prelude.{◌≡◌, Some, IfOk};
 ghost use Rattle.sc_text.specs.Event.{event_line, run_text};
 
-use crate::{Elements, End, Name};
+use crate::{ElementKind, Elements, End, Name};
 use std::alloc::{AllocError, Global};
 use std::fmt;
 
@@ -11,15 +11,15 @@ pub enum Event {
     Open(Elements),
     /// A public value was published under a name.
     Publish(Name, Elements),
-    /// A private value was handed to the client under a name. Its line is that of a publication.
-    Hand(Name, Elements),
+    /// A private value with elements of this kind was handed to the client under a name. Its line is that of a publication.
+    Hand(Name, ElementKind, Elements),
 }
 
 // Written out, so that an early exit calls this once.
 impl Drop for Event {
     fn drop(self) {
         match self {
-            Event::Open(_) | Event::Publish(_, _) | Event::Hand(_, _) => {}
+            Event::Open(_) | Event::Publish(_, _) | Event::Hand(_, _, _) => {}
         }
     }
 }
@@ -36,7 +36,7 @@ impl fmt::Display for Event {
                 let name = name.as_str();
                 writeln!(f, "publish {name}{published}")
             }
-            Event::Hand(name, handed) => {
+            Event::Hand(name, _, handed) => {
                 let name = name.as_str();
                 writeln!(f, "publish {name}{handed}")
             }

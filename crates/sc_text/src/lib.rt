@@ -14,7 +14,7 @@ mod name;
 mod span;
 
 pub use code::{CountedFault, PlacedFault};
-pub use elements::{Element, Elements};
+pub use elements::{Element, ElementKind, Elements};
 pub use end::{End, Ending, TapeOwner, TrapKind};
 pub use event::{Event, run_text};
 pub use fault::Fault;

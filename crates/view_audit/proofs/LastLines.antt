@@ -130,7 +130,7 @@ lines_are (Open x ∷ es) end shown (o ∷ os) e =
     let rest = lines_are es end shown os (none_before (λ k. k + 1) (wrong_end_at es end shown os) t.1) in
     (ap (λ v. v ∷ openings es) (elements_are x o t.0) ∙ ap (λ l. o ∷ l) rest.0, rest.1)
 lines_are (Publish name x ∷ es) end shown opened e = lines_are es end shown opened e
-lines_are (Hand name x ∷ es) end shown opened e = lines_are es end shown opened e
+lines_are (Hand name kind x ∷ es) end shown opened e = lines_are es end shown opened e
 
 pub lines_pass : (events : List Event) (end : End) → wrong_end_at events end end (openings events) ≡ None
 lines_pass [] end =
@@ -139,4 +139,4 @@ lines_pass [] end =
 lines_pass (Open x ∷ es) end =
     ap (λ b. if b then one_later (wrong_end_at es end end (openings es)) else Some 0) (elements_self x) ∙ ap one_later (lines_pass es end)
 lines_pass (Publish name x ∷ es) end = lines_pass es end
-lines_pass (Hand name x ∷ es) end = lines_pass es end
+lines_pass (Hand name kind x ∷ es) end = lines_pass es end

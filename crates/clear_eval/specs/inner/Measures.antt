@@ -1,7 +1,7 @@
 -- Cited by private functions alone: no contract of another crate rests on it.
 -- How much of a tree is left to evaluate: four for each node with others in it, and fewer where no function stands between it and its parts.
 use Rattle.std.specs.Prelude.{ℕ, ◌+◌, ◌*◌, List, map, sum, Option, Some, None}
-use Rattle.program_trees.specs.TypedTree.{TypedTree, TypedTrees, word_node, truth_node, slot_node, call_node, size_node, cat_node, sum_node, bits_node}
+use Rattle.program_trees.specs.TypedTree.{TypedTree, TypedTrees, word_node, truth_node, zero_node, slot_node, call_node, size_node, cat_node, sum_node, bits_node}
 use Rattle.program_trees.specs.TypedTree.{lookup_node, element_node, not_node, cast_node, binary_node, cut_node, declassify_node}
 use Rattle.program_trees.specs.TypedTree as Tree'
 use Rattle.program_trees.specs.TypedStatements.{TypedStatementTree, TypedStatementTrees, empty_statement, block_statement, if_statement, loop_statement, do_statement}
@@ -14,6 +14,7 @@ abbrev mutual
   pub weight : TypedTree → ℕ
   weight (word_node n) = 2
   weight (truth_node b) = 2
+  weight zero_node = 2
   weight (slot_node k) = 2
   weight (call_node line k es) = weight_of_all es + 4
   weight (size_node e) = weight e + 4

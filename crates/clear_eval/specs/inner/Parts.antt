@@ -1,7 +1,7 @@
 -- Cited by private functions alone: no contract of another crate rests on it.
 -- How expressions and statements are evaluated in parts: first the expressions in them, and then a step on the values of these.
 use Rattle.std.specs.Prelude.{◌≡◌, ℕ, ◌+◌, ◌≤◌, Bool, true, false, List, map, None, Some}
-use Rattle.program_trees.specs.TypedTree.{TypedTree, word_node, truth_node, slot_node, call_node, size_node, cat_node, sum_node, bits_node, lookup_node}
+use Rattle.program_trees.specs.TypedTree.{TypedTree, word_node, truth_node, zero_node, slot_node, call_node, size_node, cat_node, sum_node, bits_node, lookup_node}
 use Rattle.program_trees.specs.TypedTree.{element_node, not_node, cast_node, binary_node, cut_node, declassify_node, typed_tree, typed_trees_of}
 use Rattle.program_trees.specs.TypedStatements.{TypedStatementTree, empty_statement, block_statement, if_statement, loop_statement, do_statement, break_statement}
 use Rattle.program_trees.specs.TypedStatements.{continue_statement, return_statement, assert_statement, store_statement, default_statement, fill_statement}
@@ -26,6 +26,7 @@ use Rattle.clear_eval.specs.inner.Measures.{weight, statement_weight}
 abbrev pub is_leaf : TypedTree → Bool
 is_leaf (word_node n) = true
 is_leaf (truth_node b) = true
+is_leaf zero_node = true
 is_leaf (slot_node k) = true
 is_leaf e = false
 

@@ -26,8 +26,8 @@ fn elements_at(alloc: Global, array: &[u64], indices: &[u64]) -> Result<Vec<u64>
     vector_ops::looked_up(alloc, array, indices)
 }
 
-/// The elements of a private array at private indices.
-fn looked_up(
+/// The elements of a private array at private indices, 0 where it has none there: nobody learns which they are.
+pub fn looked_up(
     alloc: Global,
     world: &World<'_>,
     stage: &mut Stage<'_>,
@@ -64,8 +64,7 @@ fn looked_up(
     Ok(Value::hidden(shape, number, words))
 }
 
-/// The elements of an array at these indices, of which nobody learns which they are. A public array or a public index is classified, the
-/// array first.
+/// The same of an array and indices that may be public: such a one is classified, the array first.
 pub fn lookup(
     alloc: Global,
     world: &World<'_>,
