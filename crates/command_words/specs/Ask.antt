@@ -28,6 +28,8 @@ pub record RunAsk : Type 0 where
   pub recorded : Option Text
   -- what the paths begin with to which the three views are written
   pub views : Option Text
+  -- where the client's view is written
+  pub client : Option Text
 
 pub record DealAsk : Type 0 where
   pub input : Text
@@ -82,6 +84,36 @@ pub record TwinAsk : Type 0 where
   pub to : Text
   pub budget : ℕ
 
+pub record ClientMapAsk : Type 0 where
+  pub program : Text
+  pub input : Text
+  pub tape : Text
+  -- where the simulator's tape, the public part, the opened lines and the lines of what is handed over are written
+  pub sim : Text
+  pub public : Text
+  pub opened : Text
+  pub published : Text
+  pub budget : ℕ
+
+pub record ClientSimulateAsk : Type 0 where
+  pub program : Text
+  pub public : Text
+  pub opened : Text
+  pub published : Text
+  pub sim : Text
+  -- where the client's view is written
+  pub view : Text
+  pub budget : ℕ
+
+pub record ClientTwinAsk : Type 0 where
+  pub program : Text
+  pub input : Text
+  pub second : Text
+  pub tape : Text
+  -- where the tape of the second input is written
+  pub to : Text
+  pub budget : ℕ
+
 pub record GatherAsk : Type 0 where
   pub miner : Number
   -- the share files that owners dealt the miner
@@ -95,6 +127,8 @@ pub record JoinAsk : Type 0 where
   pub first : Text
   pub second : Text
   pub third : Text
+  -- where the client's view is written
+  pub client : Option Text
 
 pub record MinerAsk : Type 0 where
   pub code : Text
@@ -117,6 +151,8 @@ pub record TrioAsk : Type 0 where
   -- the first of the three ports at which the miners join
   pub port : ℕ
   pub budget : ℕ
+  -- where the client's view is written
+  pub client : Option Text
 
 -- a command, without where its words lie in memory
 pub data Ask : Type 0 where
@@ -130,6 +166,9 @@ pub data Ask : Type 0 where
   map_tape : MapAsk → Ask
   simulate : SimulateAsk → Ask
   twin : TwinAsk → Ask
+  client_map : ClientMapAsk → Ask
+  client_simulate : ClientSimulateAsk → Ask
+  client_twin : ClientTwinAsk → Ask
   load : (number : ℕ) → Ask
   gather : GatherAsk → Ask
   join : JoinAsk → Ask
@@ -195,6 +234,7 @@ run_of rows = do
     order = order;
     recorded = first_of (codes "record") rows;
     views = first_of (codes "views") rows;
+    client = first_of (codes "client") rows;
   })
 
 unfoldable pub deal_of : List Row → Option DealAsk
@@ -256,13 +296,58 @@ twin_of rows = do
     budget = budget;
   })
 
+unfoldable pub client_map_of : List Row → Option ClientMapAsk
+client_map_of rows = do
+  budget ← number_or default_budget (first_of (codes "budget") rows)
+  Some (record {
+    program = required_of (codes "program") rows;
+    input = required_of (codes "input") rows;
+    tape = required_of (codes "tape") rows;
+    sim = required_of (codes "sim") rows;
+    public = required_of (codes "public") rows;
+    opened = required_of (codes "opened") rows;
+    published = required_of (codes "published") rows;
+    budget = budget;
+  })
+
+unfoldable pub client_simulate_of : List Row → Option ClientSimulateAsk
+client_simulate_of rows = do
+  budget ← number_or default_budget (first_of (codes "budget") rows)
+  Some (record {
+    program = required_of (codes "program") rows;
+    public = required_of (codes "public") rows;
+    opened = required_of (codes "opened") rows;
+    published = required_of (codes "published") rows;
+    sim = required_of (codes "sim") rows;
+    view = required_of (codes "view") rows;
+    budget = budget;
+  })
+
+unfoldable pub client_twin_of : List Row → Option ClientTwinAsk
+client_twin_of rows = do
+  budget ← number_or default_budget (first_of (codes "budget") rows)
+  Some (record {
+    program = required_of (codes "program") rows;
+    input = required_of (codes "input") rows;
+    second = required_of (codes "second") rows;
+    tape = required_of (codes "tape") rows;
+    to = required_of (codes "to") rows;
+    budget = budget;
+  })
+
 unfoldable pub gather_of : List Row → Option GatherAsk
 gather_of rows = do
   number ← miner_of (required_of (codes "me") rows)
   Some (record { miner = number; first = required_of (codes "share") rows; more = others_of (codes "share") rows; to = required_of (codes "to") rows })
 
 unfoldable pub join_of : List Row → Option JoinAsk
-join_of rows = Some (record { first = required_of (codes "first") rows; second = required_of (codes "second") rows; third = required_of (codes "third") rows })
+join_of rows =
+    Some (record {
+      first = required_of (codes "first") rows;
+      second = required_of (codes "second") rows;
+      third = required_of (codes "third") rows;
+      client = first_of (codes "client") rows;
+    })
 
 unfoldable pub miner_ask_of : List Row → Option MinerAsk
 miner_ask_of rows = do
@@ -290,6 +375,7 @@ trio_of rows = do
     to = required_of (codes "to") rows;
     port = port;
     budget = budget;
+    client = first_of (codes "client") rows;
   })
 
 -- the command of this name, with what `clap` matched after its name
@@ -304,6 +390,9 @@ named name rows =
     else if bytes_eq name (codes "map") then option_map map_tape (map_of rows)
     else if bytes_eq name (codes "simulate") then option_map simulate (simulate_of rows)
     else if bytes_eq name (codes "twin") then option_map twin (twin_of rows)
+    else if bytes_eq name (codes "client-map") then option_map client_map (client_map_of rows)
+    else if bytes_eq name (codes "client-simulate") then option_map client_simulate (client_simulate_of rows)
+    else if bytes_eq name (codes "client-twin") then option_map client_twin (client_twin_of rows)
     else if bytes_eq name (codes "load") then option_map load (number_of (required_of (codes "number") rows))
     else if bytes_eq name (codes "gather") then option_map gather (gather_of rows)
     else if bytes_eq name (codes "join") then option_map join (join_of rows)

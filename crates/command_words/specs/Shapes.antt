@@ -30,7 +30,7 @@ command_app name words required optional =
 -- run PROGRAM --input F, and the options
 unfoldable pub run_app : App
 run_app = command_app (codes "run") (codes "program" ∷ []) (codes "input" ∷ [])
-    (codes "tape" ∷ codes "seed" ∷ codes "words" ∷ codes "schedule" ∷ codes "shuffle" ∷ codes "record" ∷ codes "budget" ∷ codes "views" ∷ [])
+    (codes "tape" ∷ codes "seed" ∷ codes "words" ∷ codes "schedule" ∷ codes "shuffle" ∷ codes "record" ∷ codes "budget" ∷ codes "views" ∷ codes "client" ∷ [])
 
 -- deal --input F --tape F --to PREFIX
 unfoldable pub deal_app : App
@@ -72,6 +72,25 @@ simulate_app = view_app (codes "simulate") (codes "public" ∷ codes "opened" �
 unfoldable pub twin_app : App
 twin_app = view_app (codes "twin") (codes "input" ∷ codes "second" ∷ codes "tape" ∷ codes "to" ∷ []) eval_options
 
+-- the command of this name about the client's view: the program, the options that must be there, and the budget
+unfoldable pub client_app : Text → List Text → App
+client_app name required = command_app name (codes "program" ∷ []) required eval_options
+
+-- client-map PROGRAM --input F --tape F --sim F --public F --opened F --published F, and the budget
+unfoldable pub client_map_app : App
+client_map_app =
+    client_app (codes "client-map")
+    (codes "input" ∷ codes "tape" ∷ codes "sim" ∷ codes "public" ∷ codes "opened" ∷ codes "published" ∷ [])
+
+-- client-simulate PROGRAM --public F --opened F --published F --sim F --view F, and the budget
+unfoldable pub client_simulate_app : App
+client_simulate_app =
+    client_app (codes "client-simulate") (codes "public" ∷ codes "opened" ∷ codes "published" ∷ codes "sim" ∷ codes "view" ∷ [])
+
+-- client-twin PROGRAM --input F --second F --tape F --to F, and the budget
+unfoldable pub client_twin_app : App
+client_twin_app = client_app (codes "client-twin") (codes "input" ∷ codes "second" ∷ codes "tape" ∷ codes "to" ∷ [])
+
 -- load --number K
 unfoldable pub load_app : App
 load_app = command_app (codes "load") [] (codes "number" ∷ []) []
@@ -80,18 +99,19 @@ load_app = command_app (codes "load") [] (codes "number" ∷ []) []
 unfoldable pub gather_app : App
 gather_app = with_rule (command_app (codes "gather") [] (codes "me" ∷ codes "to" ∷ []) []) (words_rule (codes "share"))
 
--- join T1 T2 T3
+-- join T1 T2 T3, and where the client's view is written
 unfoldable pub join_app : App
-join_app = command_app (codes "join") (codes "first" ∷ codes "second" ∷ codes "third" ∷ []) [] []
+join_app = command_app (codes "join") (codes "first" ∷ codes "second" ∷ codes "third" ∷ []) [] (codes "client" ∷ [])
 
 -- miner CODE --me I --share F --tape F --port P --out F, and the budget
 unfoldable pub miner_app : App
 miner_app = command_app (codes "miner") (codes "code" ∷ [])
     (codes "me" ∷ codes "share" ∷ codes "tape" ∷ codes "port" ∷ codes "out" ∷ []) eval_options
 
--- trio PROGRAM --input F --tape F --to PREFIX --port P, and the budget
+-- trio PROGRAM --input F --tape F --to PREFIX --port P, and the options
 unfoldable pub trio_app : App
-trio_app = command_app (codes "trio") (codes "program" ∷ []) (codes "input" ∷ codes "tape" ∷ codes "to" ∷ codes "port" ∷ []) eval_options
+trio_app = command_app (codes "trio") (codes "program" ∷ []) (codes "input" ∷ codes "tape" ∷ codes "to" ∷ codes "port" ∷ [])
+    (codes "budget" ∷ codes "client" ∷ [])
 
 -- no command yet: the words begin after the program's name, and `help` is no command
 unfoldable pub bare_app : App
@@ -105,5 +125,5 @@ with_command a command = with_subcommand a command.top
 unfoldable pub secrec_app : App
 secrec_app = fold with_command bare_app
     (run_app ∷ deal_app ∷ evaluation_app (codes "eval") ∷ evaluation_app (codes "need") ∷ check_app ∷ compile_app ∷ upgrade_app ∷ map_app ∷ simulate_app
-    ∷ twin_app ∷ load_app
+    ∷ twin_app ∷ client_map_app ∷ client_simulate_app ∷ client_twin_app ∷ load_app
     ∷ gather_app ∷ miner_app ∷ trio_app ∷ join_app ∷ [])

@@ -8,20 +8,23 @@ use Rattle.command_words.specs.Ask.{Ask, Source, run, deal, check, compile, eval
 use Rattle.command_words.specs.Ask.{scheduled, shuffled, words_of, named, matched}
 use Rattle.command_words.specs.Ask.{run_of, deal_of, compile_of, eval_of, map_of, simulate_of, twin_of, source_of, seeded_source}
 use Rattle.command_words.specs.Ask.{gather, gather_of, others_of}
+use Rattle.command_words.specs.Ask.{client_map, client_map_of, client_simulate, client_simulate_of, client_twin, client_twin_of}
 use Rattle.command_words.specs.Ask.{order_of, number_or, required_of}
 use Rattle.command_words.specs.Ask.{join, join_of, miner, miner_ask_of, trio, trio_of, upgrade, upgrade_of}
 use Rattle.command_words.specs.Numbers.{number_of, miner_of, port_of, seed_of}
 use Rattle.proto_core.specs.declared.party.Number.TheVariants.{One, Two, Three}
 use Rattle.command_words.specs.Shapes.{gather_app, words_rule, join_app, miner_app, trio_app, secrec_app, run_app, deal_app, check_app}
 use Rattle.command_words.specs.Shapes.{compile_app, evaluation_app, view_app, map_app, simulate_app, twin_app}
+use Rattle.command_words.specs.Shapes.{client_app, client_map_app, client_simulate_app, client_twin_app}
 use Rattle.command_words.specs.Shapes.{load_app, command_app, bare_app, eval_options, with_options}
 use Rattle.command_words.specs.Shapes.{word_rule, option_rule, upgrade_app}
 
 -- opens the definitions, so that they compute at words that are written out
 unfoldable pub words_on_literals : ⊤
 unfolding clap_on_literals hex_on_literals secrec_app run_app deal_app check_app compile_app
-    evaluation_app view_app map_app simulate_app twin_app load_app command_app bare_app eval_options
+    evaluation_app view_app map_app simulate_app twin_app client_app client_map_app client_simulate_app client_twin_app load_app command_app bare_app eval_options
     with_options word_rule option_rule words_of named matched run_of deal_of compile_of eval_of map_of simulate_of twin_of
+    client_map_of client_simulate_of client_twin_of
     source_of seeded_source order_of number_or required_of number_of miner_of seed_of gather_app words_rule gather_of others_of
     join_app miner_app trio_app join_of miner_ask_of trio_of port_of upgrade_app upgrade_of
 words_on_literals = tt
@@ -40,6 +43,7 @@ in_turn_from source budget = Some (run (record {
   order = in_turn;
   recorded = None;
   views = None;
+  client = None;
 }))
 
 run_with_tape : run_with (codes "--tape" ∷ codes "t" ∷ [])
@@ -79,7 +83,8 @@ both_sources : run_with (codes "--tape" ∷ codes "t" ∷ codes "--seed" ∷ rep
 unfolding words_on_literals
 both_sources = refl
 
-run_as_scheduled : run_with (codes "--tape" ∷ codes "t" ∷ codes "--schedule" ∷ codes "s" ∷ codes "--record" ∷ codes "r" ∷ codes "--views" ∷ codes "v" ∷ [])
+run_as_scheduled : run_with (codes "--tape" ∷ codes "t" ∷ codes "--schedule" ∷ codes "s" ∷ codes "--record" ∷ codes "r" ∷ codes "--views" ∷ codes "v"
+    ∷ codes "--client" ∷ codes "c" ∷ [])
     ≡ Some (run (record {
       program = codes "p.sc";
       input = codes "i";
@@ -88,6 +93,7 @@ run_as_scheduled : run_with (codes "--tape" ∷ codes "t" ∷ codes "--schedule"
       order = scheduled (codes "s");
       recorded = Some (codes "r");
       views = Some (codes "v");
+      client = Some (codes "c");
     }))
 unfolding words_on_literals
 run_as_scheduled = refl
@@ -101,6 +107,7 @@ run_as_shuffled : run_with (codes "--tape" ∷ codes "t" ∷ codes "--shuffle" �
       order = shuffled (replicate 32 119);
       recorded = None;
       views = None;
+      client = None;
     }))
 unfolding words_on_literals
 run_as_shuffled = refl
@@ -172,6 +179,7 @@ after_dashes : words_of (codes "run" ∷ codes "--input=i" ∷ codes "--tape=t" 
       order = in_turn;
       recorded = None;
       views = None;
+      client = None;
     }))
 unfolding words_on_literals
 after_dashes = refl
@@ -297,6 +305,46 @@ twin_words : words_of (codes "twin" ∷ codes "2" ∷ codes "p.sc" ∷ codes "--
 unfolding words_on_literals
 twin_words = refl
 
+client_map_words : words_of (codes "client-map" ∷ codes "p.sc" ∷ codes "--input=i" ∷ codes "--tape=t" ∷ codes "--sim=s" ∷ codes "--public=p"
+    ∷ codes "--opened=o" ∷ codes "--published=q" ∷ codes "--budget" ∷ codes "9" ∷ [])
+    ≡ Some (client_map (record {
+      program = codes "p.sc";
+      input = codes "i";
+      tape = codes "t";
+      sim = codes "s";
+      public = codes "p";
+      opened = codes "o";
+      published = codes "q";
+      budget = 9;
+    }))
+unfolding words_on_literals
+client_map_words = refl
+
+client_simulate_words : words_of (codes "client-simulate" ∷ codes "p.sc" ∷ codes "--public=p" ∷ codes "--opened=o" ∷ codes "--published=q"
+    ∷ codes "--sim=s" ∷ codes "--view=v" ∷ [])
+    ≡ Some (client_simulate (record {
+      program = codes "p.sc";
+      public = codes "p";
+      opened = codes "o";
+      published = codes "q";
+      sim = codes "s";
+      view = codes "v";
+      budget = 1000000;
+    }))
+unfolding words_on_literals
+client_simulate_words = refl
+
+-- the client is one, and has no number
+client_twin_of_miner : words_of (codes "client-twin" ∷ codes "2" ∷ codes "p.sc" ∷ codes "--input=i" ∷ codes "--second=j" ∷ codes "--tape=t"
+    ∷ codes "--to=u" ∷ []) ≡ None
+unfolding words_on_literals
+client_twin_of_miner = refl
+
+client_twin_words : words_of (codes "client-twin" ∷ codes "p.sc" ∷ codes "--input=i" ∷ codes "--second=j" ∷ codes "--tape=t" ∷ codes "--to=u" ∷ [])
+    ≡ Some (client_twin (record { program = codes "p.sc"; input = codes "i"; second = codes "j"; tape = codes "t"; to = codes "u"; budget = 1000000 }))
+unfolding words_on_literals
+client_twin_words = refl
+
 load_words : words_of (codes "load" ∷ codes "--number" ∷ codes "18446744073709551615" ∷ []) ≡ Some (load 18446744073709551615)
 unfolding words_on_literals
 load_words = refl
@@ -324,9 +372,14 @@ unfolding words_on_literals
 gather_for_nobody = refl
 
 join_words : words_of (codes "join" ∷ codes "a" ∷ codes "b" ∷ codes "c" ∷ [])
-    ≡ Some (join (record { first = codes "a"; second = codes "b"; third = codes "c" }))
+    ≡ Some (join (record { first = codes "a"; second = codes "b"; third = codes "c"; client = None }))
 unfolding words_on_literals
 join_words = refl
+
+join_for_client : words_of (codes "join" ∷ codes "a" ∷ codes "--client=v" ∷ codes "b" ∷ codes "c" ∷ [])
+    ≡ Some (join (record { first = codes "a"; second = codes "b"; third = codes "c"; client = Some (codes "v") }))
+unfolding words_on_literals
+join_for_client = refl
 
 join_of_two : words_of (codes "join" ∷ codes "a" ∷ codes "b" ∷ []) ≡ None
 unfolding words_on_literals
@@ -393,9 +446,23 @@ trio_words : trio_with (codes "--port" ∷ codes "47310" ∷ [])
       to = codes "x";
       port = 47310;
       budget = 1000000;
+      client = None;
     }))
 unfolding words_on_literals
 trio_words = refl
+
+trio_for_client : trio_with (codes "--port=7" ∷ codes "--client" ∷ codes "v" ∷ codes "--budget=9" ∷ [])
+    ≡ Some (trio (record {
+      program = codes "p.sc";
+      input = codes "i";
+      tape = codes "t";
+      to = codes "x";
+      port = 7;
+      budget = 9;
+      client = Some (codes "v");
+    }))
+unfolding words_on_literals
+trio_for_client = refl
 
 trio_port_too_large : trio_with (codes "--port=65534" ∷ []) ≡ None
 unfolding words_on_literals

@@ -43,7 +43,8 @@ impl Drop for DeliveryOrder {
 }
 
 /// The words of `run`: the paths of the program and the input file, the tapes, the most that the run may cost, the order of deliveries,
-/// the path to which the links that were delivered are written, and the start of the paths to which the three views are.
+/// the path to which the links that were delivered are written, the start of the paths to which the three views are, and the path of the client's
+/// view.
 pub struct RunWords {
     pub program: String,
     pub input: String,
@@ -52,6 +53,7 @@ pub struct RunWords {
     pub order: DeliveryOrder,
     pub recorded: Option<String>,
     pub views: Option<String>,
+    pub client: Option<String>,
 }
 
 // Written out, so that an early exit calls this once.
@@ -65,6 +67,7 @@ impl Drop for RunWords {
             order: _,
             recorded: _,
             views: _,
+            client: _,
         } = self;
     }
 }
@@ -146,6 +149,45 @@ pub struct TwinWords {
     pub budget: u64,
 }
 
+/// The words of `client-map`: the paths of the program, the input file and the tape file, the most that the run may cost, and the paths to which
+/// the simulator's tape, the public part of the inputs, the opened lines and the lines of what is handed over are written.
+#[derive(Drop)]
+pub struct ClientMapWords {
+    pub program: String,
+    pub input: String,
+    pub tape: String,
+    pub sim: String,
+    pub public: String,
+    pub opened: String,
+    pub published: String,
+    pub budget: u64,
+}
+
+/// The words of `client-simulate`: the paths of the program, the public part of the inputs, the opened lines, the lines of what is handed over
+/// and the simulator's tape, the most that the run may cost, and the path to which the client's view is written.
+#[derive(Drop)]
+pub struct ClientSimulateWords {
+    pub program: String,
+    pub public: String,
+    pub opened: String,
+    pub published: String,
+    pub sim: String,
+    pub view: String,
+    pub budget: u64,
+}
+
+/// The words of `client-twin`: the paths of the program, the two input files and the tape file, the most that the run may cost, and the path to
+/// which the tape of the second input is written.
+#[derive(Drop)]
+pub struct ClientTwinWords {
+    pub program: String,
+    pub input: String,
+    pub second: String,
+    pub tape: String,
+    pub to: String,
+    pub budget: u64,
+}
+
 /// The word of `load`: the number from which the load is made.
 #[derive(Clone, Copy)]
 pub struct LoadWords {
@@ -162,12 +204,13 @@ pub struct GatherWords {
     pub to: String,
 }
 
-/// The words of `join`: the paths of the texts of miners 1, 2 and 3.
+/// The words of `join`: the paths of the texts of miners 1, 2 and 3, and the path to which the client's view is written.
 #[derive(Drop)]
 pub struct JoinWords {
     pub first: String,
     pub second: String,
     pub third: String,
+    pub client: Option<String>,
 }
 
 /// The words of `miner`: the path of the code, whose part of the run it is, the paths of the miner's share file and of its own tape, the first
@@ -186,7 +229,7 @@ pub struct MinerWords {
 }
 
 /// The words of `trio`: the paths of the program, the input file and the tape file, the start of the paths that are written, the first of the
-/// three ports at which the miners join, and the most that the run may cost.
+/// three ports at which the miners join, the most that the run may cost, and the path to which the client's view is written.
 #[derive(Drop)]
 pub struct TrioWords {
     pub program: String,
@@ -195,6 +238,7 @@ pub struct TrioWords {
     pub to: String,
     pub port: u16,
     pub budget: u64,
+    pub client: Option<String>,
 }
 
 /// A command, with its words.
@@ -209,6 +253,9 @@ pub enum Command {
     Map(MapWords),
     Simulate(SimulateWords),
     Twin(TwinWords),
+    ClientMap(ClientMapWords),
+    ClientSimulate(ClientSimulateWords),
+    ClientTwin(ClientTwinWords),
     Load(LoadWords),
     Gather(GatherWords),
     Join(JoinWords),
@@ -230,6 +277,9 @@ impl Drop for Command {
             | Command::Map(_)
             | Command::Simulate(_)
             | Command::Twin(_)
+            | Command::ClientMap(_)
+            | Command::ClientSimulate(_)
+            | Command::ClientTwin(_)
             | Command::Load(_)
             | Command::Gather(_)
             | Command::Join(_)

@@ -179,7 +179,7 @@ parts-differ (c ∷ cs) rest other name h = rw (entry-itself c) (parts-differ cs
 
 -- ---- words
 
-words-itself : (k : ℕ) (xs : List ℕ) → other_word k xs xs ≡ None
+pub words-itself : (k : ℕ) (xs : List ℕ) → other_word k xs xs ≡ None
 words-itself k [] = refl
 words-itself k (x ∷ xs) = rw (eq-eqb x x refl) (words-itself (k + 1) xs)
 
@@ -190,7 +190,7 @@ begins-later x y xs ys same h =
 abbrev next-word : Bool → (k x y : ℕ) (xs ys : List ℕ) → Option Difference
 next-word same k x y xs ys = if same then other_word (k + 1) xs ys else Some (at_word k x y)
 
-words-begin : (k : ℕ) (xs ys : List ℕ) → other_word k xs ys ≡ None → OneBegins xs ys
+pub words-begin : (k : ℕ) (xs ys : List ℕ) → other_word k xs ys ≡ None → OneBegins xs ys
 words-begin k [] ys h = inr (record { more = ys; is = refl })
 words-begin k (x ∷ xs) [] h = inl (record { more = x ∷ xs; is = refl })
 words-begin k (x ∷ xs) (y ∷ ys) h = at (x == y) refl h (words-begin (k + 1) xs ys)
@@ -213,6 +213,15 @@ words-differ k (c ∷ cs) rest other x y differ =
     let here : (k + 1) + length cs ≡ k + length (c ∷ cs) = omega arith in
     rw (eq-eqb c c refl)
     (words-differ (k + 1) cs rest other x y differ ∙ ap (λ (place : ℕ). Some (at_word place x y)) here)
+
+-- the first word at which two lists differ
+pub words-told : (first second : List ℕ) (place x y : ℕ) → WordsDiffer first second place x y → other_word 0 first second ≡ Some (at_word place x y)
+words-told first second place x y h =
+    let here : 0 + length h.common ≡ length h.common = omega arith in
+    ap (λ (words : List ℕ). other_word 0 words second) h.first_is
+    ∙ ap (λ (words : List ℕ). other_word 0 (h.common ++ x ∷ h.rest) words) h.second_is
+    ∙ words-differ 0 h.common h.rest h.other x y h.differ
+    ∙ ap (λ (k : ℕ). Some (at_word k x y)) (here ∙ h.count)
 
 -- ---- the difference
 
@@ -254,10 +263,6 @@ module _ (p : TypedProgramTree) (lengths : List ℕ) (budget : ℕ) where
       → WordsDiffer (opened_with first) (opened_with second) place x y → difference p first second lengths budget ≡ Some (at_word place x y)
   unfolding difference
   told_at_word first second place x y known h =
-      let here : 0 + length h.common ≡ length h.common = omega arith in
       ap (λ (part : List PublicEntry). entry_first (other_entry (part_of first) part) (words_of first second)) (sym known)
       ∙ ap (λ (name : Option (List ℕ)). entry_first name (words_of first second)) (parts-itself (part_of first))
-      ∙ ap (λ (words : List ℕ). other_word 0 words (opened_with second)) h.first_is
-      ∙ ap (λ (words : List ℕ). other_word 0 (h.common ++ x ∷ h.rest) words) h.second_is
-      ∙ words-differ 0 h.common h.rest h.other x y h.differ
-      ∙ ap (λ (k : ℕ). Some (at_word k x y)) (here ∙ h.count)
+      ∙ words-told (opened_with first) (opened_with second) place x y h
