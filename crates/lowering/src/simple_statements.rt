@@ -1,5 +1,5 @@
 // The code of statements without others in them.
-ghost use Rattle.std.specs.Prelude.{◌≡◌, ◌<◌, OnOk};
+ghost use Rattle.std.specs.Prelude.{◌≡◌, OnOk};
 ghost use Rattle.program_trees.specs.TypedTree.{typed_tree};
 ghost use Rattle.program_trees.specs.TypedStatements.{assert_statement, default_statement, evaluate_statement, input_statement, optional_tree, publish_statement};
 ghost use Rattle.program_trees.specs.TypedStatements.{return_statement, store_statement};
