@@ -1,6 +1,6 @@
 -- What an opening in the clear opens: elements, and the words of them that its gate opens.
-use Rattle.std.proofs.Common.{◌≡◌, ◌≢◌, ◌⊎◌, inl, inr, ℕ, ◌%◌, List, [], ◌∷◌, ◌++◌, length, map, Ok, Err, Option, Some, false}
-use Rattle.std.proofs.Common.{refl, sym, ap, ◌∙◌, arith}
+use Rattle.std.proofs.Common.{◌≡◌, ◌≢◌, ◌⊎◌, inl, inr, ℕ, zero, suc, ◌+◌, ◌/◌, ◌%◌, List, [], ◌∷◌, ◌++◌, length, map, Ok, Err, Option, Some, false}
+use Rattle.std.proofs.Common.{refl, sym, ap, ◌∙◌, subst, arith}
 use Rattle.std.proofs.lemmas.List.{length-map}
 use Rattle.std.proofs.lemmas.Nat.{mod_below}
 use Rattle.sc_text.specs.declared.event.Event.{Event}
@@ -9,15 +9,17 @@ use Rattle.program_trees.specs.declared.expression.DataType.{DataType}
 use Rattle.program_trees.specs.declared.expression.DataType.TheVariants.{Uint64, Int64}
 use Rattle.program_trees.specs.declared.expression.DataType.TheVariants as datatype
 use Rattle.gates.specs.declared.gate.Gate.TheVariants.{Open}
+use Rattle.gates.specs.Bits.{words_for}
 use Rattle.gates.specs.Gathered.{packed, unpacked}
 use Rattle.gates.proofs.Packing.{length-packed, unpacked-packed}
-use Rattle.language_model.specs.Effects.{Stage, Run, Effect, ◌>>=◌, carry, done, words_each}
+use Rattle.language_model.specs.Effects.{World, Clear, Stage, Run, Effect, ◌>>=◌, carry, done, words_each}
 use Rattle.language_model.specs.Values.{Secrecy, Plain, Private, Value, size, ring_for, gate_words, gate_size, element_of}
 use Rattle.language_model.specs.Operations.{read_answer, revealed, opened_from, declassified}
 use Rattle.language_model.specs.Learned.{learned_of}
 use Rattle.language_model.specs.Reports.{Offered}
 use Rattle.verified_code.specs.Steps.{Step, Declassify}
 use Rattle.gate_laws.specs.Machine.{Machine}
+use Rattle.gate_laws.specs.Dealt.{InRange}
 use Rattle.gate_laws.proofs.GateWords.{learned_opened, learned_numbers, learned_signed}
 use Rattle.gate_laws.proofs.Ranges.{Below, below_cons}
 use Rattle.blind_evaluation.proofs.Rows.{clear}

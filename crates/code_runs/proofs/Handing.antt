@@ -1,5 +1,5 @@
 -- What a step hands over stands among the values that its gates make for that.
-use Rattle.std.proofs.Common.{◌≡◌, ℕ, ◌+◌, ◌<◌, List, [], ◌∷◌, ◌++◌, length, refl, sym, ap, ◌∙◌, arith}
+use Rattle.std.proofs.Common.{◌≡◌, ℕ, zero, suc, ◌+◌, ◌<◌, List, [], ◌∷◌, ◌++◌, length, refl, sym, ap, ◌∙◌, subst, arith}
 use Rattle.std.proofs.Common.{append_assoc, append-nil, length-append}
 use Rattle.std.proofs.lemmas.List.{get_or_append_left}
 use Rattle.sc_text.specs.declared.elements.ElementKind.{ElementKind}
@@ -13,10 +13,11 @@ use Rattle.protocol_model.specs.Gates as model
 use Rattle.protocol_model.specs.Runs.{Shares, Tapes, drawn, left, gate_joint, after, after_local, run_values}
 use Rattle.gates.specs.declared.gate.Gate.{Gate}
 use Rattle.gates.specs.declared.gate.Gate.TheVariants.{Result}
-use Rattle.gates.specs.Clear.{Values, value}
+use Rattle.gates.specs.Clear.{Values, value, FitFrom}
 use Rattle.gates.specs.Counts.{made_by, made_by_all}
 use Rattle.shared_gates.specs.Shares.{Kind}
 use Rattle.shared_gates.specs.Model.{miner_of}
+use Rattle.gate_laws.specs.GateRuns.{model_gates, end_shares}
 use Rattle.gate_laws.proofs.GateRunLaws.{run-count}
 use Rattle.language_model.specs.Effects.{Clear, Stage}
 use Rattle.language_model.specs.Reports.{Offered, world_of}

@@ -44,7 +44,7 @@ use Rattle.code_runs.proofs.Values.{computed, last_value, last_held, last_kinded
 use Rattle.code_runs.specs.Handing.{handed_in, kept_from}
 use Rattle.code_runs.proofs.Types.{same_type}
 use Rattle.code_runs.proofs.Shown.{behind}
-use Rattle.code_runs.proofs.Handing.{hands as all_hands, hands-opened, hands-published, kept_at, kept-grown, kept-still}
+use Rattle.code_runs.proofs.Handing.{hands as all_hands, hands-opened, hands-published, kept-append, kept_at, kept-grown, kept-still}
 
 -- ---- FORMS
 
