@@ -1,5 +1,5 @@
 -- What gates gain that are chosen by the type of the elements.
-use Rattle.std.proofs.Common.{◌≡◌, ℕ, ◌<◌, List, [], ◌∷◌, ◌++◌, length, refl, sym, subst, zero, suc, arith}
+use Rattle.std.proofs.Common.{◌≡◌, ℕ, ◌<◌, List, [], ◌∷◌, ◌++◌, length, refl, sym, subst, ap, ◌∙◌, zero, suc, arith}
 use Rattle.std.specs.Prelude.{replicate, get_or, set, take, drop}
 use Rattle.program_trees.specs.declared.expression.DataType.{DataType}
 use Rattle.program_trees.specs.declared.expression.DataType.TheVariants.{Uint64, Int64}
@@ -9,7 +9,7 @@ use Rattle.gates.specs.declared.ring_kind.RingKind.TheVariants.{Arithmetic, Bool
 use Rattle.gates.specs.declared.gate.Gate.{Gate}
 use Rattle.gates.specs.Clear.{first_word}
 use Rattle.gates.specs.Counts.{made_by}
-use Rattle.shared_plans.specs.Shares.{Shared}
+use Rattle.shared_plans.specs.Shares.{Kind, Shared}
 use Rattle.shared_plans.specs.GateRuns.{GateRun, IsWellFormed}
 use Rattle.language_model.specs.Values.{ring_for, gate_words}
 use Rattle.language_model.specs.Operations.{repeated_gate, element_gate, stored_gate, joined_gate}

@@ -1,15 +1,15 @@
 -- The words of a value in the gates, by its elements.
-use Rattle.std.proofs.Common.{◌≡◌, ℕ, ◌^◌, List, [], ◌∷◌, ◌++◌, length, map, refl, sym, ap, ◌∙◌, arith, append_assoc}
+use Rattle.std.proofs.Common.{◌≡◌, ℕ, zero, suc, ◌<◌, ◌^◌, List, [], ◌∷◌, ◌++◌, length, map, not, ◌==◌, refl, sym, ap, ◌∙◌, subst, arith, append_assoc}
 use Rattle.std.proofs.Common.{append-nil}
 use Rattle.std.specs.Prelude.{Bool, true, false, nat_le, nat_lt, ◌-◌, ◌&&◌, if◌then◌else◌}
 use Rattle.sc_text.specs.declared.elements.Element.{Element}
-use Rattle.sc_text.specs.declared.elements.Element.TheVariants.{Word, Negative}
+use Rattle.sc_text.specs.declared.elements.Element.TheVariants.{Word, Negative, Truth}
 use Rattle.sc_text.specs.declared.event.Event.{Event}
 use Rattle.sc_text.specs.declared.event.Event.TheVariants.{Open, Publish, Hand}
 use Rattle.program_trees.specs.declared.expression.DataType.{DataType}
 use Rattle.program_trees.specs.declared.expression.DataType.TheVariants.{Uint64, Int64}
 use Rattle.program_trees.specs.declared.expression.DataType.TheVariants as datatype
-use Rattle.proto_core.specs.Lists.{AreWords}
+use Rattle.proto_core.specs.Lists.{at, AreWords}
 use Rattle.std.proofs.lemmas.Bool.{leb-true, ltb-true}
 use Rattle.language_model.specs.Values.{element_of, signed_element, gate_words, gate_size}
 use Rattle.language_model.specs.Learned.{element_word, elements_words, learned_of}

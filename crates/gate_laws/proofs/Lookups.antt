@@ -1,6 +1,6 @@
 -- A look-up: the elements of a private array at private indices.
-use Rattle.std.proofs.Common.{◌≡◌, ℕ, ◌*◌, ◌<◌, ◌^◌, List, [], ◌∷◌, ◌++◌, length, refl, sym, subst, arith}
-use Rattle.std.specs.Prelude.{get_or}
+use Rattle.std.proofs.Common.{◌≡◌, ℕ, zero, suc, ◌*◌, ◌<◌, ◌^◌, List, [], ◌∷◌, ◌++◌, length, map, true, refl, sym, ap, subst, arith}
+use Rattle.std.specs.Prelude.{get_or, nat_le}
 use Rattle.std.proofs.lemmas.List.{length-map}
 use Rattle.program_trees.specs.declared.expression.DataType.TheVariants.{Uint64}
 use Rattle.program_trees.specs.Shapes.{shape_of}
@@ -12,7 +12,7 @@ use Rattle.oblivious_index.specs.LookupLaw as lookup
 use Rattle.shared_plans.specs.Plans.{lookup_kinds}
 use Rattle.language_model.specs.Effects.{World}
 use Rattle.language_model.specs.Values.{Value, size}
-use Rattle.language_model.specs.Operations.{words_for_lookup, looked_up}
+use Rattle.language_model.specs.Operations.{largest, words_for_lookup, looked_up}
 use Rattle.gate_laws.specs.Facts.{IsProper, none_of, Fact, facts_of, Suits}
 use Rattle.gate_laws.specs.Dealt.{drawn_by, Dealt}
 use Rattle.gate_laws.specs.Rows.{IsOfElements, IsOfNumbers}
@@ -20,7 +20,7 @@ use Rattle.gate_laws.proofs.Effects.{suits_bind, draw_suits, first_stand, second
 use Rattle.gate_laws.proofs.Gains.{fact, planned_suits}
 use Rattle.gate_laws.proofs.Plans.{lookup_gain}
 use Rattle.gate_laws.proofs.Parts.{range_words, tell_first, number_as, number_of_numbers, given_numbers}
-use Rattle.gate_laws.proofs.Ranges.{below_cons, below_none}
+use Rattle.gate_laws.proofs.Ranges.{Below, below_cons, below_none, below_head, below_tail}
 use Rattle.gate_laws.proofs.Arrays.{large_suits, element_below}
 
 lookup_words : (n : ℕ) (m : Miner) → drawn_by (words_for_lookup n) m ≡ lookup.words_taken m n

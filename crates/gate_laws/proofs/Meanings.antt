@@ -1,6 +1,6 @@
 -- What gates make of words is what operators mean on them.
-use Rattle.std.proofs.Common.{◌≡◌, ℕ, zero, suc, ◌+◌, ◌<◌, ◌^◌, ◌%◌, min, List, [], ◌∷◌, map, Bool, true, false, not, refl, ap, ◌∙◌, arith, inl, inr}
-use Rattle.std.specs.Prelude.{nat_eq, nat_lt, nat_le, int_lt, ◌==◌, bit_and, bit_or, bit_xor, if◌then◌else◌}
+use Rattle.std.proofs.Common.{◌≡◌, ℕ, zero, suc, ◌+◌, ◌<◌, ◌^◌, ◌%◌, min, List, [], ◌∷◌, length, map, Bool, true, false, not, refl, ap, ◌∙◌, arith, inl, inr}
+use Rattle.std.specs.Prelude.{nat_eq, nat_lt, nat_le, int_lt, ◌==◌, replicate, bit_and, bit_or, bit_xor, if◌then◌else◌}
 use Rattle.std.proofs.lemmas.Bool.{cases_lt}
 use Rattle.std.proofs.lemmas.Bool.Decides.{nat_tests}
 use Rattle.proto_core.specs.Rings.{add_ring, xor_ring}
@@ -25,7 +25,7 @@ use Rattle.signed_words.specs.Signed.{signed, signed_less}
 use Rattle.signed_words.proofs.Quotients.{quotients_are_words}
 use Rattle.gate_laws.specs.Dealt.{bound}
 use Rattle.gate_laws.specs.Rows.{element_taken}
-use Rattle.gate_laws.proofs.Ranges.{Below, two_below, truth_below}
+use Rattle.gate_laws.proofs.Ranges.{Below, below_head, below_tail, two_below, truth_below}
 
 -- ---- lists of words
 

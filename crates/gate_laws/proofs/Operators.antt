@@ -40,7 +40,7 @@ use Rattle.gates.proofs.Packing.{length-packed, packed-words, packed-flip, packe
 use Rattle.proto_core.specs.Lists.{at}
 use Rattle.gate_laws.proofs.Plans.{zero_gain, less_gain, signed_less_gain}
 use Rattle.gate_laws.proofs.Parts.{tell_first, const_suits}
-use Rattle.gate_laws.proofs.Ranges.{Below, two_same, two_below, length_replicated, truth_below}
+use Rattle.gate_laws.proofs.Ranges.{Below, two_same, two_below, replicate_below, length_replicated, below_more, truth_below}
 use Rattle.gate_laws.proofs.Meanings.{map_two, two_of_two, two_ext, two_swapped, equal_word, less_word, flipped_truth, at_most_word}
 use Rattle.gate_laws.proofs.Meanings.{signed_below, flip_parity, xor_parity, differ_parity, and_word_parity, or_words, equal_words, xor_small, and_small}
 

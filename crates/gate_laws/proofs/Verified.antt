@@ -9,7 +9,7 @@ use Rattle.program_trees.specs.declared.expression.DataType.{DataType}
 use Rattle.program_trees.specs.declared.expression.DataType.TheVariants.{Uint64, Int64}
 use Rattle.program_trees.specs.declared.expression.DataType.TheVariants as datatype
 use Rattle.program_trees.specs.declared.operators.BinaryOperator.{BinaryOperator}
-use Rattle.program_trees.specs.Operators.{element_made, is_product, operands_of}
+use Rattle.program_trees.specs.Operators.{element_made, is_product, operands_of, cast_between}
 use Rattle.language_model.specs.Operations as row
 use Rattle.bytecode.specs.declared.kind.Kind.{Kind}
 use Rattle.bytecode.specs.Raw.{Raw, RawFunction, RawCode}
