@@ -26,7 +26,7 @@ abbrev pub publications : List Event → List Publication
 publications [] = []
 publications (Open elements ∷ events) = publications events
 publications (Publish text elements ∷ events) = publications events
-publications (Hand text elements ∷ events) = record { name = text; elements = elements } ∷ publications events
+publications (Hand text kind elements ∷ events) = record { name = text; elements = elements } ∷ publications events
 
 -- the file of the tapes that the client's view is made of
 unfoldable pub client_sim_bytes : TypedProgramTree → List Entry → FourTapes → (budget : ℕ) → List ℕ

@@ -23,7 +23,7 @@ fn published_lines(alloc: Global, events: &[Event]) -> Result<Vec<u8>, AllocErro
 {
     let mut text = String::new(alloc);
     for event in events {
-        if let Event::Hand(_, _) = event {
+        if let Event::Hand(_, _, _) = event {
             write!(text, "{event}")?;
         }
     }

@@ -25,10 +25,10 @@ use Rattle.clear_eval.specs.declared.report.Report as told
 use Rattle.clear_eval.specs.Reports.{report_seen}
 use Rattle.tape_twin.specs.Alike.{BeginsWith, OneBegins, WordsDiffer}
 use Rattle.tape_twin.proofs.Runs.{alike-so}
-use Rattle.view_reader.specs.Opened.{element_word}
+use Rattle.sc_text.specs.Elements.{element_word}
 use Rattle.client_view.specs.Views.{all_words, handed_elements, words_of, published_of}
 use Rattle.client_view.specs.TapeMaps.{to_seen, from_seen, client_mapped_back, client_twinned, AreAlikeToClient}
-use Rattle.client_view.proofs.Lists.{as_long, handed_append}
+use Rattle.client_view.proofs.Lists.{handed_append}
 use Rattle.client_view.proofs.Maps.{as_gates}
 use Rattle.client_runs.specs.Alike.{RefusesClientTwin}
 use Rattle.client_runs.specs.declared.twin_err.TwinErr.{TwinErr}
@@ -65,17 +65,17 @@ as_many [] (f ∷ fs) h = absurd h
 as_many (e ∷ es) [] h = absurd h
 as_many (Open elements ∷ es) (Open others ∷ fs) h = as_many es fs h.1
 as_many (Publish text elements ∷ es) (Publish text' others ∷ fs) h = as_many es fs h.1
-as_many (Hand text elements ∷ es) (Hand text' others ∷ fs) h =
+as_many (Hand text kind elements ∷ es) (Hand text' kind' others ∷ fs) h =
     length-append (map element_word elements) (published_of es)
-    ∙ ap (λ n. n + length (published_of es)) (length-map elements element_word ∙ as_long elements others h.0.1 ∙ sym (length-map others element_word))
+    ∙ ap (λ n. n + length (published_of es)) (length-map elements element_word ∙ h.0.1.1 ∙ sym (length-map others element_word))
     ∙ ap (λ n. length (map element_word others) + n) (as_many es fs h.1)
     ∙ sym (length-append (map element_word others) (published_of fs))
 as_many (Open elements ∷ es) (Publish text others ∷ fs) h = absurd h.0
-as_many (Open elements ∷ es) (Hand text others ∷ fs) h = absurd h.0
+as_many (Open elements ∷ es) (Hand text kind others ∷ fs) h = absurd h.0
 as_many (Publish text elements ∷ es) (Open others ∷ fs) h = absurd h.0
-as_many (Publish text elements ∷ es) (Hand text' others ∷ fs) h = absurd h.0
-as_many (Hand text elements ∷ es) (Open others ∷ fs) h = absurd h.0
-as_many (Hand text elements ∷ es) (Publish text' others ∷ fs) h = absurd h.0
+as_many (Publish text elements ∷ es) (Hand text' kind others ∷ fs) h = absurd h.0
+as_many (Hand text kind elements ∷ es) (Open others ∷ fs) h = absurd h.0
+as_many (Hand text kind elements ∷ es) (Publish text' others ∷ fs) h = absurd h.0
 
 begins_as_long : (xs ys : List ℕ) → BeginsWith xs ys → length xs ≡ length ys → xs ≡ ys
 begins_as_long xs ys begins long =

@@ -10,8 +10,8 @@ use Rattle.client_runs.specs.inner.Steps.{seen_at, given_after}
 event-first : (e : Event) (es : List Event) (given : List Given) → sightings (e ∷ es) given ≡ seen_at e given ++ sightings es (given_after e given)
 event-first (Open elements) es given = refl
 event-first (Publish text elements) es given = refl
-event-first (Hand text elements) es [] = refl
-event-first (Hand text elements) es (g ∷ given) = refl
+event-first (Hand text kind elements) es [] = refl
+event-first (Hand text kind elements) es (g ∷ given) = refl
 
 -- one event more
 pub seen-more :

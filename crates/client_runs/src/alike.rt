@@ -15,7 +15,7 @@ fn push_handed(published: &mut Vec<u64>, event: &Event) -> Result<(), AllocError
     ensures { OnOk result (published.new.items ≡ published.old.items ++ published_of (event.now ∷ [])) }
 {
     match event {
-        Event::Hand(_, elements) => push_words(published, elements.as_slice()),
+        Event::Hand(_, _, elements) => push_words(published, elements.as_slice()),
         Event::Open(_) | Event::Publish(_, _) => Ok(()),
     }
 }

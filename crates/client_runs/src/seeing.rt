@@ -48,7 +48,7 @@ fn push_seen<'g>(
             seen.push(Sighting::Said(name, same_elements(alloc, elements)?))?;
             Ok(given)
         }
-        Event::Hand(name, elements) => match given.split_first() {
+        Event::Hand(name, _, elements) => match given.split_first() {
             None => Ok(given),
             Some((first, left)) => {
                 let name = name.copy(alloc)?;

@@ -6,12 +6,12 @@ use Rattle.std.proofs.lemmas.List.{append_assoc, drop_more, map-append, take_mor
 use Rattle.proto_core.proofs.Beginnings.{append-none}
 use Rattle.gates.specs.Clear.{Values}
 use Rattle.sc_text.specs.declared.elements.Element.{Element}
-use Rattle.sc_text.specs.declared.elements.Element.TheVariants.{Word, Truth}
+use Rattle.sc_text.specs.declared.elements.ElementKind.{ElementKind}
 use Rattle.sc_text.specs.declared.event.Event.{Event}
 use Rattle.sc_text.specs.declared.event.Event.TheVariants.{Open, Publish, Hand}
-use Rattle.language_model.specs.Learned.{element_word, elements_words}
-use Rattle.view_reader.specs.Opened as reader
-use Rattle.client_view.specs.Views.{and_then, told_as, told_elements, told_events, handed_elements, gate_words_of}
+use Rattle.language_model.specs.Learned.{elements_words}
+use Rattle.language_model.specs.Values.{element_as}
+use Rattle.client_view.specs.Views.{and_then, told_elements, told_events, handed_elements, gate_words_of}
 use Rattle.client_view.proofs.Lists.{handed_append}
 use Rattle.client_simulator.specs.inner.Steps.{told_at, left_after}
 
@@ -32,8 +32,8 @@ event-first : (e : Event) (es : List Event) (published : List ℕ) →
     told_events (e ∷ es) published ≡ with_first (told_at e published) (told_events es (left_after e published))
 event-first (Open elements) es published = refl
 event-first (Publish text elements) es published = refl
-event-first (Hand text elements) es published =
-    chosen (nat_le (length elements) (length published)) (Hand text (told_elements elements published))
+event-first (Hand text kind elements) es published =
+    chosen (nat_le (length elements) (length published)) (Hand text kind (told_elements kind (length elements) published))
     (told_events es (drop (length elements) published))
 
 behind-one : (told : List Event) (e : Event) (more : Option (List Event)) → behind told (and_then e more) ≡ behind (told ++ e ∷ []) more
@@ -80,40 +80,15 @@ module _ (events : List Event) (published : List ℕ) where
 -- ---- ELEMENTS
 
 pub element-more :
-    (elements : List Element) (words : List ℕ) (told more : List Element) (k : ℕ) (e : Element) (w : ℕ) (new : Element) →
-    k < length elements → length elements ≤ length words → e ≡ get_or elements k e → w ≡ get_or words k w →
-    new ≡ told_as e w → told ++ told_elements (drop k elements) (drop k words) ≡ told_elements elements words → more ≡ told ++ new ∷ [] →
-    more ++ told_elements (drop (k + 1) elements) (drop (k + 1) words) ≡ told_elements elements words
-element-more elements words told more k e w new lt le at_e at_w is so one =
-    let rest : List Element = told_elements (drop (k + 1) elements) (drop (k + 1) words) in
-    let first : drop k elements ≡ e ∷ drop (k + 1) elements =
-    drop_more elements k e lt ∙ ap (λ (x : Element). x ∷ drop (k + 1) elements) (sym at_e) in
-    let word : drop k words ≡ w ∷ drop (k + 1) words =
-    drop_more words k w (omega arith) ∙ ap (λ (x : ℕ). x ∷ drop (k + 1) words) (sym at_w) in
-    ap (λ (es : List Element). es ++ rest) one
-    ∙ append_assoc told (new ∷ []) rest
-    ∙ ap (λ (x : Element). told ++ x ∷ rest) is
-    ∙ sym (ap (λ (es : List Element). told ++ told_elements es (drop k words)) first
-    ∙ ap (λ (ws : List ℕ). told ++ told_elements (e ∷ drop (k + 1) elements) ws) word)
-    ∙ so
-
-pub elements-all :
-    (elements : List Element) (words : List ℕ) (told : List Element) (k : ℕ) → drop k elements ≡ [] →
-    told ++ told_elements (drop k elements) (drop k words) ≡ told_elements elements words → told ≡ told_elements elements words
-elements-all elements words told k none so =
-    sym (append-none told) ∙ ap (λ (es : List Element). told ++ told_elements es (drop k words)) (sym none) ∙ so
+    (kind : ElementKind) (words : List ℕ) (told more : List Element) (k : ℕ) (d w : ℕ) → k < length words → w ≡ get_or words k d →
+    told ≡ map (element_as kind) (take k words) → more ≡ told ++ element_as kind w ∷ [] → more ≡ map (element_as kind) (take (k + 1) words)
+element-more kind words told more k d w lt is so one =
+    one
+    ∙ ap (λ (es : List Element). es ++ element_as kind w ∷ []) so
+    ∙ sym (map-append (element_as kind) (take k words) (w ∷ []))
+    ∙ ap (map (element_as kind)) (ap (λ (x : ℕ). take k words ++ x ∷ []) is ∙ sym (take_more words k d lt))
 
 -- ---- WORDS
-
--- an element's word is the same to the reader of files and to the language
-same_word : (e : Element) → reader.element_word e ≡ element_word e
-same_word (Word x) = refl
-same_word (Truth true) = refl
-same_word (Truth false) = refl
-
-pub same-words : (es : List Element) → map reader.element_word es ≡ map element_word es
-same-words [] = refl
-same-words (e ∷ es) = ap (λ w. w ∷ map reader.element_word es) (same_word e) ∙ ap (λ ws. element_word e ∷ ws) (same-words es)
 
 words_append : (es fs : List Event) → gate_words_of (es ++ fs) ≡ gate_words_of es ++ gate_words_of fs
 words_append es fs = ap (map elements_words) (handed_append es fs) ∙ map-append elements_words (handed_elements es) (handed_elements fs)

@@ -1,14 +1,16 @@
 // The events of a run, with the words that are told.
-ghost use Rattle.std.specs.Prelude.{◌≡◌, ◌≤◌, ◌++◌, [], ◌∷◌, length, map, IfOk, OnOk, option_map};
+ghost use Rattle.std.specs.Prelude.{◌≡◌, ◌++◌, [], ◌∷◌, length, map, IfOk, OnOk, option_map};
 ghost use Rattle.language_model.specs.Learned.{element_word, elements_words};
-ghost use Rattle.client_view.specs.Views.{told_as, told_elements, told_events, gate_words_of};
+ghost use Rattle.language_model.specs.Values.{element_as};
+ghost use Rattle.client_view.specs.Views.{told_events, gate_words_of};
 ghost use Rattle.client_simulator.specs.inner.Steps.{told_at, left_after};
 
 use gates::{Values, Words};
 use input_share::shared_as;
-use sc_text::{Element, Elements, Event};
+use sc_text::{Element, ElementKind, Elements, Event};
 use std::alloc::{AllocError, Global};
 use value_file::DataType;
+use vector_ops::element_as;
 use view_reader::push_words;
 
 /// The same elements.
@@ -18,26 +20,15 @@ fn same_elements(alloc: Global, elements: &[Element]) -> Result<Elements, AllocE
     Ok(Elements::from_vec(elements.to_vec(alloc)?))
 }
 
-/// The next words as elements of the kinds of these.
-fn told_elements(alloc: Global, elements: &[Element], words: &[u64]) -> Result<Elements, AllocError>
-    requires { length elements.now ≤ length words.now }
-    ensures { IfOk result (λ told. told ≡ told_elements elements.now words.now) }
+/// The words as elements of this kind.
+fn told_elements(alloc: Global, kind: ElementKind, words: &[u64]) -> Result<Elements, AllocError>
+    ensures { IfOk result (λ told. told ≡ map (element_as kind) words.now) }
 {
     let mut told = Elements::new(alloc);
-    for at in 0..elements.len() {
-        told.push(told_as(elements[at], words[at]))?;
+    for word in words {
+        told.push(element_as(kind, *word))?;
     }
     Ok(told)
-}
-
-/// A word as an element of this one's kind: of a truth value bit 0 counts.
-fn told_as(element: Element, word: u64) -> Element
-    ensures { result ≡ told_as element word }
-{
-    match element {
-        Element::Word(_) => Element::Word(word),
-        Element::Truth(_) => Element::Truth(word % 2 != 0),
-    }
 }
 
 /// The event, with the first of the words that are told where it hands over; none where they are too few.
@@ -53,12 +44,13 @@ fn told_at(alloc: Global, event: &Event, published: &[u64]) -> Result<Option<Eve
             let elements = same_elements(alloc, elements.as_slice())?;
             Ok(Some(Event::Publish(name.copy(alloc)?, elements)))
         }
-        Event::Hand(name, elements) => {
-            if elements.as_slice().len() > published.len() {
+        Event::Hand(name, kind, elements) => {
+            let count = elements.as_slice().len();
+            if count > published.len() {
                 return Ok(None);
             }
-            let handed = told_elements(alloc, elements.as_slice(), published)?;
-            Ok(Some(Event::Hand(name.copy(alloc)?, handed)))
+            let handed = told_elements(alloc, *kind, published.split_at(count).0)?;
+            Ok(Some(Event::Hand(name.copy(alloc)?, *kind, handed)))
         }
     }
 }
@@ -69,7 +61,7 @@ fn left_after<'p>(event: &Event, published: &'p [u64]) -> &'p [u64]
 {
     match event {
         Event::Open(_) | Event::Publish(_, _) => published,
-        Event::Hand(_, elements) => {
+        Event::Hand(_, _, elements) => {
             let count = elements.as_slice().len();
             if count > published.len() {
                 &[]
@@ -116,7 +108,7 @@ fn gate_words(alloc: Global, elements: &[Element]) -> Result<Vec<u64>, AllocErro
     let words = element_words(alloc, elements)?;
     match elements.first() {
         Some(Element::Truth(_)) => shared_as(alloc, DataType::Bool, words),
-        Some(Element::Word(_)) | None => Ok(words),
+        Some(Element::Word(_) | Element::Negative(_)) | None => Ok(words),
     }
 }
 
@@ -126,7 +118,7 @@ fn push_handed(alloc: Global, words: &mut Values, event: &Event) -> Result<(), A
 {
     match event {
         Event::Open(_) | Event::Publish(_, _) => Ok(()),
-        Event::Hand(_, elements) => {
+        Event::Hand(_, _, elements) => {
             let handed = gate_words(alloc, elements.as_slice())?;
             words.push(Words::new(handed))?;
             Ok(())

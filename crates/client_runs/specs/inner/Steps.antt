@@ -14,15 +14,15 @@ use Rattle.client_runs.specs.declared.twin_err.TwinErr.TheVariants as error
 abbrev pub seen_at : Event → List Given → List Sighting
 seen_at (Open elements) given = Opened elements ∷ []
 seen_at (Publish text elements) given = Said text elements ∷ []
-seen_at (Hand text elements) [] = []
-seen_at (Hand text elements) (g ∷ given) = Got text g elements ∷ []
+seen_at (Hand text kind elements) [] = []
+seen_at (Hand text kind elements) (g ∷ given) = Got text g elements ∷ []
 
 -- the shares that are left after it
 abbrev pub given_after : Event → List Given → List Given
 given_after (Open elements) given = given
 given_after (Publish text elements) given = given
-given_after (Hand text elements) [] = []
-given_after (Hand text elements) (g ∷ given) = given
+given_after (Hand text kind elements) [] = []
+given_after (Hand text kind elements) (g ∷ given) = given
 
 -- ---- TWO REPORTS
 

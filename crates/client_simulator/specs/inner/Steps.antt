@@ -15,13 +15,13 @@ use Rattle.client_view.specs.Views.{told_elements}
 abbrev pub told_at : Event → List ℕ → Option Event
 told_at (Open elements) published = Some (Open elements)
 told_at (Publish text elements) published = Some (Publish text elements)
-told_at (Hand text elements) published =
-    if nat_le (length elements) (length published) then Some (Hand text (told_elements elements published)) else None
+told_at (Hand text kind elements) published =
+    if nat_le (length elements) (length published) then Some (Hand text kind (told_elements kind (length elements) published)) else None
 
 abbrev pub left_after : Event → List ℕ → List ℕ
 left_after (Open elements) published = published
 left_after (Publish text elements) published = published
-left_after (Hand text elements) published = drop (length elements) published
+left_after (Hand text kind elements) published = drop (length elements) published
 
 -- each miner's tape has the words of the gate, if it hands over
 abbrev pub HasSlots : Gate → RunState → Type 0

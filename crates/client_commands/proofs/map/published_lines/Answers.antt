@@ -16,9 +16,9 @@ loop-event-preserved c =
           ap (λ (t : String Global). string_bytes t) w.text-is
           ∙ w.in_ok-write.ensures.bytes
           ∙ ap (λ (text : List ℕ). text ++ event_line e) c.loop-event.invariant
-          ∙ sym (handed_told events k e e _ _ c.loop-event-test.true c.event-item.is w.in-Hand.is)
+          ∙ sym (handed_told events k e e _ _ _ c.loop-event-test.true c.event-item.is w.in-Hand.is)
       | in_default w ↦
           ap (λ (t : String Global). string_bytes t) w.text-is
           ∙ c.loop-event.invariant
-          ∙ sym (none_told events k e e c.loop-event-test.true c.event-item.is (none_handed e (λ text elements same. w.in_default.not-Hand text elements same)))
+          ∙ sym (none_told events k e e c.loop-event-test.true c.event-item.is (none_handed e (λ text kind elements same. w.in_default.not-Hand text kind elements same)))
     ]

@@ -1,13 +1,7 @@
-use Rattle.std.proofs.lemmas.List.{drop_all}
-use Rattle.client_simulator.proofs.ToldEvents.{element-more, elements-all}
+use Rattle.client_simulator.proofs.ToldEvents.{element-more}
 use Rattle.client_simulator.proofs.told.told_elements.Goals as goal
 
-pub loop-at-preserved : goal.loop-at-preserved
-loop-at-preserved c =
-    element-more c.args.elements.now c.args.words.now c.loop-at.told c.push.new.self c.loop-at.at c.index-elements-at.result c.index-words-at.result
-    c.told_as.result c.loop-at-test.true c.requires c.index-elements-at.is c.index-words-at.is c.told_as.ensures c.loop-at.invariant c.in_ok-push.ensures
-
-pub returns : goal.returns
-returns c =
-    elements-all c.args.elements.now c.args.words.now c.loop-at.told c.loop-at.at (drop_all c.loop-at.at c.args.elements.now c.loop-at-test.false)
-    c.loop-at.invariant
+pub loop-word-preserved : goal.loop-word-preserved
+loop-word-preserved c =
+    element-more c.args.kind c.args.words.now c.loop-word.told c.push.new.self c.loop-word.word-index c.word-item.result c.word-item.result
+    c.loop-word-test.true c.word-item.is c.loop-word.invariant c.in_ok-push.ensures
