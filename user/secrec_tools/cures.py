@@ -25,8 +25,9 @@ ORDERS, EQUALITIES = ("<", "<=", ">", ">="), ("==", "!=")
 SORTS, COUNTS = "comparisons, many for each element", "comparisons, few for each element"
 QUESTIONS = "comparisons in questions, one after another, each opened"
 PAIRS, CODES = "tests of equality of all pairs", "tests of equality, of each element"
+LOOKUPS = "look-ups, each index in the whole array"
 PRODUCTS, INPUTS, OTHERS = "products", "the dealer", "something else"
-ROWS = (SORTS, COUNTS, QUESTIONS, PAIRS, CODES, PRODUCTS, INPUTS, OTHERS)
+ROWS = (SORTS, COUNTS, QUESTIONS, PAIRS, CODES, LOOKUPS, PRODUCTS, INPUTS, OTHERS)
 
 
 @dataclass(frozen=True)
@@ -96,6 +97,8 @@ def row_of(node: tree.Node, text: bytes, words: float, size: float) -> str:
         return QUESTIONS if asked else SORTS if words > MANY * 119 else COUNTS
     if operator in EQUALITIES or isinstance(node, tree.Cast):
         return PAIRS if size > 2 else CODES
+    if isinstance(node, tree.Call) and node.name == "lookup":
+        return LOOKUPS
     return PRODUCTS if operator in ("*", "&", "|", "&&", "||") else OTHERS
 
 
