@@ -20,6 +20,7 @@ TITLE = "When the words end"
 LINK = re.compile(r"\[([^\]]*)\]\([^)]*\)")
 PATIENCE = 10.0
 IN_PIECES = ("all pairs of long arrays are made piece by piece: in a loop, some rows of the one against all of the other, with what is wanted added up",)
+IN_PARTS = ("some of the indices at a time, in a loop or in several runs, each against the whole array",)
 MANY = 16
 ORDERS, EQUALITIES = ("<", "<=", ">", ">="), ("==", "!=")
 SORTS, COUNTS = "comparisons, many for each element", "comparisons, few for each element"
