@@ -1,6 +1,6 @@
 -- The simulator's answer, of a run that ended and of one that wanted more opened words.
 use Rattle.std.proofs.Common.{◌≡◌, ℕ, ◌≤◌, List, [], length, refl, sym, ◌∙◌, ap, subst}
-use Rattle.std.specs.Prelude.{Some, Result, Ok, Err}
+use Rattle.std.specs.Prelude.{IfOk, Some, Result, Ok, Err}
 use Rattle.proto_core.specs.declared.party.Number.{Number}
 use Rattle.proto_core.specs.declared.party.Number.TheVariants.{One}
 use Rattle.protocol_model.specs.Gates.{needed, sizes_of}
@@ -31,7 +31,7 @@ use Rattle.client_simulator.proofs.MakingSteps.{all-need-same}
 
 module _ (part : List PublicEntry) (gates : List Gate) (s : FourTapes) (can : CanBeMade part gates s) (dealt : Number → Values)
     (sized : (i : Number) → sizes_of (dealt i) ≡ hidden_sizes part) where
-  made-with : Number → Values
+  abbrev made-with : Number → Values
   made-with k = private_shares (made_entries One part s.dealer)
 
   pub can-run : CanRun dealt gates (miners_of s)
@@ -86,3 +86,8 @@ module _ (part : List PublicEntry) (opened published : List ℕ) (s : FourTapes)
       for : (stop : RunStop) → IsAnswer part opened published s r stop (Err Memory)
       for (Ended ending) = tt
       for Short = tt
+
+-- whatever came of it
+pub all-ok : {X E : Type 0} (r : Result X E) → IfOk r (λ x. Unit {0})
+all-ok (Ok x) = tt
+all-ok (Err e) = tt

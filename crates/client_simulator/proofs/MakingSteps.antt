@@ -1,6 +1,7 @@
 -- What is made of gates, one after another.
-use Rattle.std.proofs.Common.{◌≡◌, ℕ, ◌+◌, ◌-◌, ◌<◌, ◌≤◌, true, List, [], ◌∷◌, ◌++◌, length, take, drop, refl, sym, ◌∙◌, ap, subst, arith, length-drop}
-use Rattle.std.proofs.lemmas.List.{append_assoc, drop_all, drop_more}
+use Rattle.std.proofs.Common.{◌≡◌, ℕ, ◌+◌, ◌-◌, ◌<◌, ◌≤◌, true, List, [], ◌∷◌, ◌++◌, length, take, drop, get_or, refl, sym, ◌∙◌, ap, subst, arith, length-drop}
+use Rattle.std.proofs.lemmas.List.{append_assoc, drop_all, drop_more, get_or_default, get_or_past}
+use Rattle.proto_core.specs.Lists.{at}
 use Rattle.proto_core.proofs.Beginnings.{append-none}
 use Rattle.proto_core.specs.declared.party.Number.{Number}
 use Rattle.proto_core.specs.declared.party.Number.TheVariants.{One}
@@ -171,3 +172,11 @@ module _ (dealt : Number → Values) (gates : List Gate) (words : Values) (tapes
       sym (append-none made)
       ∙ ap (λ (gs : List Gate). made ++ made_from all_of m.next ds (sizes_behind dealt before) gs left s.tapes) (sym none)
       ∙ m.so
+
+-- ---- A WORD AT A PLACE
+
+pub word_there : (words : List ℕ) (k d : ℕ) → k < length words → get_or words k d ≡ at words k
+word_there words k d lt = get_or_default words k d 0 lt
+
+pub word_past : (words : List ℕ) (k : ℕ) → length words ≤ k → 0 ≡ at words k
+word_past words k le = sym (get_or_past words k 0 le)

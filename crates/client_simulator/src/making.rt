@@ -26,10 +26,11 @@ struct Handed {
 }
 
 /// The word at a place, and 0 past the end.
-fn word_at(words: &[u64], at: usize) -> u64
-    ensures { result ≡ at words.now at }
+#[tactic(auto, using(crate::proofs::MakingSteps::word_there, crate::proofs::MakingSteps::word_past))]
+fn word_at(words: &[u64], place: usize) -> u64
+    ensures { result ≡ at words.now place }
 {
-    if at < words.len() { words[at] } else { 0 }
+    if place < words.len() { words[place] } else { 0 }
 }
 
 /// What two shares leave of the words of a value.

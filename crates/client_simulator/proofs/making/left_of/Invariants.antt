@@ -5,4 +5,4 @@ use Rattle.client_simulator.proofs.making.left_of.Given as goal
 abbrev pub invariant-loop-at : goal.invariant-loop-at
 invariant-loop-at g l =
     let r = g.R.ShareRing.ring in
-    (l.at ≤ length l.first.now) × (l.left.items ≡ each l.at (λ k. r.sub (r.sub (at l.words.now k) (at l.first.now k)) (at l.second.now k)))
+    (l.at ≤ length l.first) × (l.left.items ≡ each l.at (λ k. r.sub (r.sub (at l.words k) (at l.first k)) (at l.second k)))

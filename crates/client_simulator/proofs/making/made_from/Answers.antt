@@ -15,10 +15,10 @@ pub loop-place-init : goal.loop-place-init
 loop-place-init c =
     let dealt = values_of c.args.dealt.now in
     let tapes = each_of c.args.tapes in
-    let s = state_of c.new.result in
-    let is : s ≡ begun tapes = same_state s (begun tapes) c.new.ensures.shares c.new.ensures.tapes c.new.ensures.messages c.new.ensures.opened in
-    none-made dealt c.args.gates.now c.args.words.now tapes s c.new-2.result.items (none-through dealt tapes c.requires.even s is)
-    (ap (λ t. t.tapes) is) c.new-2.ensures.items
+    let s = state_of c.new-run.result in
+    let is : s ≡ begun tapes = same_state s (begun tapes) c.new-run.ensures.shares c.new-run.ensures.tapes c.new-run.ensures.messages c.new-run.ensures.opened in
+    none-made dealt c.args.gates.now c.args.words.now tapes s c.new-made.result.items (none-through dealt tapes c.requires.even s is)
+    (ap (λ t. t.tapes) is) c.new-made.ensures.items
 
 pub push_made-requires : goal.push_made-requires
 push_made-requires c =
@@ -70,7 +70,7 @@ loop-place-preserved c =
     let t = state_of c.run_gate.new.run in
     let left = drop c.loop-place.number words in
     let made = c.loop-place.made.items in
-    let rest = drop c.in_ok-number.field-0 words in
+    let rest = drop c.in_ok-number.number words in
     let more = c.push_made.new.made.items in
     let next : drop place gates ≡ gate ∷ drop (place + 1) gates = next-gate gates place gate c.loop-place-test.true c.index-gates-place.is in
     let behind : take (place + 1) gates ≡ take place gates ++ gate ∷ [] =

@@ -1,4 +1,4 @@
-use Rattle.std.proofs.Common.{◌≡◌, List, ℕ, subst, ◌∙◌, ap, sym}
+use Rattle.std.proofs.Common.{◌≡◌, List, [], ℕ, subst, ◌∙◌, ap, sym}
 use Rattle.proto_core.specs.declared.party.Number.{Number}
 use Rattle.proto_core.specs.declared.party.Number.TheVariants.{One}
 use Rattle.protocol_model.specs.Gates.{sizes_of}

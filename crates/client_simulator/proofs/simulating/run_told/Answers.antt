@@ -1,4 +1,5 @@
 use Rattle.std.proofs.Common.{ℕ, List, All, subst}
+use Rattle.std.specs.Prelude.{IfOk}
 use Rattle.program_trees.specs.TypedPrograms.{typed_program_tree}
 use Rattle.value_file.specs.declared.public.PublicEntry.{PublicEntry}
 use Rattle.language_model.specs.Reports.{Report}
@@ -9,6 +10,7 @@ use Rattle.program_views.specs.Views.{lengths_of, told_run}
 use Rattle.view_simulator.specs.Making.{IsOfWords, CanBeMade}
 use Rattle.view_simulator.specs.Laws.{IsTold}
 use Rattle.view_simulator.proofs.Suiting.{can_be_made}
+use Rattle.client_simulator.proofs.Answered.{all-ok}
 use Rattle.client_simulator.proofs.simulating.run_told.Goals as goal
 
 pub returns-clause-told : goal.returns-clause-told

@@ -4,4 +4,4 @@ use Rattle.client_simulator.proofs.ToldEvents.{behind}
 use Rattle.client_simulator.proofs.told.told_events.Given as goal
 
 abbrev pub invariant-loop-event : goal.invariant-loop-event
-invariant-loop-event l = told_events l.events l.published.now ≡ behind l.told.items (told_events (drop l.event-index l.events) l.left.now)
+invariant-loop-event l = told_events l.events l.published ≡ behind l.told.items (told_events (drop l.event-index l.events) l.left)
