@@ -4,6 +4,7 @@ use Rattle.std.specs.Prelude.{IfOk, Some, Result, Ok, Err}
 use Rattle.proto_core.specs.declared.party.Number.{Number}
 use Rattle.proto_core.specs.declared.party.Number.TheVariants.{One}
 use Rattle.protocol_model.specs.Gates.{needed, sizes_of}
+use Rattle.protocol_model.specs.Runs.{Tapes}
 use Rattle.gates.specs.declared.gate.Gate.{Gate}
 use Rattle.gates.specs.Clear.{Values}
 use Rattle.shared_gates.specs.Model.{AllSizesSuit, run_gates}
@@ -45,6 +46,18 @@ module _ (part : List PublicEntry) (gates : List Gate) (s : FourTapes) (can : Ca
             ∙ ap (λ (ds : List ℕ). needed (run_gates dealt ds [] gates) k) (sym (sized One)))
             (can.reach One k);
       }
+
+-- what is made, by what it is made of
+pub made-so :
+    (part : List PublicEntry) (gates : List Gate) (s : FourTapes) (events : List Event) (ds : List ℕ) (words : Values) (tapes : Tapes)
+    (given : List Given) → ds ≡ hidden_sizes part → words ≡ gate_words_of events → tapes ≡ miners_of s →
+    given ≡ made_from all_of 0 ds [] gates words tapes →
+    given ≡ made_from all_of 0 (hidden_sizes part) [] gates (gate_words_of events) (miners_of s)
+made-so part gates s events ds words tapes given sized told own is =
+    is
+    ∙ ap (λ (ns : List ℕ). made_from all_of 0 ns [] gates words tapes) sized
+    ∙ ap (λ (ws : Values). made_from all_of 0 (hidden_sizes part) [] gates ws tapes) told
+    ∙ ap (λ (ts : Tapes). made_from all_of 0 (hidden_sizes part) [] gates (gate_words_of events) ts) own
 
 -- ---- THE VIEW
 

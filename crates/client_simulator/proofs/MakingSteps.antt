@@ -1,10 +1,11 @@
 -- What is made of gates, one after another.
 use Rattle.std.proofs.Common.{◌≡◌, ℕ, ◌+◌, ◌-◌, ◌<◌, ◌≤◌, true, List, [], ◌∷◌, ◌++◌, length, take, drop, get_or, refl, sym, ◌∙◌, ap, subst, arith, length-drop}
-use Rattle.std.proofs.lemmas.List.{append_assoc, drop_all, drop_more, get_or_default, get_or_past}
+use Rattle.std.proofs.lemmas.List.{append_assoc, drop_all, drop_more, get_or_default, get_or_past, length-take-le}
+use Rattle.proto_core.specs.Ring.{Ring}
 use Rattle.proto_core.specs.Lists.{at}
 use Rattle.proto_core.proofs.Beginnings.{append-none}
 use Rattle.proto_core.specs.declared.party.Number.{Number}
-use Rattle.proto_core.specs.declared.party.Number.TheVariants.{One}
+use Rattle.proto_core.specs.declared.party.Number.TheVariants.{One, Two}
 use Rattle.protocol_model.specs.Gates.{needed, sizes_of}
 use Rattle.protocol_model.specs.Runs.{Tapes}
 use Rattle.protocol_model.proofs.Sizes.{needed-append}
@@ -16,11 +17,15 @@ use Rattle.gates.specs.Counts.{made_by, size_of}
 use Rattle.shared_gates.specs.Model.{SizesSuit, sizes_made, sizes_after, run_gate, run_gates}
 use Rattle.shared_gates.proofs.GatesBehind.{sizes-then}
 use Rattle.shared_gates.proofs.Models.{size-value}
+use Rattle.joint_run.specs.declared.run.JointRun.{JointRun}
+use Rattle.joint_run.specs.Three.{each_of, values_of}
+use Rattle.joint_run.specs.States.{state_of}
 use Rattle.joint_run.specs.RunState.{RunState, begun, behind}
 use Rattle.joint_run.specs.JointRuns.{dealt_sizes, IsEven, CanRun, sizes_behind, words_for, words_for_next}
 use Rattle.joint_run.specs.GateByGate.{Through, own_sizes, RunsGate}
 use Rattle.joint_run.proofs.GateLists.{next-through}
 use Rattle.handed_shares.specs.Handed.{all_of}
+use Rattle.open_result.specs.Opening.{left_of_opened}
 use Rattle.client_model.specs.Given.{Given, made_given, slots_of, made_by_gate, published_after, after_gate, made_from}
 use Rattle.tape_twin.proofs.Passing.{same_for}
 use Rattle.client_runs.proofs.GivenShares.{draws-at}
@@ -81,6 +86,62 @@ one-made ring u sizes words tapes k lt = ap (λ (ws : Values). made_by_gate (Res
 pub one-after : (ring : RingKind) (u : ℕ) (words : Values) (k : ℕ) → k < length words →
     drop (k + 1) words ≡ published_after (Result ring u) true (drop k words)
 one-after ring u words k lt = sym (ap (λ (ws : Values). published_after (Result ring u) true ws) (next-words words k lt))
+
+-- what is made of as many words of the tapes as the value has
+pub made-of-slots :
+    (ring : RingKind) (r : Ring) (u : ℕ) (s : RunState) (words : Values) (k : ℕ) (own said : List ℕ) (given : Given) →
+    ((i : Number) → length own ≤ length (s.tapes i)) → own ≡ value (s.shares One) u → r ≡ ring_of ring → k < length words → said ≡ value words k →
+    given ≡ record {
+      first = take (length own) (s.tapes One);
+      second = take (length own) (s.tapes Two);
+      third =
+          left_of_opened r (length (take (length own) (s.tapes One))) said (take (length own) (s.tapes One)) (take (length own) (s.tapes Two));
+    } →
+    given ∷ [] ≡ made_by_gate (Result ring u) true (own_sizes s) (drop k words) s.tapes
+made-of-slots ring r u s words k own said given fits is kind lt told so =
+    let made : Ring → (count n : ℕ) → List ℕ → Given = λ x count n ws.
+    record {
+      first = take n (s.tapes One);
+      second = take n (s.tapes Two);
+      third = left_of_opened x count ws (take n (s.tapes One)) (take n (s.tapes Two));
+    } in
+    let size : length own ≡ size_of (own_sizes s) u = ap length is ∙ size-value (s.shares One) u in
+    ap (λ (g : Given). g ∷ []) (
+      so
+      ∙ ap (λ (count : ℕ). made r count (length own) said) (length-take-le (length own) (s.tapes One) (fits One))
+      ∙ ap (λ (x : Ring). made x (length own) (length own) said) kind
+      ∙ ap (λ (ws : List ℕ). made (ring_of ring) (length own) (length own) ws) told
+      ∙ ap (λ (n : ℕ). made (ring_of ring) n n (value words k)) size
+    )
+    ∙ sym (one-made ring u (own_sizes s) words s.tapes k lt)
+
+-- of a joint run, by its parts
+module _ (inside run : JointRun) (same : inside ≡ run) (ring : RingKind) (u : ℕ) (has : HasSlots (Result ring u) (state_of run)) (own : List ℕ)
+    (is : own ≡ value (values_of inside.shares One) u) where
+  fits : (i : Number) → length own ≤ length (each_of inside.tapes i)
+  fits i =
+      subst (λ (v : List ℕ). length v ≤ length (each_of inside.tapes i)) (sym is)
+      (subst (λ (r : JointRun). length (value (values_of r.shares One) u) ≤ length (each_of r.tapes i)) (sym same) (has i))
+
+  pub taken : (i : Number) → length own ≡ length (take (length own) (each_of inside.tapes i))
+  taken i = sym (length-take-le (length own) (each_of inside.tapes i) (fits i))
+
+  pub as-many : length (take (length own) (each_of inside.tapes Two)) ≡ length (take (length own) (each_of inside.tapes One))
+  as-many = sym (taken Two) ∙ taken One
+
+  pub made-inside :
+      (r : Ring) (words : Values) (k : ℕ) (said : List ℕ) (given : Given) → r ≡ ring_of ring → k < length words → said ≡ value words k →
+      given ≡ record {
+        first = take (length own) (each_of inside.tapes One);
+        second = take (length own) (each_of inside.tapes Two);
+        third =
+            left_of_opened r (length (take (length own) (each_of inside.tapes One))) said (take (length own) (each_of inside.tapes One))
+            (take (length own) (each_of inside.tapes Two));
+      } →
+      given ∷ [] ≡ made_by_gate (Result ring u) true (own_sizes (state_of run)) (drop k words) (each_of run.tapes)
+  made-inside r words k said given kind lt told so =
+      made-of-slots ring r u (state_of inside) words k own said given fits is kind lt told so
+      ∙ ap (λ (x : JointRun). made_by_gate (Result ring u) true (own_sizes (state_of x)) (drop k words) (each_of x.tapes)) same
 
 -- ---- GATE AFTER GATE
 

@@ -11,9 +11,9 @@ use Rattle.view_model.specs.TapeMaps.{miners_of}
 use Rattle.handed_shares.specs.Handed.{all_of}
 use Rattle.client_model.specs.Given.{made_from}
 use Rattle.client_view.specs.Views.{gate_words_of}
-use Rattle.tape_twin.proofs.Passing.{if-ok}
+use Rattle.std.proofs.lemmas.Result.{IfOk-weaker}
 use Rattle.tape_twin.proofs.Whole.{own-tapes}
-use Rattle.client_simulator.proofs.Answered.{can-run}
+use Rattle.client_simulator.proofs.Answered.{can-run, made-so}
 use Rattle.client_simulator.proofs.simulating.given_told.Goals as goal
 
 pub made_from-requires : goal.made_from-requires
@@ -22,7 +22,7 @@ made_from-requires c =
     let gates = c.args.gates.now in
     let s = c.args.tapes.now in
     let dealt = values_of c.in_ok-dealt.dealt in
-    let sized : (i : Number) → sizes_of (dealt i) ≡ hidden_sizes part = λ i. c.in_ok-dealt.ensures i ∙ c.in_ok-hidden_sizes.ensures in
+    let sized : (i : Number) → sizes_of (dealt i) ≡ hidden_sizes part = λ i. c.in_ok-dealt.ensures i ∙ c.deref.ensures.value ∙ c.in_ok-hidden_sizes.ensures ∙ ap hidden_sizes c.entries.ensures in
     subst (λ (ts : Tapes). CanRun dealt gates ts) (own-tapes s _ _ _ c.miner1.ensures c.miner2.ensures c.miner3.ensures)
     (can-run part gates s c.requires dealt sized)
 
@@ -32,14 +32,10 @@ returns c =
     let gates = c.args.gates.now in
     let s = c.args.tapes.now in
     let dealt = values_of c.in_ok-dealt.dealt in
-    let sized : sizes_of (dealt One) ≡ hidden_sizes part = c.in_ok-dealt.ensures One ∙ c.in_ok-hidden_sizes.ensures in
-    if-ok
-    (λ made. made.items ≡ made_from all_of 0 (sizes_of (dealt One)) [] gates c.in_ok-words.words _)
-    (λ made. made.items ≡ made_from all_of 0 (hidden_sizes part) [] gates (gate_words_of c.args.told.now) (miners_of s))
-    (λ made is.
-    is
-    ∙ ap (λ (ds : List ℕ). made_from all_of 0 ds [] gates c.in_ok-words.words _) sized
-    ∙ ap (λ (ws : Values). made_from all_of 0 (hidden_sizes part) [] gates ws _) c.in_ok-words.ensures
-    ∙ ap (λ (ts : Tapes). made_from all_of 0 (hidden_sizes part) [] gates (gate_words_of c.args.told.now) ts)
-    (sym (own-tapes s _ _ _ c.miner1.ensures c.miner2.ensures c.miner3.ensures)))
-    c.made_from.result c.made_from.ensures
+    let sized : sizes_of (dealt One) ≡ hidden_sizes part =
+    c.in_ok-dealt.ensures One ∙ c.deref.ensures.value ∙ c.in_ok-hidden_sizes.ensures ∙ ap hidden_sizes c.entries.ensures in
+    IfOk-weaker c.made_from.result _
+    (λ given. given.items ≡ made_from all_of 0 (hidden_sizes part) [] gates (gate_words_of c.args.told.now) (miners_of s))
+    (λ given is. made-so part gates s c.args.told.now _ _ _ given.items sized c.in_ok-words.ensures
+    (sym (own-tapes s _ _ _ c.miner1.ensures c.miner2.ensures c.miner3.ensures)) is)
+    c.made_from.ensures
