@@ -1,6 +1,5 @@
 -- The lines of what a run hands over, event by event.
 use Rattle.std.proofs.Common.{◌≡◌, ◌<◌, ℕ, ◌+◌, List, [], ◌∷◌, ◌++◌, length, take, get_or, refl, sym, ◌∙◌, ap}
-use Rattle.std.specs.List.{flat_map}
 use Rattle.std.proofs.lemmas.List.{append_assoc, take_more}
 use Rattle.proto_core.proofs.Beginnings.{append-none}
 use Rattle.sc_text.specs.declared.elements.Element.{Element}
@@ -37,6 +36,7 @@ taken_more events k d e lt is =
 
 pub handed_told : (events : List Event) (k : ℕ) (d e : Event) (text : List ℕ) (kind : ElementKind) (elements : List Element) → k < length events
     → e ≡ get_or events k d → e ≡ Hand text kind elements → lines (take (k + 1) events) ≡ lines (take k events) ++ event_line e
+unfolding event_line
 handed_told events k d e text kind elements lt is hands =
     taken_more events k d e lt is
     ∙ ap (λ (x : Event). lines (take k events) ++ lines (x ∷ [])) hands

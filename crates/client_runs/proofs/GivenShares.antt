@@ -3,10 +3,9 @@ use Rattle.std.proofs.Common.{◌≡◌, ℕ, ◌+◌, ◌<◌, ◌≤◌, List,
 use Rattle.std.proofs.lemmas.List.{append_assoc}
 use Rattle.proto_core.proofs.Beginnings.{append-none}
 use Rattle.proto_core.specs.declared.party.Number.{Number}
-use Rattle.proto_core.specs.declared.party.Number.TheVariants.{One, Two, Three}
 use Rattle.protocol_model.specs.Gates.{needed, sizes_of}
 use Rattle.protocol_model.specs.Gates as model
-use Rattle.protocol_model.specs.Runs.{Tapes, run_values}
+use Rattle.protocol_model.specs.Runs.{Tapes}
 use Rattle.protocol_model.proofs.Sizes.{needed-append}
 use Rattle.gates.specs.declared.gate.Gate.{Gate}
 use Rattle.gates.specs.declared.gate.Gate.TheVariants.{Split}
@@ -17,7 +16,7 @@ use Rattle.shared_gates.proofs.GatesBehind.{gates-then}
 use Rattle.joint_run.specs.declared.joint_err.JointErr.{JointErr}
 use Rattle.joint_run.specs.declared.joint_err.JointErr.TheVariants.{Memory, Dealt, Unsuited, TapeEnds}
 use Rattle.joint_run.specs.RunState.{RunState}
-use Rattle.joint_run.specs.JointRuns.{dealt_sizes, IsEven, CanRun, words_for, words_for_next, sizes_behind, IsRun, Refuses}
+use Rattle.joint_run.specs.JointRuns.{dealt_sizes, CanRun, words_for, words_for_next, sizes_behind, IsRun, Refuses}
 use Rattle.handed_shares.specs.Handed.{all_of}
 use Rattle.client_model.specs.Given.{Given, given_by, given_from}
 use Rattle.client_model.specs.Laws.{shares_at_end}

@@ -1,5 +1,5 @@
 -- The simulator's answer, of a run that ended and of one that wanted more opened words.
-use Rattle.std.proofs.Common.{◌≡◌, ℕ, ◌≤◌, List, [], length, refl, sym, ◌∙◌, ap, subst}
+use Rattle.std.proofs.Common.{◌≡◌, ℕ, ◌≤◌, List, [], length, sym, ◌∙◌, ap, subst}
 use Rattle.std.specs.Prelude.{IfOk, Some, Result, Ok, Err}
 use Rattle.proto_core.specs.declared.party.Number.{Number}
 use Rattle.proto_core.specs.declared.party.Number.TheVariants.{One}

@@ -6,7 +6,7 @@ use Rattle.proto_core.specs.Lists.{at}
 use Rattle.proto_core.proofs.Beginnings.{append-none}
 use Rattle.proto_core.specs.declared.party.Number.{Number}
 use Rattle.proto_core.specs.declared.party.Number.TheVariants.{One, Two}
-use Rattle.protocol_model.specs.Gates.{needed, sizes_of}
+use Rattle.protocol_model.specs.Gates.{needed}
 use Rattle.protocol_model.specs.Runs.{Tapes}
 use Rattle.protocol_model.proofs.Sizes.{needed-append}
 use Rattle.gates.specs.declared.gate.Gate.{Gate}
@@ -14,14 +14,14 @@ use Rattle.gates.specs.declared.gate.Gate.TheVariants.{Mul, And, Split, Conv, Op
 use Rattle.gates.specs.declared.ring_kind.RingKind.{RingKind}
 use Rattle.gates.specs.Clear.{Values, value, ring_of}
 use Rattle.gates.specs.Counts.{made_by, size_of}
-use Rattle.shared_gates.specs.Model.{SizesSuit, sizes_made, sizes_after, run_gate, run_gates}
+use Rattle.shared_gates.specs.Model.{sizes_made, run_gate, run_gates}
 use Rattle.shared_gates.proofs.GatesBehind.{sizes-then}
 use Rattle.shared_gates.proofs.Models.{size-value}
 use Rattle.joint_run.specs.declared.run.JointRun.{JointRun}
 use Rattle.joint_run.specs.Three.{each_of, values_of}
 use Rattle.joint_run.specs.States.{state_of}
-use Rattle.joint_run.specs.RunState.{RunState, begun, behind}
-use Rattle.joint_run.specs.JointRuns.{dealt_sizes, IsEven, CanRun, sizes_behind, words_for, words_for_next}
+use Rattle.joint_run.specs.RunState.{RunState}
+use Rattle.joint_run.specs.JointRuns.{dealt_sizes, CanRun, sizes_behind, words_for, words_for_next}
 use Rattle.joint_run.specs.GateByGate.{Through, own_sizes, RunsGate}
 use Rattle.joint_run.proofs.GateLists.{next-through}
 use Rattle.handed_shares.specs.Handed.{all_of}

@@ -1,5 +1,5 @@
 -- What the simulator of the client's view answers.
-use Rattle.std.specs.Prelude.{◌≡◌, ℕ, List, length, Option, Some, None, Result, Ok, Err}
+use Rattle.std.specs.Prelude.{◌≡◌, ℕ, List, length, Some, None, Result, Ok, Err}
 use Rattle.sc_text.specs.declared.event.Event.{Event}
 use Rattle.value_file.specs.declared.public.PublicEntry.{PublicEntry}
 use Rattle.tape_file.specs.Tapes.{FourTapes}

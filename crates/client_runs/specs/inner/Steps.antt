@@ -1,6 +1,6 @@
 -- Cited by private functions alone: no contract of another crate rests on it.
 -- One step of what is put together here.
-use Rattle.std.specs.Prelude.{◌≡◌, ℕ, List, [], ◌∷◌}
+use Rattle.std.specs.Prelude.{ℕ, List, [], ◌∷◌}
 use Rattle.sc_text.specs.declared.event.Event.{Event}
 use Rattle.sc_text.specs.declared.event.Event.TheVariants.{Open, Publish, Hand}
 use Rattle.client_model.specs.Given.{Given}

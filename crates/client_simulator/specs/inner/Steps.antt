@@ -1,6 +1,6 @@
 -- Cited by private functions alone: no contract of another crate rests on it.
 -- One event that is told, and when a gate's words are there.
-use Rattle.std.specs.Prelude.{◌≡◌, ℕ, ◌≤◌, nat_le, if◌then◌else◌, List, [], length, drop, Option, Some, None}
+use Rattle.std.specs.Prelude.{ℕ, ◌≤◌, nat_le, if◌then◌else◌, List, length, drop, Option, Some, None}
 use Rattle.proto_core.specs.declared.party.Number.{Number}
 use Rattle.gates.specs.declared.gate.Gate.{Gate}
 use Rattle.gates.specs.declared.gate.Gate.TheVariants.{Result}

@@ -1,7 +1,5 @@
-use Rattle.std.proofs.Common.{◌≡◌, ◌≤◌, ℕ, ◌+◌, ◌*◌, List, ◌∷◌, ◌++◌, drop, ◌∙◌, ap, arith}
+use Rattle.std.proofs.Common.{◌≡◌, ℕ, ◌+◌, List, ◌∷◌, ◌++◌, drop, ◌∙◌, ap, arith}
 use Rattle.std.proofs.lemmas.List.{drop_all}
-use Rattle.gates.specs.Counts.{made_by}
-use Rattle.gates.specs.declared.gate.Gate.{Gate}
 use Rattle.shared_gates.proofs.GatesBehind.{next-gate}
 use Rattle.joint_run.specs.Three.{values_of}
 use Rattle.handed_shares.specs.Handed.{all_of}

@@ -1,10 +1,10 @@
-use Rattle.std.proofs.Common.{◌≡◌, ◌<◌, ◌≤◌, List, ℕ, [], length, refl, sym, ◌∙◌, ap, subst}
+use Rattle.std.proofs.Common.{◌≡◌, ◌<◌, ◌≤◌, List, ℕ, length, refl, sym, ◌∙◌, ap, subst}
 use Rattle.proto_core.specs.declared.party.Number.{Number}
 use Rattle.proto_core.specs.declared.party.Number.TheVariants.{One}
 use Rattle.protocol_model.specs.Runs.{Tapes}
 use Rattle.gates.specs.declared.gate.Gate.{Gate}
 use Rattle.gates.specs.Clear.{Values}
-use Rattle.joint_run.specs.Three.{each_of, values_of}
+use Rattle.joint_run.specs.Three.{values_of}
 use Rattle.joint_run.specs.States.{state_of}
 use Rattle.joint_run.specs.JointRuns as joint
 use Rattle.input_share.specs.Dealing.{need_of}

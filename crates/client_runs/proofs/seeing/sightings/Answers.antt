@@ -1,4 +1,3 @@
-use Rattle.std.proofs.Common.{ap, refl}
 use Rattle.std.proofs.lemmas.List.{drop_all}
 use Rattle.client_runs.proofs.SightingSteps.{seen-more, all-seen}
 use Rattle.client_runs.proofs.seeing.sightings.Goals as goal

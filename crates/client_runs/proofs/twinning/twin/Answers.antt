@@ -1,4 +1,4 @@
-use Rattle.std.proofs.Common.{◌≡◌, ◌<◌, List, ℕ, [], length, sym, ◌∙◌, ap, subst, All}
+use Rattle.std.proofs.Common.{◌≡◌, ◌<◌, List, ℕ, length, sym, ◌∙◌, ap, subst, All}
 use Rattle.gates.specs.declared.gate.Gate.{Gate}
 use Rattle.program_trees.specs.TypedPrograms.{typed_program_tree}
 use Rattle.value_file.specs.Public.{part_of}

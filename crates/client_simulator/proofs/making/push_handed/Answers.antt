@@ -1,4 +1,4 @@
-use Rattle.std.proofs.Common.{◌≡◌, ◌<◌, List, [], ◌∷◌, ◌++◌, length, sym, ◌∙◌, ap, arith}
+use Rattle.std.proofs.Common.{◌<◌, List, ◌++◌, length, sym, ◌∙◌, ap, arith}
 use Rattle.proto_core.specs.declared.party.Number.TheVariants.{One, Two}
 use Rattle.gates.specs.Clear.{ring_of}
 use Rattle.client_model.specs.Given.{Given}

@@ -1,10 +1,9 @@
-use Rattle.std.proofs.Common.{◌≡◌, List, [], ℕ, subst, ◌∙◌, ap, sym}
+use Rattle.std.proofs.Common.{◌≡◌, [], subst, ◌∙◌, ap, sym}
 use Rattle.proto_core.specs.declared.party.Number.{Number}
 use Rattle.proto_core.specs.declared.party.Number.TheVariants.{One}
 use Rattle.protocol_model.specs.Gates.{sizes_of}
 use Rattle.protocol_model.specs.Runs.{Tapes}
-use Rattle.gates.specs.Clear.{Values}
-use Rattle.joint_run.specs.Three.{each_of, values_of}
+use Rattle.joint_run.specs.Three.{values_of}
 use Rattle.joint_run.specs.JointRuns.{CanRun}
 use Rattle.view_model.specs.Dealing.{hidden_sizes}
 use Rattle.view_model.specs.TapeMaps.{miners_of}

@@ -2,7 +2,6 @@ use Rattle.std.proofs.Common.{ℕ, List, All, subst}
 use Rattle.std.specs.Prelude.{IfOk}
 use Rattle.program_trees.specs.TypedPrograms.{typed_program_tree}
 use Rattle.value_file.specs.declared.public.PublicEntry.{PublicEntry}
-use Rattle.language_model.specs.Reports.{Report}
 use Rattle.clear_eval.specs.ToldRuns.{IsBlindRun}
 use Rattle.tape_twin.proofs.Passing.{if-ok}
 use Rattle.view_model.specs.TapeMaps.{AreTapes}

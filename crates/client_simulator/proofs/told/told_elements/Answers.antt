@@ -1,4 +1,4 @@
-use Rattle.std.proofs.Common.{◌+◌, ℕ, List, [], ◌∷◌, ◌++◌, length, take, get_or, map, refl, sym, ◌∙◌, ap}
+use Rattle.std.proofs.Common.{[], ◌∷◌, ◌++◌, refl, ◌∙◌, ap}
 use Rattle.sc_text.specs.declared.elements.Element.{Element}
 use Rattle.client_simulator.proofs.ToldEvents.{element-more}
 use Rattle.client_simulator.proofs.told.told_elements.Goals as goal

@@ -1,4 +1,4 @@
-use Rattle.std.proofs.Common.{◌≡◌, [], ◌∷◌, List, ℕ, ◌++◌, take, length, ◌∙◌, ap, sym}
+use Rattle.std.proofs.Common.{[], ◌∷◌, List, ℕ, ◌++◌, take, length, ◌∙◌, ap, sym}
 use Rattle.std.proofs.lemmas.List.{map-append, take_more}
 use Rattle.protocol_model.specs.Gates.{sizes_of}
 use Rattle.client_simulator.proofs.zeros.zeros.Goals as goal
