@@ -21,7 +21,8 @@ use Rattle.program_trees.specs.declared.operators.BoolOperator.TheVariants as bo
 use Rattle.program_trees.specs.declared.operators.BinaryOperator.TheVariants.{Words, Ints, Bools}
 use Rattle.program_trees.specs.declared.operators.Operands.TheVariants.{Scalars, ArrayAndScalar}
 use Rattle.program_trees.specs.declared.operators.Connective.TheVariants as connective
-use Rattle.program_trees.specs.TypedTree.{word_node, truth_node, zero_node, slot_node, call_node, sum_node, lookup_node, binary_node, cut_node, declassify_node, typed_trees_of}
+use Rattle.program_trees.specs.TypedTree.{word_node, truth_node, zero_node, slot_node, call_node, sum_node, lookup_node, binary_node, cut_node}
+use Rattle.program_trees.specs.TypedTree.{declassify_node, typed_trees_of}
 use Rattle.program_trees.specs.TypedStatements.{TypedStatementTree, block_statement, return_statement, default_statement, store_statement, input_statement}
 use Rattle.program_trees.specs.TypedStatements.{publish_statement, evaluate_statement, fill_statement, typed_statements_of}
 use Rattle.program_trees.specs.TypedPrograms.{TypedFunctionTree, TypedProgramTree}
