@@ -20,8 +20,7 @@ use Rattle.verified_code.specs.Steps.{Step, Function, Literal, Move, Binary, Cat
 use Rattle.code_model.specs.Fit.{MayStand}
 use Rattle.code_model.specs.Kinds.{kind_of}
 use Rattle.code_model.specs.Kinded.{HasKind, left_array, right_array, public_scalar}
-use Rattle.code_model.specs.Expressions.{classifying, picked, lacks, mixes, binary_code, cat_code, lookup_code, element_code, deciding, settling}
-use Rattle.code_model.specs.Expressions.{cut_code}
+use Rattle.code_model.specs.Expressions.{classifying, picked, lacks, mixes, binary_code, cat_code, lookup_code, element_code, deciding, settling, cut_code}
 use Rattle.code_model.specs.Right.{kind, operand_element, IsRight}
 use Rattle.well_typed.specs.Kinds.{IsNumber, MayOperate}
 use Rattle.lowered_code.proofs.Standing.{clash, AllRight, both_right, classifying_right, lacking_right, picked_kind}

@@ -1,6 +1,5 @@
 -- Domains on both sides: what operations make of them, and what a call binds domain variables to.
-use Rattle.std.proofs.Common.{◌≡◌, ℕ, zero, suc, ◌+◌, ◌<◌, ◌≤◌, ◌≢◌, List, [], ◌∷◌, ◌++◌, length, take, refl, sym, ap, ap₂, ◌∙◌, subst, Option, Some}
-use Rattle.std.proofs.Common.{None}
+use Rattle.std.proofs.Common.{◌≡◌, ℕ, zero, suc, ◌+◌, ◌<◌, ◌≤◌, ◌≢◌, List, [], ◌∷◌, ◌++◌, length, take, refl, sym, ap, ap₂, ◌∙◌, subst, Option, Some, None}
 use Rattle.std.proofs.Common.{Bool, true, false, cond, eq-eqb, arith}
 use Rattle.std.specs.Prelude.{map, nat_eq, bytes_eq, option_map, option_and_then}
 use Rattle.std.specs.List.{slice_get}

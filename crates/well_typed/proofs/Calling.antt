@@ -53,8 +53,7 @@ use Rattle.well_typed.specs.Laws.{bound_domain, IsCheckedInstance}
 use Rattle.well_typed.proofs.Bindings.{goes, own_numbers, declared_type, argument_domain, slots_first, bound_count, binding_same}
 use Rattle.well_typed.proofs.SlotsWritten.{shape_in, slot_same, slots_count, take_front}
 use Rattle.well_typed.proofs.Heads.{IsMade, is_made, is_head, function_at}
-use Rattle.well_typed.proofs.Typed.{Good, AllGood, good_as, gives_as, good_size, good_cat, good_sum, good_bits, good_lookup, AreChecked, none_checked}
-use Rattle.well_typed.proofs.Typed.{both_checked}
+use Rattle.well_typed.proofs.Typed.{Good, AllGood, good_as, gives_as, good_size, good_cat, good_sum, good_bits, good_lookup, AreChecked, none_checked, both_checked}
 
 -- A FUNCTION UNDER A BINDING
 

@@ -189,11 +189,10 @@ pub good_lookup : (p : ProgramTree) (w : Setting) (line : ℕ) (a i : TypedValue
     → IsNumber x.element → y.element ≡ Uint64 → t.element ≡ x.element → t.array ≡ y.array → Meets x.domain y.domain t.domain
     → t.domain ≢ checked.Public → Good p w (looked_up line a i) t
 good_lookup p w line a i x y t g h ax number words element dimension m hidden =
-    let seen : domain w (lookup_node line a.tree i.tree) ≡ bound_domain t.domain = ap (λ d. joined_domain d (domain w i.tree)) g.seen_by
-    ∙ ap (joined_domain (bound_domain x.domain)) h.seen_by ∙ meets_joined x.domain y.domain t.domain m in
-    let bound : Meet (bound_domain x.domain) (bound_domain y.domain) = meets_meet x.domain y.domain t.domain m in
+    let seen : domain w (lookup_node line a.tree i.tree) ≡ bound_domain t.domain =
+    ap (λ d. joined_domain d (domain w i.tree)) g.seen_by ∙ ap (joined_domain (bound_domain x.domain)) h.seen_by ∙ meets_joined x.domain y.domain t.domain m in
     let meet : Meet (domain w a.tree) (domain w i.tree) =
-    subst (λ d. Meet d (domain w i.tree)) (sym g.seen_by) (subst (Meet (bound_domain x.domain)) (sym h.seen_by) bound) in
+    subst (λ d. Meet d (domain w i.tree)) (sym g.seen_by) (subst (Meet (bound_domain x.domain)) (sym h.seen_by) (meets_meet x.domain y.domain t.domain m)) in
     let values = gives_as w a.tree (shape_in x) (array x.element) g.gives (array_shape x ax) in
     let places = gives_as w i.tree (shape_in y) (shape_of Uint64 y.array) h.gives (ap (λ e. shape_of e y.array) words) in
     let result : shape_in t ≡ shape_of x.element y.array = ap₂ shape_of element dimension in

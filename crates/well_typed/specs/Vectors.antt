@@ -13,8 +13,7 @@ use Rattle.program_trees.specs.declared.typed_function.Returned.TheVariants.{Not
 use Rattle.program_trees.specs.declared.operators.OperatorSign.TheVariants.{Add, Divide, Less, And}
 use Rattle.program_trees.specs.declared.operators.BinaryOperator.TheVariants.{Words, Ints}
 use Rattle.program_trees.specs.declared.operators.Operands.TheVariants.{Scalars, ArrayAndScalar}
-use Rattle.program_trees.specs.TypedTree.{TypedTree, truth_node, slot_node, call_node, sum_node, lookup_node, element_node, cast_node, binary_node}
-use Rattle.program_trees.specs.TypedTree.{declassify_node, typed_trees_of}
+use Rattle.program_trees.specs.TypedTree.{TypedTree, truth_node, slot_node, call_node, sum_node, lookup_node, element_node, cast_node, binary_node, declassify_node, typed_trees_of}
 use Rattle.program_trees.specs.TypedStatements.{if_statement, loop_statement, empty_statement, break_statement, return_statement, store_statement, typed_statements_of}
 use Rattle.program_trees.specs.TypedPrograms.{TypedFunctionTree}
 use Rattle.program_trees.specs.Operators.{cast_between}
@@ -113,10 +112,7 @@ signs_mixed : (g : Option Shape) → Gives here (binary_node 2 (Ints Add) Scalar
 signs_mixed g h = go h.1.0 h.1.1 h.1.2
   where
     go : (s : Slot) → Some public_slot ≡ Some s → Some (scalar Int64) ≡ Some s.shape → ⊥
-    go s e f =
-        let shape : public_slot.shape ≡ s.shape = ap (λ (z : Slot). z.shape) (same_Some public_slot s e) in
-        let no : Uint64 ≡ Int64 = ap (λ (z : Shape). z.element) (shape ∙ sym (same_Some (scalar Int64) s.shape f)) in
-        cc
+    go s e f = let no : Uint64 ≡ Int64 = ap (λ (z : Shape). z.element) (ap (λ (z : Slot). z.shape) (same_Some public_slot s e) ∙ sym (same_Some (scalar Int64) s.shape f)) in cc
 
 bits_of_signed : (g : Option Shape) → Gives here (binary_node 2 (Ints And) Scalars (as_signed (slot_node 0)) (as_signed (slot_node 0))) g → ⊥
 bits_of_signed g h = let no = h.3.0 in cc

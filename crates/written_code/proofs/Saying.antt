@@ -13,8 +13,7 @@ use Rattle.program_trees.specs.declared.operators.Operands.TheVariants.{Scalars}
 use Rattle.program_trees.specs.declared.operators.Connective.{Connective}
 use Rattle.program_trees.specs.declared.typed_function.Returned.{Returned}
 use Rattle.program_trees.specs.declared.typed_function.Returned.TheVariants.{Nothing, Value}
-use Rattle.program_trees.specs.TypedTree.{TypedTree, TypedTrees, word_node, truth_node, zero_node, slot_node, call_node, size_node, cat_node}
-use Rattle.program_trees.specs.TypedTree.{sum_node, bits_node}
+use Rattle.program_trees.specs.TypedTree.{TypedTree, TypedTrees, word_node, truth_node, zero_node, slot_node, call_node, size_node, cat_node, sum_node, bits_node}
 use Rattle.program_trees.specs.TypedTree.{lookup_node, element_node, not_node, cast_node, binary_node, cut_node, declassify_node}
 use Rattle.program_trees.specs.TypedTree as Tree'
 use Rattle.program_trees.specs.TypedStatements.{TypedStatementTree, TypedStatementTrees, empty_statement, block_statement, if_statement, loop_statement, do_statement}
@@ -33,8 +32,7 @@ use Rattle.verified_code.specs.Steps.{Step, Function, Literal, Move, Store, Bina
 use Rattle.verified_code.specs.Steps.{Declassify, Argument, Publish, Assert, Branch, Jump, Call, Return, ReturnNone}
 use Rattle.code_model.specs.Kinds.{kind_of, truth_kind, in_row}
 use Rattle.code_model.specs.Kinded.{IsIn}
-use Rattle.code_model.specs.Expressions.{Numbers, result_at, classifying, picked, lacks, mixes, binary_code, cat_code, lookup_code, deciding}
-use Rattle.code_model.specs.Expressions.{settling, cut_code}
+use Rattle.code_model.specs.Expressions.{Numbers, result_at, classifying, picked, lacks, mixes, binary_code, cat_code, lookup_code, deciding, settling, cut_code}
 use Rattle.code_model.specs.Expressions.{own_at, classified_at, stands_at, next_row, expression_code, arguments_code, arguments_places, unread_code}
 use Rattle.code_model.specs.Statements.{shape_number, first_free, statements_depth, if_code, loop_code, do_code, behind_classifying}
 use Rattle.code_model.specs.Statements.{statement_code, statements_code}
