@@ -27,7 +27,9 @@ from collections.abc import Iterator, Mapping, Sequence
 from dataclasses import dataclass, field
 from typing import Union
 
-__all__ = ["Dealt", "Ended", "Need", "NoProgram", "Private", "Published", "Refused", "Run", "SecrecErr", "Signed", "deal", "join", "need", "private", "run", "signed"]
+__all__ = [
+    "Dealt", "Ended", "Need", "NoProgram", "Private", "Published", "Refused", "Run", "SecrecErr", "Signed", "deal", "join", "need", "private", "run", "signed",
+]
 
 BUDGETS = (10**6, 10**8, 10**10)
 WORD_END, MOST_WORDS, PIECE = 1 << 64, 1 << 24, 1 << 20
