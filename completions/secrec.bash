@@ -20,7 +20,7 @@ _secrec() {
   local current=${COMP_WORDS[COMP_CWORD]} before=$((COMP_CWORD - 1)) options used=' ' left='' option program='' miner=none list='' code='' k
   COMPREPLY=()
   if [ "$COMP_CWORD" -eq 1 ]; then
-    _secrec_words 'check compile eval need run deal map simulate twin load gather join miner trio upgrade help'
+    _secrec_words 'check compile eval need run deal map simulate twin client-map client-simulate client-twin load gather join miner trio upgrade help'
     return
   fi
   case ${COMP_WORDS[1]} in
@@ -32,20 +32,23 @@ _secrec() {
     map) options='--input --tape --sim --public --opened --budget' miner='' ;;
     simulate) options='--public --opened --sim --view --schedule --shuffle --budget' miner='' ;;
     twin) options='--input --second --tape --to --budget' miner='' ;;
+    client-map) options='--input --tape --sim --public --opened --published --budget' ;;
+    client-simulate) options='--public --opened --published --sim --view --budget' ;;
+    client-twin) options='--input --second --tape --to --budget' ;;
     load) options='--number' program=none ;;
     gather) options='--me --to' list=yes ;;
     join) options='' list=yes ;;
     miner) options='--me --share --tape --port --out --budget --wait --log' code=yes ;;
     trio) options='--input --tape --to --port --budget' ;;
     upgrade) options='--code' code=yes ;;
-    help) [ "$COMP_CWORD" -ne 2 ] || _secrec_words 'check compile eval need run deal map simulate twin load gather join miner trio upgrade'; return ;;
+    help) [ "$COMP_CWORD" -ne 2 ] || _secrec_words 'check compile eval need run deal map simulate twin client-map client-simulate client-twin load gather join miner trio upgrade'; return ;;
     *) return ;;
   esac
   # (`--name=value` comes in three words)
   if [ "$current" = '=' ]; then current=''; elif [ "${COMP_WORDS[before]}" = '=' ]; then before=$((before - 1)); fi
   case ${COMP_WORDS[before]} in
     --input | --second | --public) _secrec_files '*.json'; return ;;
-    --code | --tape | --to | --schedule | --record | --views | --sim | --opened | --view | --share | --out | --log) _secrec_files '*'; return ;;
+    --code | --tape | --to | --schedule | --record | --views | --sim | --opened | --published | --view | --share | --out | --log) _secrec_files '*'; return ;;
     --seed | --words | --budget | --shuffle | --number | --port | --wait) return ;;
     --me) _secrec_words '1 2 3'; return ;;
   esac

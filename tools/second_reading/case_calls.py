@@ -16,7 +16,7 @@ from network import random_delivery
 from runs import Case
 from verdict import judge
 
-READ = ("--input", "--second", "--tape", "--sim", "--public", "--opened", "--schedule")
+READ = ("--input", "--second", "--tape", "--sim", "--public", "--opened", "--published", "--schedule")
 WRITTEN = ("--to", "--views", "--record", "--view")
 LARGE_ELEMENTS, LARGE_COST = 20_000, 20_000
 TAPE_WORDS = 200_000
@@ -68,9 +68,11 @@ class CaseCalls:
         miners = [self.source.randint(1, 3)] if self.large else [1, 2, 3]
         for miner in miners:
             self.simulations(miner)
+        self.client_simulations()
         self.second_inputs()
         for miner in miners:
             self.twins(miner)
+        self.client_twins()
         self.seeded()
         if self.source.random() < 0.4:
             self.odd_paths()
@@ -197,6 +199,35 @@ class CaseCalls:
     def simulate(self, miner: int, tapes: str, opened: str, view: str, *delivery: str) -> Answer:
         words = ["simulate", str(miner), "p.sc", "--public", "public", "--opened", opened, "--sim", tapes, "--view", view]
         return self.folder.call(*self.with_budget(*words), *delivery)
+
+    def client_simulations(self):
+        """The client's view: what the simulator is given, and what it makes of this, and of words of no run."""
+        words = self.with_budget("client-map", "p.sc", "--input", "i.json", "--tape", "t", "--sim", "client_sim")
+        self.folder.call(*words, "--public", "public", "--opened", "opened", "--published", "published")
+        self.client_simulate("client_sim", "opened", "published")
+        handed = sum(len(event.words) for event in self.report.handed())
+        for name, have in (("few", len(self.report.opened)), ("few_handed", handed)):
+            count = max(have + self.source.choice((0, 0, 1, 5, -1, -have)), 0)
+            text = self.opened_text(count)
+            self.folder.put(name, text if name == "few" else text.replace(b"open", b"publish v"))
+        self.client_simulate("client_sim", "few", "few_handed")
+
+    def client_simulate(self, tapes: str, opened: str, published: str) -> Answer:
+        words = ["client-simulate", "p.sc", "--public", "public", "--opened", opened, "--published", published, "--sim", tapes]
+        return self.folder.call(*self.with_budget(*words), "--view", "client_view")
+
+    def client_twins(self):
+        """Tapes on which the second inputs give the client the same view, and the way back."""
+        given = ["--input", "i.json", "--second", "j.json", "--tape", "t", "--to", "client_twin"]
+        if self.folder.call(*self.with_budget("client-twin", "p.sc", *given)).status:
+            return
+        given = ["--input", "j.json", "--second", "i.json", "--tape", "client_twin", "--to", "client_back"]
+        self.folder.call(*self.with_budget("client-twin", "p.sc", *given))
+        same(self.folder, "client_back", "t")
+        words = self.with_budget("client-map", "p.sc", "--input", "j.json", "--tape", "client_twin", "--sim", "twin_sim")
+        self.folder.call(*words, "--public", "twin_public", "--opened", "twin_opened", "--published", "twin_published")
+        for made, wanted in (("twin_sim", "client_sim"), ("twin_opened", "opened"), ("twin_published", "published")):
+            same(self.folder, made, wanted)
 
     def other_simulation(self, miner: int):
         """On tapes and opened words of no run."""

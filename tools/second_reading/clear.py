@@ -81,11 +81,12 @@ class End:
 
 @dataclass(frozen=True)
 class Event:
-    """An opened value (without a name) or a published one."""
+    """An opened value (without a name) or a published one, which is handed over where it is private."""
 
     name: str | None
     data: Data
     words: tuple[int, ...]
+    handed: bool = False
 
     def line(self) -> str:
         head = "open" if self.name is None else f"publish {self.name}"
@@ -110,6 +111,10 @@ class Report:
     def open_lines(self) -> list[str]:
         return [event.line() for event in self.events if event.name is None]
 
+    def handed(self) -> list[Event]:
+        """The private values that are published."""
+        return [event for event in self.events if event.handed]
+
     def opened_by_gates(self) -> list[int]:
         """The words that gates open: `opened` has one for each element, and of truth values these are packed."""
         return [word for event in self.events if event.name is None for word in gate_words(event.data, event.words)]
@@ -128,6 +133,10 @@ class Ended(Exception):
 
 class OpenedShort(Exception):
     """A value that is opened wants more answers than are left."""
+
+
+class PublishedShort(Exception):
+    """A value that is handed over wants more words than are left."""
 
 
 class Breaking(Exception):
@@ -206,14 +215,15 @@ class Frame:
 
 
 class Evaluation:
-    """One evaluation; with `answers` it is blind to private values."""
+    """One evaluation; with `answers` it is blind to private values, and with `handed` it is told those that are handed over."""
 
-    def __init__(self, program: Runnable, inputs: list[Input], budget: int, lengths, answers: list[int] | None = None):
-        self.program, self.budget, self.lengths, self.answers = program, budget, lengths, answers
+    def __init__(self, program: Runnable, inputs: list[Input], budget: int, lengths, answers: list[int] | None = None,
+                 handed: list[int] | None = None):
+        self.program, self.budget, self.lengths, self.answers, self.handed = program, budget, lengths, answers, handed
         self.inputs = {entry.name: entry for entry in inputs}
         self.private_names = [entry.name for entry in inputs if entry.type.private]
         self.dealer = dealer_need(inputs)
-        self.cost, self.depth, self.answers_used = 0, 0, 0
+        self.cost, self.depth, self.answers_used, self.handed_used = 0, 0, 0, 0
         self.events: list[Event] = []
         self.opened: list[int] = []
         self.used = [0, 0, 0]
@@ -597,9 +607,19 @@ class Evaluation:
     def publish(self, name: str, value: Value) -> None:
         self.charge(1)
         self.charge_rest(len(value.words))
+        words = tuple(value.words)
         if value.type.private:
             self.making(lambda made: handed_over(made, Kind.RESULT, value))
-        self.events.append(Event(name, value.type.data, tuple(value.words)))
+            words = words if self.handed is None else self.told(value)
+        self.events.append(Event(name, value.type.data, words, value.type.private))
+
+    def told(self, value: Value) -> tuple[int, ...]:
+        """The next words of what is handed over, as those of this value."""
+        taken = self.handed[self.handed_used : self.handed_used + len(value.words)]
+        if len(taken) < len(value.words):
+            raise PublishedShort
+        self.handed_used += len(value.words)
+        return tuple(word & 1 if value.type.data is Data.TRUTH else word for word in taken)
 
     def argument(self, node: tree.Argument, wanted: ValueType) -> Value:
         return self.asked(node.name, wanted, node)
@@ -827,7 +847,7 @@ def evaluate(program: Runnable, inputs: list[Input], budget: int, lengths=UNBOUN
     return evaluated_once(program, tuple(inputs), budget, tuple(lengths))
 
 
-def evaluate_blind(program: Runnable, inputs: list[Input], answers: list[int], budget: int, lengths) -> Report:
-    """Evaluation that knows opened words alone; private inputs count as zeros."""
+def evaluate_blind(program: Runnable, inputs: list[Input], answers: list[int], budget: int, lengths, handed: list[int] | None = None) -> Report:
+    """Evaluation that knows opened words alone, and those that are handed over where they are told; private inputs count as zeros."""
     blinded = [replace(entry, words=(0,) * len(entry.words)) if entry.type.private else entry for entry in inputs]
-    return Evaluation(program, blinded, budget, lengths, answers).report()
+    return Evaluation(program, blinded, budget, lengths, answers, handed).report()

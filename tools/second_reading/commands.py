@@ -6,15 +6,17 @@ from functools import lru_cache
 
 from chacha import tape_words
 from code_file import encode
-from clear import UNBOUNDED, Input, OpenedShort, Report, Runnable, ValueType, dealer_need, evaluate, evaluate_blind, runnable_of
+from clear import (
+    UNBOUNDED, Input, OpenedShort, PublishedShort, Report, Runnable, ValueType, dealer_need, evaluate, evaluate_blind, gate_words, runnable_of,
+)
 from entries import read_inputs, read_public
 from files import (
-    read_opened, read_schedule, read_tapes, write_opened, write_own_tape, write_public, write_schedule, write_share, write_tapes,
-    write_view,
+    read_opened, read_published, read_schedule, read_tapes, write_client_view, write_opened, write_own_tape, write_public, write_published,
+    write_schedule, write_share, write_tapes, write_view,
 )
 from miner_files import read_code, read_first_code, read_own_tape
 from miner_texts import joined, lines_of
-from joint import Direction, JointRun, SimulatedMiner, map_tapes
+from joint import CLIENT, Direction, JointRun, SimulatedMiner, map_tapes, simulated_shares
 from network import Outcome, default_delivery, listed_delivery, shuffled_delivery
 from refusals import CallRefused
 from shares import gathered, read_share
@@ -72,6 +74,7 @@ class Caller:
             "check": self.check, "compile": self.compile, "eval": self.eval, "need": self.need, "run": self.run, "map": self.map,
             "simulate": self.simulate, "twin": self.twin, "deal": self.deal, "load": self.load,
             "gather": self.gather, "join": self.join, "miner": self.miner, "trio": self.trio, "upgrade": self.upgrade,
+            "client-map": self.client_map, "client-simulate": self.client_simulate, "client-twin": self.client_twin,
         }
         try:
             asked = read_words(words)
@@ -175,13 +178,21 @@ class Caller:
 
     def map(self, words: Words) -> Answer:
         """What the simulator of a view is given."""
-        miner, program = words.number("miner"), self.program(words["program"])
+        return Answer(written=[(words[name], data) for name, data in self.mapped(words, words.number("miner"))])
+
+    def client_map(self, words: Words) -> Answer:
+        """What the simulator of the client's view is given."""
+        return Answer(written=[(words[name], data) for name, data in self.mapped(words, CLIENT)])
+
+    def mapped(self, words: Words, looker: int) -> Written:
+        """What is told of a run to the simulator of one who looks."""
+        program = self.program(words["program"])
         inputs = read_inputs(self.read(words["input"]))
         tapes = read_tapes(self.read(words["tape"]))
         report = self.evaluated(program, inputs, budget_of(words), [len(tape) for tape in tapes])
-        mapped = map_tapes(miner, Direction.TO_SIMULATOR, report.gates, inputs, tapes, report.inputs_dealt)
-        made = {"sim": write_tapes(mapped), "public": write_public(inputs), "opened": write_opened(report)}
-        return Answer(written=[(words[name], data) for name, data in made.items()])
+        mapped = map_tapes(looker, Direction.TO_SIMULATOR, report.gates, inputs, tapes, report.inputs_dealt)
+        made: Written = [("sim", write_tapes(mapped)), ("public", write_public(inputs)), ("opened", write_opened(report))]
+        return made + ([("published", write_published(report))] if looker == CLIENT else [])
 
     def simulate(self, words: Words) -> Answer:
         """The view that the simulator makes."""
@@ -200,9 +211,33 @@ class Caller:
         view = write_view(miner, inputs, seen.dealt, seen.drawn(), outcome.delivered, seen.received, report)
         return Answer(written=[(words["view"], view)])
 
+    def client_simulate(self, words: Words) -> Answer:
+        """The view that the simulator makes for the client."""
+        program = self.program(words["program"])
+        inputs = read_public(self.read(words["public"]))
+        opened = read_opened(self.read(words["opened"]))
+        published = read_published(self.read(words["published"]))
+        tapes = read_tapes(self.read(words["sim"]))
+        try:
+            report = evaluate_blind(program, inputs, opened, budget_of(words), [len(tape) for tape in tapes], published)
+        except OpenedShort:
+            raise CallRefused(f"V2 have {len(opened)}", 15) from None
+        except PublishedShort:
+            raise CallRefused(f"V3 have {len(published)}", 15) from None
+        self.reports.append(report)
+        handed = [gate_words(event.data, event.words) for event in report.handed()]
+        return Answer(written=[(words["view"], write_client_view(report, simulated_shares(report.gates, handed, tapes)))])
+
     def twin(self, words: Words) -> Answer:
         """The first run's tapes, for the second inputs."""
-        miner, program = words.number("miner"), self.program(words["program"])
+        return self.twinned(words, words.number("miner"))
+
+    def client_twin(self, words: Words) -> Answer:
+        """The same for what the client sees."""
+        return self.twinned(words, CLIENT)
+
+    def twinned(self, words: Words, looker: int) -> Answer:
+        program = self.program(words["program"])
         first = read_inputs(self.read(words["input"]))
         second = read_inputs(self.read(words["second"]))
         tapes = read_tapes(self.read(words["tape"]))
@@ -210,8 +245,10 @@ class Caller:
         alike_public(first, second)
         reports = [self.evaluated(program, inputs, budget_of(words), lengths) for inputs in (first, second)]
         alike_opened(*reports)
-        mapped = map_tapes(miner, Direction.TO_SIMULATOR, reports[0].gates, first, tapes, reports[0].inputs_dealt)
-        twin = map_tapes(miner, Direction.FROM_SIMULATOR, reports[1].gates, second, mapped, reports[1].inputs_dealt)
+        if looker == CLIENT:
+            alike_handed(*reports)
+        mapped = map_tapes(looker, Direction.TO_SIMULATOR, reports[0].gates, first, tapes, reports[0].inputs_dealt)
+        twin = map_tapes(looker, Direction.FROM_SIMULATOR, reports[1].gates, second, mapped, reports[1].inputs_dealt)
         return Answer(written=[(words["to"], write_tapes(twin))])
 
     def deal(self, words: Words) -> Answer:
@@ -304,3 +341,13 @@ def alike_opened(first: Report, second: Report):
             raise CallRefused(f"Z1 opened {place} {one} {other}", 14)
     if len(first.opened) != len(second.opened):
         raise AssertionError("opened lists of alike inputs that differ in length alone")
+
+
+def alike_handed(first: Report, second: Report):
+    """The elements of what is handed over, one after another."""
+    ones, others = ([word for event in report.handed() for word in event.words] for report in (first, second))
+    for place, (one, other) in enumerate(zip(ones, others)):
+        if one != other:
+            raise CallRefused(f"Z1 published {place} {one} {other}", 14)
+    if len(ones) != len(others):
+        raise AssertionError("as many elements of alike inputs are handed over in each run")

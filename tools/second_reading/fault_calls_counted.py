@@ -31,6 +31,7 @@ from served_programs import KEPT_PRODUCT, PRODUCT, TWO, of_main
 
 STEP = 7
 SUM = of_main(TWO + 'publish("s", declassify(a + b));')
+HANDED = of_main(TWO + 'publish("s", a + b);')
 SEED = "00" * 32
 
 
@@ -155,13 +156,15 @@ def answered(answer: Answer) -> list[str]:
 def model_files() -> dict[str, bytes]:
     """The files of all calls; those that a call makes for another are made by the model."""
     found = {
-        "sum.sc": SUM.encode(), "wrong.sc": of_main("x = 1;").encode(), "sum.json": write_inputs(SIX_SEVEN),
+        "sum.sc": SUM.encode(), "handed.sc": HANDED.encode(), "wrong.sc": of_main("x = 1;").encode(), "sum.json": write_inputs(SIX_SEVEN),
         "second.json": write_inputs([number("a", 5), number("b", 8)]), "other.json": write_inputs([number("a", 6), number("b", 8)]),
         "sum.tape": write_tapes([[0] * 4, [0], [0], [0]]), "short.tape": write_tapes([[0] * 3, [0], [0], [0]]),
         "cut.tape": write_tapes([[0] * 4, [0], [0], [0]])[:32], "none": b"", "first.code": encode(decode(PRODUCT.code), FIRST), "second.code": PRODUCT.code,
     }
     for words in ("map 1 sum.sc --input sum.json --tape sum.tape --sim sum.sim --public sum.public --opened sum.opened",
                   "run sum.sc --input sum.json --tape sum.tape --record sum.order",
+                  "client-map handed.sc --input sum.json --tape sum.tape --sim client.sim --public client.public --opened client.opened"
+                  " --published client.published",
                   "deal --input sum.json --tape sum.tape --to dealt", "deal --input renamed.json --tape sum.tape --to more"):
         found["renamed.json"] = write_inputs([number("c", 6), number("d", 7)])
         found |= {path: data for path, data in Caller(found, set()).call(words.split()).written}
@@ -180,6 +183,10 @@ COMMANDS = (
     ("map", "map 3 sum.sc --input sum.json --tape sum.tape --sim sim --public public --opened opened"),
     ("simulate", "simulate 1 sum.sc --public sum.public --opened sum.opened --sim sum.sim --schedule sum.order --view view"),
     ("twin", "twin 3 sum.sc --input sum.json --second second.json --tape sum.tape --to other.tape"),
+    ("client-map", "client-map handed.sc --input sum.json --tape sum.tape --sim sim --public public --opened opened --published published"),
+    ("client-simulate", "client-simulate handed.sc --public client.public --opened client.opened --published client.published --sim client.sim"
+     " --view view"),
+    ("client-twin", "client-twin handed.sc --input sum.json --second second.json --tape sum.tape --to other.tape"),
     ("load", "load --number 2"),
     ("deal", "deal --input sum.json --tape sum.tape --to d"),
     ("gather", "gather --me 2 --to all dealt.2 more.2"),
@@ -192,6 +199,9 @@ REFUSED = (
     ("a tape of a run that is cut to its lengths", "run sum.sc --input sum.json --tape cut.tape --views v"),
     ("a tape that is refused", "deal --input sum.json --tape none --to d"),
     ("opened words that are too few", "simulate 1 sum.sc --public sum.public --opened none --sim sum.sim --view view"),
+    ("words of what is handed over that are too few", "client-simulate handed.sc --public client.public --opened client.opened --published none"
+     " --sim client.sim --view view"),
+    ("inputs that hand over other values", "client-twin handed.sc --input sum.json --second other.json --tape sum.tape --to other.tape"),
     ("inputs that are not alike", "twin 3 sum.sc --input sum.json --second other.json --tape sum.tape --to other.tape"),
     ("a name that stands twice", "gather --me 2 --to all dealt.2 again.2"),
     ("code that is upgraded already", "upgrade second.code --code code"),

@@ -5,7 +5,7 @@ import json
 import re
 import struct
 
-from clear import Input, Report, signed
+from clear import Event, Input, Report, signed
 from joint import LINKS
 from refusals import CallRefused
 from tree import Data
@@ -129,6 +129,23 @@ def read_opened(data: bytes) -> list[int]:
     return words
 
 
+NAME = re.compile(rb"[A-Za-z0-9_]{1,64}")
+
+
+def read_published(data: bytes) -> list[int]:
+    """The words of all lines; names are not kept."""
+    lines, whole = lines_of(data)
+    words = []
+    for number, line in enumerate(lines, 1):
+        parts = line.split(b" ")
+        named = len(parts) > 1 and NAME.fullmatch(parts[1])
+        if parts[0] != b"publish" or not named or (number == len(lines) and not whole):
+            raise CallRefused(f"V1 line {number}", 4)
+        for part in parts[2:]:
+            words.append(opened_word(part, number))
+    return words
+
+
 def opened_word(part: bytes, line: int) -> int:
     if part in (b"true", b"false"):
         return int(part == b"true")
@@ -157,6 +174,25 @@ def write_schedule(delivered: list[int]) -> bytes:
 
 def write_opened(report: Report) -> bytes:
     return "".join(line + "\n" for line in report.open_lines()).encode()
+
+
+def write_published(report: Report) -> bytes:
+    """The lines of what is handed over."""
+    return "".join(event.line() + "\n" for event in report.handed()).encode()
+
+
+def write_client_view(report: Report, given: list[list[list[int]]]) -> bytes:
+    """The client's view; `given` has the three miners' shares of each value that is handed over."""
+    lines, shares = ["client"], iter(given)
+    for event in report.events:
+        lines += from_lines(event, next(shares)) if event.handed else []
+        lines.append(event.line())
+    lines.append(report.end_line())
+    return "".join(line + "\n" for line in lines).encode()
+
+
+def from_lines(event: Event, shares: list[list[int]]) -> list[str]:
+    return [words_line(f"from {miner} {event.name}", shares[miner]) for miner in (1, 2, 3)]
 
 
 def write_view(miner: int, inputs: list[Input], shares, drawn, delivered, messages, report: Report) -> bytes:

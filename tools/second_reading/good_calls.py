@@ -64,6 +64,11 @@ LINES = (
     Line("simulate", ("2", "p.sc"), (("public", "public"), ("opened", "opened"), ("sim", "sim"), ("view", "w"), *ORDERED)),
     Line("simulate", ("3", "p.sc"), (("public", "public"), ("opened", "opened"), ("sim", "sim"), ("view", "w"), ("shuffle", SEED))),
     Line("twin", ("3", "p.sc"), (("input", "i.json"), ("second", "j.json"), ("tape", "t"), ("to", "u"), ("budget", "100"))),
+    Line("client-map", ("p.sc",),
+         (("input", "i.json"), ("tape", "t"), ("sim", "m"), ("public", "q"), ("opened", "o"), ("published", "h"), ("budget", "100"))),
+    Line("client-simulate", ("p.sc",),
+         (("public", "public"), ("opened", "opened"), ("published", "published"), ("sim", "client_sim"), ("view", "w"), ("budget", "100"))),
+    Line("client-twin", ("p.sc",), (("input", "i.json"), ("second", "i.json"), ("tape", "t"), ("to", "u"), ("budget", "100"))),
     Line("deal", (), (("input", "i.json"), ("tape", "t"), ("to", "d"))),
     Line("load", (), (("number", "2"),)),
     Line("gather", ("first.2", "second.2"), (("me", "2"), ("to", "g"))),
@@ -83,9 +88,9 @@ TEXTS = [
 ]
 WRITTEN = {
     "compile": ("code",), "run": ("views", "record"), "map": ("sim", "public", "opened"), "simulate": ("view",), "twin": ("to",),
-    "deal": ("to",), "gather": ("to",), "upgrade": ("code",),
+    "client-map": ("sim", "public", "opened", "published"), "client-simulate": ("view",), "client-twin": ("to",), "deal": ("to",), "gather": ("to",), "upgrade": ("code",),
 }
-FILE_OPTIONS = ("input", "second", "public", "opened", "tape", "sim", "schedule")
+FILE_OPTIONS = ("input", "second", "public", "opened", "published", "tape", "sim", "schedule")
 
 
 def is_read(line: Line, name: str) -> bool:
@@ -107,6 +112,7 @@ def made_files() -> dict[str, bytes]:
     caller = Caller(files, set())
     given = ["p.sc", "--input", "i.json", "--tape", "t"]
     for words in (["map", "2", *given, "--sim", "sim", "--public", "public", "--opened", "opened"],
+                  ["client-map", *given, "--sim", "client_sim", "--public", "public", "--opened", "opened", "--published", "published"],
                   ["run", *given, "--shuffle", SEED, "--record", "s"]):
         answer = caller.call(words)
         files.update({path: data for path, data in answer.written if data is not None})

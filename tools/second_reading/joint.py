@@ -1,4 +1,4 @@
-"""The joint run of three miners on a list of gates, the maps of tapes, and the simulated miner."""
+"""The joint run of three miners on a list of gates, the maps of tapes, and the simulated miner and client."""
 from __future__ import annotations
 
 from dataclasses import dataclass
@@ -8,6 +8,8 @@ from clear import Input
 from gates import INTERACTIVE, MASK, Gate, Kind, Ring, blocks_of, local_share
 
 LINKS = (12, 13, 21, 23, 31, 32)
+# Who looks, in the place of a miner's number.
+CLIENT = 0
 
 
 def next_of(miner: int) -> int:
@@ -45,6 +47,10 @@ def bit(word: int) -> int:
 
 def map_block(miner: int, direction: Direction, place: BlockPlace, source: list[list[int]], target: list[list[int]]):
     """Writes into the target what a block's slots hold there, by the source's words and the shares."""
+    if miner == CLIENT:
+        if place.gate.kind is Kind.RESULT:
+            map_result(direction, place, source, target)
+        return
     before, behind = previous_of(miner), next_of(miner)
     kind, ring, size, starts = place.gate.kind, place.gate.ring, place.size, place.starts
     if kind in (Kind.MULTIPLY, Kind.OPEN):
@@ -61,6 +67,22 @@ def map_block(miner: int, direction: Direction, place: BlockPlace, source: list[
     elif kind is Kind.CONVERT and miner in (2, 3):
         for element in range(size):
             map_conversion(miner, direction, place, element, source[1], target[1])
+
+
+def map_result(direction: Direction, place: BlockPlace, source: list[list[int]], target: list[list[int]]):
+    """What the client looks at: the masks of miners 1 and 2 become their new shares."""
+    ring = place.gate.ring
+    for element in range(place.size):
+        slots = [0] + [place.starts[miner] + element for miner in (1, 2, 3)]
+        one, two, three = (source[miner][slots[miner]] for miner in (1, 2, 3))
+        first, second = place.operands[0][1][element], place.operands[0][2][element]
+        if direction is Direction.TO_SIMULATOR:
+            target[1][slots[1]] = ring.subtract(ring.add(first, one), three)
+            target[2][slots[2]] = ring.subtract(ring.add(second, two), one)
+        else:
+            real = ring.add(ring.subtract(one, first), three)
+            target[1][slots[1]] = real
+            target[2][slots[2]] = ring.add(ring.subtract(two, second), real)
 
 
 def map_conversion(miner: int, direction: Direction, place: BlockPlace, element: int, source: list[int], target: list[int]):
@@ -379,3 +401,20 @@ class SimulatedMiner:
             made = [-word & MASK if s else word for word, s in zip(m, turned)]
         own, other = masks[self.miner], masks[self.before]
         return [(w + x - y) & MASK for w, x, y in zip(made, own, other)]
+
+
+# The words that each miner draws for an element.
+LETTERS = {Kind.MULTIPLY: (3, 3, 3), Kind.SPLIT: (1, 0, 0), Kind.CONVERT: (4, 1, 1), Kind.OPEN: (1, 1, 1), Kind.RESULT: (1, 1, 1)}
+
+
+def simulated_shares(gates: list[Gate], handed: list[list[int]], tapes: list[list[int]]) -> list[list[list[int]]]:
+    """The three shares of each value that is handed over, made of its words as gates have them and of tapes; no share is known here."""
+    starts, made, left = [0, 0, 0, 0], [], iter(handed)
+    for gate in gates:
+        if gate.kind is Kind.RESULT:
+            first, second = (tapes[miner][starts[miner] : starts[miner] + gate.size] for miner in (1, 2))
+            third = [gate.ring.subtract(gate.ring.subtract(x, u), v) for x, u, v in zip(next(left), first, second)]
+            made.append([[], first, second, third])
+        for miner, count in zip((1, 2, 3), LETTERS.get(gate.kind, (0, 0, 0))):
+            starts[miner] += count * gate.size
+    return made

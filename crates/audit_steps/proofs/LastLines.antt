@@ -5,6 +5,7 @@ use Rattle.std.proofs.Common.{refl, sym, ◌∙◌, ap, subst, arith}
 use Rattle.std.proofs.lemmas.List.{drop_all, drop_more}
 use Rattle.std.proofs.lemmas.Bool.{and_left, and_right}
 use Rattle.sc_text.specs.declared.elements.Element.{Element}
+use Rattle.sc_text.specs.declared.elements.ElementKind.{ElementKind}
 use Rattle.sc_text.specs.declared.event.Event.{Event}
 use Rattle.sc_text.specs.declared.event.Event.TheVariants.{Open, Publish, Hand}
 use Rattle.sc_text.specs.declared.end.End.{End}
@@ -96,9 +97,9 @@ module _ (events : List Event) (end shown : End) (opened : List (List Element)) 
         → Followed events end shown opened (n + 1) taken
     took_none name elements is taken still = no_line (Publish name elements) is refl taken still
 
-    pub took_none_either : (name : List ℕ) (elements : List Element) → e ≡ Hand name elements → (taken : ℕ) → taken ≡ p
+    pub took_none_either : (name : List ℕ) (kind : ElementKind) (elements : List Element) → e ≡ Hand name kind elements → (taken : ℕ) → taken ≡ p
         → Followed events end shown opened (n + 1) taken
-    took_none_either name elements is taken still = no_line (Hand name elements) is refl taken still
+    took_none_either name kind elements is taken still = no_line (Hand name kind elements) is refl taken still
 
     module _ (elements : List Element) (is : e ≡ Open elements) where
       abbrev tested : Bool → Option ℕ

@@ -51,7 +51,7 @@ end_then end shown (o ∷ os) = Some 0
 abbrev pub event_then : Event → List (List Element) → (List (List Element) → Option ℕ) → Option ℕ
 event_then (Open elements) opened more = if is_first_opening elements opened then one_later (more (drop 1 opened)) else Some 0
 event_then (Publish name elements) opened more = more opened
-event_then (Hand name elements) opened more = more opened
+event_then (Hand name kind elements) opened more = more opened
 
 -- the place of the first line that isn't as events and end tell, among the lines of these openings and the line of this end after them
 abbrev pub wrong_end_at : List Event → (end shown : End) → List (List Element) → Option ℕ

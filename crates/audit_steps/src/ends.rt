@@ -89,7 +89,7 @@ pub fn wrong_end_at(events: &[Event], end: End, opened: &[Elements], shown: End)
                 taken += 1;
             }
             Event::Publish(_, _) => {}
-            Event::Hand(_, _) => {}
+            Event::Hand(_, _, _) => {}
         }
     }
     if taken == opened.len() && same_end(end, shown) {

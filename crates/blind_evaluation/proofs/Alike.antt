@@ -48,7 +48,7 @@ pub record Alike {A B : Type 0} (R : A → B → Type 0) (c : Effect A) (c' : Ef
 same_event : (e : Event) → LikeEvent e e
 same_event (Open elements) = refl
 same_event (Publish text elements) = (refl, refl)
-same_event (Hand text elements) = (refl, refl)
+same_event (Hand text kind elements) = (refl, refl, refl)
 
 same_events : (es : List Event) → LikeEvents es es
 same_events [] = tt

@@ -3,9 +3,9 @@ use Rattle.std.proofs.Common.{◌≡◌, ℕ, suc, ◌+◌, ◌*◌, ◌-◌, Li
 use Rattle.std.proofs.Common.{refl, sym, ap, ◌∙◌, subst}
 use Rattle.std.specs.Prelude.{get_or, nat_le, nat_lt, map, replicate, set, sum, not, ◌&&◌, ◌==◌, ◌%◌, ◌^◌}
 use Rattle.std.specs.List.{flat_map}
+use Rattle.std.proofs.lemmas.List.{length-map}
 use Rattle.std.proofs.lemmas.List.Elements.{AllZip-push}
 use Rattle.std.proofs.Math.Seq.{take-append_seam, drop-append_seam}
-use Rattle.sc_text.specs.declared.elements.Element.TheVariants.{Word, Negative}
 use Rattle.sc_text.specs.declared.end.TrapKind.TheVariants as trap
 use Rattle.sc_text.specs.declared.event.Event.{Event}
 use Rattle.sc_text.specs.declared.event.Event.TheVariants as event
@@ -36,7 +36,7 @@ use Rattle.language_model.specs.Operations.{converted, relabelled, cast_from, ca
 use Rattle.language_model.specs.Operations.{bits_extracted, words_for_lookup, looked_up, lookup, concatenated_from, concatenated, position, element_from, element_of_array}
 use Rattle.language_model.specs.Operations.{with_element_from, with_element, filled_from, filled, handed_over, publication, published, tested, asserted}
 use Rattle.language_model.specs.Reports.{Offered, world_of, public_part}
-use Rattle.blind_evaluation.specs.Courses.{is_truth, LikeEvent, LikeEvents}
+use Rattle.blind_evaluation.specs.Courses.{LikeEvent, LikeEvents}
 use Rattle.blind_evaluation.proofs.Alike.{retold, SameOutcome, Alike, alike_bind, alike_done, Same, Any, same_bind, any_bind, charge_alike}
 use Rattle.blind_evaluation.proofs.Alike.{gate_alike, planned_alike, emit_alike, to_equal, charge_equal, test_equal, draw_equal, gate_equal}
 use Rattle.blind_evaluation.proofs.AlikeValues.{LikeValues, plains, unmade, made, like_size, like_seen, like_shape, like_secrecy}
@@ -237,26 +237,9 @@ same_classified op {x = x} {y' = y'} l m =
     ap (λ s. not (is_product op) && (is_secret s && not (is_secret x.secrecy))) (like_secrecy m)
     ∙ ap (λ s. not (is_product op) && (is_secret y'.secrecy && not (is_secret s))) (like_secrecy l)
 
--- elements of one kind are alike, whatever their words
-same_kind : (e : DataType) (x y : ℕ) → is_truth (element_of e x) ≡ is_truth (element_of e y)
-same_kind Uint64 x y = refl
-same_kind Int64 x y = no_truth (nat_le (2 ^ 63) x && nat_lt x (2 ^ 64)) x ∙ sym (no_truth (nat_le (2 ^ 63) y && nat_lt y (2 ^ 64)) y)
-  where
-    no_truth : (b : Bool) (z : ℕ) → is_truth (cond b (Negative (2 ^ 64 - z)) (Word z)) ≡ false
-    no_truth true z = refl
-    no_truth false z = refl
-same_kind datatype.Bool x y = refl
-
-same_kinds : (e : DataType) (xs ys : List ℕ) → length xs ≡ length ys → map is_truth (map (element_of e) xs) ≡ map is_truth (map (element_of e) ys)
-same_kinds e [] [] h = refl
-same_kinds e [] (y ∷ ys) h = absurd cc
-same_kinds e (x ∷ xs) [] h = absurd cc
-same_kinds e (x ∷ xs) (y ∷ ys) h =
-    ap (λ b. b ∷ map is_truth (map (element_of e) xs)) (same_kind e x y)
-    ∙ ap (λ (bs : List Bool). is_truth (element_of e y) ∷ bs) (same_kinds e xs ys (suc_back (length xs) (length ys) h))
-  where
-    suc_back : (n m : ℕ) → suc n ≡ suc m → n ≡ m
-    suc_back n m p = cc
+-- as many elements as words
+same_number : (e : DataType) (xs ys : List ℕ) → length xs ≡ length ys → length (map (element_of e) xs) ≡ length (map (element_of e) ys)
+same_number e xs ys h = length-map xs (element_of e) ∙ h ∙ sym (length-map ys (element_of e))
 
 module _ (o : Offered) where
   abbrev pub clear : World
@@ -469,13 +452,13 @@ module _ (o : Offered) where
   handed_alike (made shape k words words' e) = handed_private (Some k) (made shape k words words' e)
 
   same_publication : (text : List ℕ) {v v' : Value} → LikeValues v v'
-      → LikeEvent (publication v.secrecy text (elements_of v)) (publication v'.secrecy text (elements_of v'))
+      → LikeEvent (publication v.secrecy v.shape.element text (elements_of v)) (publication v'.secrecy v'.shape.element text (elements_of v'))
   same_publication text (plains shape words) = (refl, refl)
-  same_publication text (unmade shape words) = (refl, refl)
-  same_publication text (made shape k words words' e) = (refl, same_kinds shape.element words words' e)
+  same_publication text (unmade shape words) = (refl, refl, refl)
+  same_publication text (made shape k words words' e) = (refl, refl, same_number shape.element words words' e)
 
   pub published_alike : (text : List ℕ) {v v' : Value} → LikeValues v v'
       → Alike (Any {A = Unit {0}} {B = Unit {0}}) (published clear text v) (published unseen text v')
   published_alike text {v = v} {v' = v'} l =
       any_bind (sized_alike l) (λ _ _. any_bind (handed_alike l)
-      (λ _ _. emit_alike (publication v.secrecy text (elements_of v)) (publication v'.secrecy text (elements_of v')) (same_publication text l)))
+      (λ _ _. emit_alike (publication v.secrecy v.shape.element text (elements_of v)) (publication v'.secrecy v'.shape.element text (elements_of v')) (same_publication text l)))

@@ -1,23 +1,16 @@
 -- What two runs have in common that take the same course: all but the elements that are handed over.
-use Rattle.std.specs.Prelude.{◌≡◌, Bool, true, false, List, map}
+use Rattle.std.specs.Prelude.{◌≡◌, List, length}
 use Rattle.std.specs.List.{AllZip}
-use Rattle.sc_text.specs.declared.elements.Element.{Element}
-use Rattle.sc_text.specs.declared.elements.Element.TheVariants.{Word, Negative, Truth}
 use Rattle.sc_text.specs.declared.event.Event.{Event}
 use Rattle.sc_text.specs.declared.event.Event.TheVariants.{Open, Publish, Hand}
 use Rattle.language_model.specs.Effects.{RunStop, Ended, Short}
 use Rattle.language_model.specs.Reports.{Report}
 
-abbrev pub is_truth : Element → Bool
-is_truth (Word word) = false
-is_truth (Negative below) = false
-is_truth (Truth value) = true
-
--- an opening is the same, and so is a publication; what is handed over has the same name, and as many elements, of the same kinds
+-- an opening is the same, and so is a publication; what is handed over has the same name, and as many elements, of the same kind
 abbrev pub LikeEvent : Event → Event → Type 0
 LikeEvent (Open elements) (Open others) = elements ≡ others
 LikeEvent (Publish text elements) (Publish text' others) = (text ≡ text') × (elements ≡ others)
-LikeEvent (Hand text elements) (Hand text' others) = (text ≡ text') × (map is_truth elements ≡ map is_truth others)
+LikeEvent (Hand text kind elements) (Hand text' kind' others) = (text ≡ text') × (kind ≡ kind') × (length elements ≡ length others)
 LikeEvent e f = ⊥
 
 abbrev pub LikeEvents : List Event → List Event → Type 0

@@ -1,3 +1,4 @@
 pub mod Offers
 pub mod Reports
+pub mod ToldRuns
 pub mod inner

@@ -3,6 +3,7 @@
 #![tactic(auto)]
 
 mod beginning;
+mod blind_course;
 mod blind_run;
 mod calling;
 mod dealer;
@@ -22,6 +23,7 @@ mod slots;
 mod steps;
 mod words;
 
+pub use blind_course::{BlindRun, run_blind};
 pub use blind_run::{BlindErr, blind};
 pub use dealer::dealing;
 pub use laws::public_parts_are_public;

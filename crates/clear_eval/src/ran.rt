@@ -15,7 +15,7 @@ use crate::dealer::dealing;
 use crate::evaluation::body;
 use crate::report::{Needs, Report};
 use program_trees::{TypedFunction, TypedProgram};
-use sc_text::{End, Ending, TapeOwner};
+use sc_text::{End, Ending, Event, TapeOwner};
 use std::alloc::{AllocError, Global};
 use value_steps::{GivenInput, Halt, Lengths, MOST_CALLS, Source, Stage, World};
 
@@ -79,6 +79,20 @@ impl Ran<'_> {
             opened,
             gates,
         }
+    }
+
+    /// What the run told, as far as it came.
+    pub fn events(self) -> Vec<Event>
+        ensures { result.items ≡ (ran_seen self.entry).events }
+    {
+        let Ran {
+            stop: _,
+            cost: _,
+            dealt: _,
+            stage,
+        } = self;
+        let Stage { events, .. } = stage;
+        events
     }
 }
 

@@ -52,7 +52,7 @@ first_elements : List Event → List Element
 first_elements [] = []
 first_elements (Open elements ∷ es) = elements
 first_elements (Publish text elements ∷ es) = elements
-first_elements (Hand text elements ∷ es) = elements
+first_elements (Hand text kind elements ∷ es) = elements
 
 -- the three shares added up are the elements
 words_added :

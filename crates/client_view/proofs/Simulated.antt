@@ -31,7 +31,7 @@ use Rattle.program_views.specs.Views.{lengths_of, run_on, told_run}
 use Rattle.program_views.specs.Laws.{IsGivenTo}
 use Rattle.program_views.proofs.Given.{given_so}
 use Rattle.program_views.proofs.Simulated.{same_lengths, can_run}
-use Rattle.program_views.proofs.Undealt.{no_gates}
+use Rattle.program_views.proofs.Undealt.{no_events, no_gates}
 use Rattle.program_views.proofs.Blind.{takes_same_course, is_ended}
 use Rattle.handed_shares.specs.Handed.{all_of, handed_values}
 use Rattle.client_model.specs.ClientMaps.{to_client}
@@ -41,7 +41,7 @@ use Rattle.client_view.specs.Views.{ClientView, view_at, given_in, view_with, cl
 use Rattle.client_view.specs.Views.{client_simulated}
 use Rattle.client_view.specs.TapeMaps.{client_mapped}
 use Rattle.client_view.specs.Laws.{ClientViewIsSimulated, ClientViewsAreSimulated}
-use Rattle.client_view.proofs.Lists.{told_exactly, handed_words, all_handed}
+use Rattle.client_view.proofs.Lists.{HaveKinds, have_kinds, told_exactly, handed_words, all_handed}
 use Rattle.client_view.proofs.Maps.{client_maps_correspond}
 
 -- ---- THE SHARES ARE MADE
@@ -85,6 +85,21 @@ module _
         by_test true e = made_dealt (le_from _ _ e)
         by_test false e = subst IsMade (sym (no_gates p entries t budget e)) refl
 
+    kinds_dealt : need_of entries ≤ length t.dealer → HaveKinds r.events
+    kinds_dealt h =
+        let suits = suited h in
+        let reaches : Reaches entries r.gates t = can_run source p is entries given t are budget h in
+        let c = run_computes entries r.gates t suits.kinds are given.inputs.words h reaches suits.formed.kinded in
+        have_kinds r.events (facts.handed_values c.more r.gates) (suits.handed c.more c.fit)
+
+    -- what is handed over is of the kind that is told with it
+    kinds_told : HaveKinds r.events
+    kinds_told = by_test (is_dealt entries t) refl
+      where
+        by_test : (b : Bool) → is_dealt entries t ≡ b → HaveKinds r.events
+        by_test true e = kinds_dealt (le_from _ _ e)
+        by_test false e = subst HaveKinds (sym (no_events p entries t budget e)) tt
+
     -- ---- THE VIEW
 
     abbrev s : FourTapes
@@ -114,7 +129,7 @@ module _
         let o : Report = told_run p (part_of entries) (r.opened ++ words) (lengths_of t) budget in
         let course : TakeSameCourse r o = takes_same_course p entries (lengths_of t) budget words in
         ap (λ lengths. made_view (part_of entries) (published_of r.events ++ more) s (told_run p (part_of entries) (r.opened ++ words) lengths budget)) long
-        ∙ ap (made_with (part_of entries) s o) (told_exactly r.events o.events course.events more)
+        ∙ ap (made_with (part_of entries) s o) (told_exactly r.events o.events course.events kinds_told more)
         ∙ same_view o course
 
     pub client_is_simulated : ClientViewIsSimulated p entries t budget

@@ -1,7 +1,7 @@
 -- What the client sees of the run of a program, and what the simulator makes of it.
-use Rattle.std.specs.Prelude.{ℕ, nat_le, ◌==◌, ◌%◌, not, if◌then◌else◌, List, [], ◌∷◌, ◌++◌, length, map, drop, Option, Some, None}
+use Rattle.std.specs.Prelude.{ℕ, nat_le, if◌then◌else◌, List, [], ◌∷◌, ◌++◌, length, map, take, drop, Option, Some, None}
 use Rattle.sc_text.specs.declared.elements.Element.{Element}
-use Rattle.sc_text.specs.declared.elements.Element.TheVariants.{Word, Truth}
+use Rattle.sc_text.specs.declared.elements.ElementKind.{ElementKind}
 use Rattle.sc_text.specs.declared.event.Event.{Event}
 use Rattle.sc_text.specs.declared.event.Event.TheVariants.{Open, Publish, Hand}
 use Rattle.gates.specs.declared.gate.Gate.{Gate}
@@ -10,9 +10,9 @@ use Rattle.value_file.specs.declared.public.PublicEntry.{PublicEntry}
 use Rattle.tape_file.specs.Tapes.{FourTapes}
 use Rattle.program_trees.specs.TypedPrograms.{TypedProgramTree}
 use Rattle.language_model.specs.Effects.{RunStop, Ended, Short}
-use Rattle.language_model.specs.Learned.{elements_words}
+use Rattle.language_model.specs.Learned.{element_word, elements_words}
+use Rattle.language_model.specs.Values.{element_as}
 use Rattle.language_model.specs.Reports.{Report}
-use Rattle.view_reader.specs.Opened.{element_word}
 use Rattle.view_model.specs.Dealing.{dealt_to, private_sizes, hidden_sizes}
 use Rattle.view_model.specs.TapeMaps.{miners_of}
 use Rattle.program_views.specs.Views.{lengths_of, run_on, told_run}
@@ -30,8 +30,8 @@ abbrev pub sightings : List Event → List Given → List Sighting
 sightings [] given = []
 sightings (Open elements ∷ events) given = Opened elements ∷ sightings events given
 sightings (Publish text elements ∷ events) given = Said text elements ∷ sightings events given
-sightings (Hand text elements ∷ events) [] = sightings events []
-sightings (Hand text elements ∷ events) (g ∷ given) = Got text g elements ∷ sightings events given
+sightings (Hand text kind elements ∷ events) [] = sightings events []
+sightings (Hand text kind elements ∷ events) (g ∷ given) = Got text g elements ∷ sightings events given
 
 -- of a run that ended; one that wants an answer gives no view
 abbrev pub view_at : List Event → List Given → RunStop → (cost : ℕ) → Option ClientView
@@ -57,7 +57,7 @@ abbrev pub handed_elements : List Event → List (List Element)
 handed_elements [] = []
 handed_elements (Open elements ∷ events) = handed_elements events
 handed_elements (Publish text elements ∷ events) = handed_elements events
-handed_elements (Hand text elements ∷ events) = elements ∷ handed_elements events
+handed_elements (Hand text kind elements ∷ events) = elements ∷ handed_elements events
 
 -- their words, one for each element
 abbrev pub words_of : List Event → List (List ℕ)
@@ -81,25 +81,18 @@ abbrev pub and_then : Event → Option (List Event) → Option (List Event)
 and_then e None = None
 and_then e (Some events) = Some (e ∷ events)
 
--- a word as an element of this one's kind: of a truth value bit 0 counts
-abbrev pub told_as : Element → (word : ℕ) → Element
-told_as (Word old) word = Word word
-told_as (Truth old) word = Truth (not (word % 2 == 0))
-
--- the next words as elements of the kinds of these
-abbrev pub told_elements : List Element → (words : List ℕ) → List Element
-told_elements [] words = []
-told_elements (e ∷ elements) [] = []
-told_elements (e ∷ elements) (word ∷ words) = told_as e word ∷ told_elements elements words
+-- so many of the next words, as elements of this kind
+abbrev pub told_elements : ElementKind → (count : ℕ) → (words : List ℕ) → List Element
+told_elements kind count words = map (element_as kind) (take count words)
 
 -- these events, each that hands over with the next of the words that are told, as many as it has elements; nothing where they are too few
 abbrev pub told_events : List Event → (published : List ℕ) → Option (List Event)
 told_events [] published = Some []
 told_events (Open elements ∷ events) published = and_then (Open elements) (told_events events published)
 told_events (Publish text elements ∷ events) published = and_then (Publish text elements) (told_events events published)
-told_events (Hand text elements ∷ events) published =
+told_events (Hand text kind elements ∷ events) published =
     if nat_le (length elements) (length published)
-    then and_then (Hand text (told_elements elements published)) (told_events events (drop (length elements) published))
+    then and_then (Hand text kind (told_elements kind (length elements) published)) (told_events events (drop (length elements) published))
     else None
 
 -- of the run of one who is told what is opened, with these events in it

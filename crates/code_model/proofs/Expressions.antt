@@ -2,11 +2,11 @@
 use Rattle.std.proofs.Common.{◌≡◌, ℕ, ◌+◌, List, [], ◌∷◌, ◌++◌, length, Option, Some, None, Bool, false, refl, sym, ap, ◌∙◌}
 use Rattle.std.proofs.Common.{subst, arith, length-append}
 use Rattle.std.specs.Prelude.{slice_get}
-use Rattle.program_trees.specs.declared.expression.DataType.TheVariants.{Uint64}
+use Rattle.program_trees.specs.declared.expression.DataType.TheVariants.{Uint64, Int64}
 use Rattle.program_trees.specs.declared.expression.DataType.TheVariants as datatype
 use Rattle.program_trees.specs.declared.kinds.Slot.{Slot}
 use Rattle.program_trees.specs.Shapes.{shape_of}
-use Rattle.program_trees.specs.TypedTree.{TypedTree, TypedTrees, word_node, truth_node, slot_node, call_node, size_node, cat_node, sum_node, bits_node, lookup_node, element_node}
+use Rattle.program_trees.specs.TypedTree.{TypedTree, TypedTrees, word_node, truth_node, zero_node, slot_node, call_node, size_node, cat_node, sum_node, bits_node, lookup_node, element_node}
 use Rattle.program_trees.specs.TypedTree.{not_node, cast_node, binary_node, cut_node, declassify_node}
 use Rattle.program_trees.specs.TypedTree as Tree'
 use Rattle.program_trees.specs.TypedPrograms.{TypedFunctionTree}
@@ -117,6 +117,17 @@ module _ (w : World) (p : List Function) (number : Numbers) (fs : List TypedFunc
             here = put_same d' v m.registers;
             private = q;
           }))
+      expression_runs here hf zero_node fit t pc fr m r =
+          let zero = shape_of Int64 false in
+          let below = below_free here.slots zero fit in
+          runs_done (record {
+            near = record { steps = refl; stack = refl; kept = λ i l. refl };
+            pc = omega (arith, r.place);
+            held = r.holds.defaults zero fit;
+            private = refl;
+            low = omega (arith, below, r.free);
+            apart = λ i l j. omega (arith, below, l);
+          })
       expression_runs here hf (slot_node k) fit t pc fr m r =
           let below = below_free here.slots (shape_of Uint64 false) (omega (arith, fit)) in
           runs_done (record {

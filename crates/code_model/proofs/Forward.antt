@@ -10,7 +10,7 @@ use Rattle.program_trees.specs.declared.operators.BinaryOperator.TheVariants as 
 use Rattle.program_trees.specs.declared.operators.Operands.{Operands}
 use Rattle.program_trees.specs.declared.operators.Operands.TheVariants.{Scalars}
 use Rattle.program_trees.specs.declared.operators.Connective.{Connective}
-use Rattle.program_trees.specs.TypedTree.{TypedTree, TypedTrees, word_node, truth_node, slot_node, call_node, size_node, cat_node, sum_node, bits_node, lookup_node, element_node}
+use Rattle.program_trees.specs.TypedTree.{TypedTree, TypedTrees, word_node, truth_node, zero_node, slot_node, call_node, size_node, cat_node, sum_node, bits_node, lookup_node, element_node}
 use Rattle.program_trees.specs.TypedTree.{not_node, cast_node, binary_node, cut_node, declassify_node}
 use Rattle.program_trees.specs.TypedTree as Tree'
 use Rattle.program_trees.specs.TypedStatements.{TypedStatementTree, TypedStatementTrees, empty_statement, block_statement, if_statement, loop_statement, do_statement}
@@ -103,6 +103,7 @@ module _ (number : Numbers) where
     expression_on : (here : Setting) (e : TypedTree) (t pc : ℕ) → GoOn pc (expression_code number here t pc e)
     expression_on here (word_node n) t pc = (tt, tt)
     expression_on here (truth_node b) t pc = (tt, tt)
+    expression_on here zero_node t pc = tt
     expression_on here (slot_node k) t pc = tt
     expression_on here (call_node line k es) t pc =
         both_on pc _ _ (arguments_on here (bound_at (slice_get here.functions k) (domains here es)) (slots_of (slice_get here.functions k)) es t pc)
@@ -146,6 +147,7 @@ module _ (number : Numbers) where
       (tt, tt)
   unread_on here (word_node n) t pc = expression_on here (word_node n) t pc
   unread_on here (truth_node b) t pc = expression_on here (truth_node b) t pc
+  unread_on here zero_node t pc = expression_on here zero_node t pc
   unread_on here (slot_node k) t pc = expression_on here (slot_node k) t pc
   unread_on here (size_node e) t pc = expression_on here (size_node e) t pc
   unread_on here (cat_node line a b) t pc = expression_on here (cat_node line a b) t pc

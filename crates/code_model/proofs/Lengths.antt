@@ -8,7 +8,7 @@ use Rattle.program_trees.specs.declared.operators.Operands.{Operands}
 use Rattle.program_trees.specs.declared.operators.Operands.TheVariants.{Scalars}
 use Rattle.program_trees.specs.declared.operators.Connective.{Connective}
 use Rattle.program_trees.specs.declared.expression.DataType.TheVariants as datatype
-use Rattle.program_trees.specs.TypedTree.{TypedTree, TypedTrees, word_node, truth_node, slot_node, call_node, size_node, cat_node, sum_node, bits_node, lookup_node, element_node}
+use Rattle.program_trees.specs.TypedTree.{TypedTree, TypedTrees, word_node, truth_node, zero_node, slot_node, call_node, size_node, cat_node, sum_node, bits_node, lookup_node, element_node}
 use Rattle.program_trees.specs.TypedTree.{not_node, cast_node, binary_node, cut_node, declassify_node}
 use Rattle.program_trees.specs.TypedTree as Tree'
 use Rattle.program_trees.specs.TypedStatements.{TypedStatementTree, TypedStatementTrees, empty_statement, block_statement, if_statement, loop_statement, do_statement}
@@ -86,6 +86,7 @@ module _ (number : Numbers) where
         (expression_code number here t pc' e)
     expression_length here (word_node n) t pc pc' = refl
     expression_length here (truth_node b) t pc pc' = refl
+    expression_length here zero_node t pc pc' = refl
     expression_length here (slot_node k) t pc pc' = refl
     expression_length here (call_node line k es) t pc pc' =
         append_same _ _ _ _ (arguments_length here (bound_at (slice_get here.functions k) (domains here es)) (slots_of (slice_get here.functions k)) es
@@ -132,6 +133,7 @@ module _ (number : Numbers) where
       pc pc') refl
   unread_length here (word_node n) t pc pc' = expression_length here (word_node n) t pc pc'
   unread_length here (truth_node b) t pc pc' = expression_length here (truth_node b) t pc pc'
+  unread_length here zero_node t pc pc' = expression_length here zero_node t pc pc'
   unread_length here (slot_node k) t pc pc' = expression_length here (slot_node k) t pc pc'
   unread_length here (size_node e) t pc pc' = expression_length here (size_node e) t pc pc'
   unread_length here (cat_node line a b) t pc pc' = expression_length here (cat_node line a b) t pc pc'

@@ -5,7 +5,7 @@ use Rattle.std.proofs.lemmas.Option.{none-some}
 use Rattle.sc_text.specs.Lists.{Among}
 use Rattle.sc_text.proofs.Lists.{among_left, among_right}
 use Rattle.program_trees.specs.declared.kinds.Slot.{Slot}
-use Rattle.program_trees.specs.TypedTree.{TypedTree, TypedTrees, word_node, truth_node, slot_node, call_node, size_node, cat_node, sum_node, bits_node, lookup_node, element_node}
+use Rattle.program_trees.specs.TypedTree.{TypedTree, TypedTrees, word_node, truth_node, zero_node, slot_node, call_node, size_node, cat_node, sum_node, bits_node, lookup_node, element_node}
 use Rattle.program_trees.specs.TypedTree.{not_node, cast_node, binary_node, cut_node, declassify_node}
 use Rattle.program_trees.specs.TypedTree as Tree'
 use Rattle.program_trees.specs.TypedStatements.{TypedStatementTree, TypedStatementTrees, empty_statement, block_statement, if_statement, loop_statement, do_statement}
@@ -42,6 +42,7 @@ module _ (Known : ℕ → List BoundDomain → Type 0) where
     knows : (here : Setting) (e : TypedTree) → IsFit (IsThere here.functions) here e → AllKnown (calls here e) → IsFit Known here e
     knows here (word_node n) fit h = tt
     knows here (truth_node b) fit h = tt
+    knows here zero_node fit h = fit
     knows here (slot_node k) fit h = fit
     knows here (call_node line k es) fit h =
         let o = slice_get here.functions k in

@@ -4,7 +4,7 @@ use Rattle.std.proofs.Common.{subst, arith, length-append}
 use Rattle.std.specs.Prelude.{slice_get}
 use Rattle.program_trees.specs.declared.typed_function.Returned.{Returned}
 use Rattle.program_trees.specs.declared.typed_function.Returned.TheVariants as given
-use Rattle.program_trees.specs.TypedTree.{TypedTree, word_node, truth_node, slot_node, call_node, size_node, cat_node, sum_node, bits_node, lookup_node, element_node}
+use Rattle.program_trees.specs.TypedTree.{TypedTree, word_node, truth_node, zero_node, slot_node, call_node, size_node, cat_node, sum_node, bits_node, lookup_node, element_node}
 use Rattle.program_trees.specs.TypedTree.{not_node, cast_node, binary_node, cut_node, declassify_node}
 use Rattle.program_trees.specs.TypedStatements.{TypedStatementTree, TypedStatementTrees, empty_statement, block_statement, if_statement, loop_statement, do_statement}
 use Rattle.program_trees.specs.TypedStatements.{break_statement, continue_statement, return_statement, assert_statement, store_statement, default_statement}
@@ -114,6 +114,7 @@ module _ (w : World) (p : List Function) (number : Numbers) (fs : List TypedFunc
       )))
   unread_runs (word_node n) t pc fr m fit le has h = reading (word_node n) t pc fr m fit le has h
   unread_runs (truth_node b) t pc fr m fit le has h = reading (truth_node b) t pc fr m fit le has h
+  unread_runs zero_node t pc fr m fit le has h = reading zero_node t pc fr m fit le has h
   unread_runs (slot_node k) t pc fr m fit le has h = reading (slot_node k) t pc fr m fit le has h
   unread_runs (size_node e) t pc fr m fit le has h = reading (size_node e) t pc fr m fit le has h
   unread_runs (cat_node line a b) t pc fr m fit le has h = reading (cat_node line a b) t pc fr m fit le has h

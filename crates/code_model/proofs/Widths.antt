@@ -4,7 +4,7 @@ use Rattle.std.proofs.Common.{◌≡◌, ℕ, zero, suc, ◌+◌, ◌-◌, ◌*�
 use Rattle.std.specs.Prelude.{max, nat_le}
 use Rattle.std.proofs.lemmas.Bool.{leb-true, leb-false}
 use Rattle.std.proofs.Math.Nat.{max-eq_left, max-eq_right, le-max_left, le-max_right, zero-max}
-use Rattle.program_trees.specs.TypedTree.{TypedTree, TypedTrees, word_node, truth_node, slot_node, call_node, size_node, cat_node, sum_node, bits_node, lookup_node, element_node}
+use Rattle.program_trees.specs.TypedTree.{TypedTree, TypedTrees, word_node, truth_node, zero_node, slot_node, call_node, size_node, cat_node, sum_node, bits_node, lookup_node, element_node}
 use Rattle.program_trees.specs.TypedTree.{not_node, cast_node, binary_node, cut_node, declassify_node, typed_trees_of}
 use Rattle.program_trees.specs.TypedTree as Tree'
 use Rattle.program_trees.specs.TypedStatements.{TypedStatementTree, TypedStatementTrees, empty_statement, block_statement, if_statement, loop_statement, do_statement}
@@ -18,6 +18,7 @@ abbrev mutual
   pub width : TypedTree → ℕ
   width (word_node n) = 1
   width (truth_node b) = 1
+  width zero_node = 1
   width (slot_node k) = 1
   width (call_node line k es) = 1 + widths es
   width (size_node e) = 1 + width e
@@ -95,6 +96,7 @@ max-more a b c =
 pub depth_some : (e : TypedTree) → 0 < depth e
 depth_some (word_node n) = omega arith
 depth_some (truth_node b) = omega arith
+depth_some zero_node = omega arith
 depth_some (slot_node k) = omega arith
 depth_some (call_node line k es) = let l = le-max_right (depths es) 1 in omega (arith, l)
 depth_some (size_node e) = depth_some e
@@ -124,6 +126,7 @@ depths_more (e ∷ ts) t =
 pub width_some : (e : TypedTree) → 0 < width e
 width_some (word_node n) = omega arith
 width_some (truth_node b) = omega arith
+width_some zero_node = omega arith
 width_some (slot_node k) = omega arith
 width_some (call_node line k es) = omega arith
 width_some (size_node e) = omega arith
@@ -162,6 +165,7 @@ mutual
   pub expression_deep : (e : TypedTree) → depth e + depth e ≤ width e + 1
   expression_deep (word_node n) = omega arith
   expression_deep (truth_node b) = omega arith
+  expression_deep zero_node = omega arith
   expression_deep (slot_node k) = omega arith
   expression_deep (call_node line k es) =
       let l = arguments_deep es in

@@ -1,10 +1,10 @@
 -- The code of an expression.
 --
 -- Its registers are in rows of twelve, the first of which begins at t. There its value stands, in the register of its kind, but that of a
--- variable in its slot. Targets of branches are places in the function's code, so that the code hangs on the place pc where it stands.
+-- variable in its slot, and that of a zero in a register that nothing writes. Targets of branches are places in the function's code, so that the code hangs on the place pc where it stands.
 use Rattle.std.specs.Prelude.{ℕ, ◌+◌, Bool, true, false, not, ◌&&◌, List, [], ◌∷◌, ◌++◌, length, Option, Some, None}
 use Rattle.std.specs.List.{slice_get}
-use Rattle.program_trees.specs.declared.expression.DataType.TheVariants.{Uint64}
+use Rattle.program_trees.specs.declared.expression.DataType.TheVariants.{Uint64, Int64}
 use Rattle.program_trees.specs.declared.expression.DataType.TheVariants as datatype
 use Rattle.program_trees.specs.declared.kinds.Slot.{Slot}
 use Rattle.program_trees.specs.declared.operators.BinaryOperator.{BinaryOperator}
@@ -13,9 +13,10 @@ use Rattle.program_trees.specs.declared.operators.Operands.{Operands}
 use Rattle.program_trees.specs.declared.operators.Operands.TheVariants.{Scalars}
 use Rattle.program_trees.specs.declared.operators.Connective.{Connective}
 use Rattle.program_trees.specs.declared.operators.Connective.TheVariants.{AndAlso, OrElse}
-use Rattle.program_trees.specs.TypedTree.{TypedTree, TypedTrees, word_node, truth_node, slot_node, call_node, size_node, cat_node, sum_node, bits_node, lookup_node, element_node}
+use Rattle.program_trees.specs.TypedTree.{TypedTree, TypedTrees, word_node, truth_node, zero_node, slot_node, call_node, size_node, cat_node, sum_node, bits_node, lookup_node, element_node}
 use Rattle.program_trees.specs.TypedTree.{not_node, cast_node, binary_node, cut_node, declassify_node}
 use Rattle.program_trees.specs.TypedTree as Tree'
+use Rattle.program_trees.specs.Shapes.{shape_of}
 use Rattle.program_trees.specs.TypedPrograms.{TypedFunctionTree}
 use Rattle.program_trees.specs.declared.typed_function.Returned.{Returned}
 use Rattle.program_trees.specs.declared.typed_function.Returned.TheVariants as given
@@ -25,7 +26,7 @@ use Rattle.blind_evaluation.specs.Words.{truth_word}
 use Rattle.blind_evaluation.specs.Operations.{is_product}
 use Rattle.blind_evaluation.specs.Evaluation.{gives_private, bound_at, slots_of, next_is_private, behind_next, connective, either}
 use Rattle.verified_code.specs.Steps.{Step, Literal, Move, Binary, Not, Cast, Classify, At, Size, Cat, Sum, Bits, Lookup, Declassify, Branch, Jump, Call}
-use Rattle.code_model.specs.Kinds.{kind_in, private_kind_in, truth_kind, in_row}
+use Rattle.code_model.specs.Kinds.{kind_in, private_kind_in, truth_kind, in_row, shape_number}
 
 -- the number that the code gives to an instance
 abbrev pub Numbers : Type 0
@@ -69,13 +70,14 @@ own_at here e t = in_row t (kind_in here e)
 abbrev pub classified_at : Setting → TypedTree → (t : ℕ) → ℕ
 classified_at here e t = in_row t (private_kind_in here e)
 
--- a variable is read in its slot, without a step, and each other value in its own register
-abbrev pub read_at : TypedTree → (own : ℕ) → ℕ
-read_at (slot_node k) own = k
-read_at e own = own
+-- a variable is read in its slot, and a zero where one stands, without a step; each other value in its own register
+abbrev pub read_at : Setting → TypedTree → (own : ℕ) → ℕ
+read_at here zero_node own = length here.slots + shape_number (shape_of Int64 false)
+read_at here (slot_node k) own = k
+read_at here e own = own
 
 abbrev pub stands_at : Setting → TypedTree → (t : ℕ) → ℕ
-stands_at here e t = read_at e (own_at here e t)
+stands_at here e t = read_at here e (own_at here e t)
 
 -- where the next row begins
 abbrev pub next_row : ℕ → ℕ
@@ -137,6 +139,7 @@ module _ (number : Numbers) where
     pub expression_code : Setting → (t pc : ℕ) → TypedTree → List Step
     expression_code here t pc (word_node n) = Literal (own_at here (word_node n) t) Uint64 n ∷ []
     expression_code here t pc (truth_node b) = Literal (own_at here (truth_node b) t) datatype.Bool (truth_word b) ∷ []
+    expression_code here t pc zero_node = []
     expression_code here t pc (slot_node k) = []
     expression_code here t pc (call_node line k es) =
         let b = bound_at (slice_get here.functions k) (domains here es) in

@@ -4,7 +4,7 @@ use Rattle.std.specs.Prelude.{◌≡◌, ◌<◌, ℕ, Bool, true, false, ◌&&�
 use Rattle.std.specs.List.{slice_get}
 use Rattle.sc_text.specs.Lists.{Among}
 use Rattle.program_trees.specs.declared.kinds.Slot.{Slot}
-use Rattle.program_trees.specs.TypedTree.{TypedTree, TypedTrees, word_node, truth_node, slot_node, call_node, size_node, cat_node, sum_node, bits_node, lookup_node, element_node}
+use Rattle.program_trees.specs.TypedTree.{TypedTree, TypedTrees, word_node, truth_node, zero_node, slot_node, call_node, size_node, cat_node, sum_node, bits_node, lookup_node, element_node}
 use Rattle.program_trees.specs.TypedTree.{not_node, cast_node, binary_node, cut_node, declassify_node}
 use Rattle.program_trees.specs.TypedTree as Tree'
 use Rattle.program_trees.specs.TypedStatements.{TypedStatementTree, TypedStatementTrees, empty_statement, block_statement, if_statement, loop_statement, do_statement}
@@ -30,6 +30,7 @@ module _ (Known : ℕ → List BoundDomain → Type 0) where
     pub IsFit : Setting → TypedTree → Type 0
     IsFit here (word_node n) = Unit {0}
     IsFit here (truth_node b) = Unit {0}
+    IsFit here zero_node = 0 < length here.slots
     IsFit here (slot_node k) = k < length here.slots
     IsFit here (call_node line k es) =
         Known k (bound_at (slice_get here.functions k) (domains here es))

@@ -13,7 +13,7 @@ use Rattle.program_trees.specs.declared.kinds.Slot.{Slot}
 use Rattle.program_trees.specs.declared.typed_function.Returned.{Returned}
 use Rattle.program_trees.specs.declared.typed_function.Returned.TheVariants as given
 use Rattle.program_trees.specs.Shapes.{shape_of}
-use Rattle.program_trees.specs.TypedTree.{TypedTree, TypedTrees, truth_node, slot_node, call_node, size_node, cat_node, sum_node, bits_node, lookup_node, element_node}
+use Rattle.program_trees.specs.TypedTree.{TypedTree, TypedTrees, truth_node, zero_node, slot_node, call_node, size_node, cat_node, sum_node, bits_node, lookup_node, element_node}
 use Rattle.program_trees.specs.TypedTree.{not_node, cast_node, binary_node, cut_node, declassify_node}
 use Rattle.program_trees.specs.TypedTree as Tree'
 use Rattle.program_trees.specs.TypedPrograms.{TypedFunctionTree}
@@ -63,6 +63,7 @@ called_shape (Some f) = returned_shape f.given
 -- the shape of what an expression gives; a function that gives nothing back has a number that nobody reads
 abbrev pub shape_in : Setting → TypedTree → Shape
 shape_in here (truth_node b) = shape_of datatype.Bool false
+shape_in here zero_node = shape_of Int64 false
 shape_in here (slot_node k) = slot_shape here k
 shape_in here (call_node line k es) = called_shape (slice_get here.functions k)
 shape_in here (cat_node line a b) = shape_in here a
@@ -103,6 +104,11 @@ abbrev pub shape_kinds : (secret : Bool) → List Kind
 shape_kinds secret =
     kind_of secret (shape_of Uint64 false) ∷ kind_of secret (shape_of Uint64 true) ∷ kind_of secret (shape_of Int64 false)
     ∷ kind_of secret (shape_of Int64 true) ∷ kind_of secret (shape_of datatype.Bool false) ∷ kind_of secret (shape_of datatype.Bool true) ∷ []
+
+-- After its slots a function that has any has one public register of each shape, which no step writes: a declaration
+-- without a value stores what it begins as.
+abbrev pub shape_number : Shape → ℕ
+shape_number s = element_number s.element + either s.array 1 0
 
 -- the kinds of so many rows
 abbrev pub rows_kinds : ℕ → List Kind

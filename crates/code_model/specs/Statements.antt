@@ -3,7 +3,6 @@
 -- Its registers are in rows that begin at t, as those of each other statement of the function are: when a statement is over, its registers
 -- are used again. It stands at pc; a break leads to x and a continue to y.
 use Rattle.std.specs.Prelude.{ℕ, ◌+◌, max, Bool, true, false, List, [], ◌∷◌, ◌++◌, length, Some, None}
-use Rattle.program_trees.specs.declared.kinds.Shape.{Shape}
 use Rattle.program_trees.specs.declared.kinds.Slot.{Slot}
 use Rattle.program_trees.specs.TypedStatements.{TypedStatementTree, TypedStatementTrees, empty_statement, block_statement, if_statement, loop_statement, do_statement}
 use Rattle.program_trees.specs.TypedStatements.{break_statement, continue_statement, return_statement, assert_statement, store_statement, default_statement}
@@ -12,15 +11,11 @@ use Rattle.program_trees.specs.TypedStatements as Statements'
 use Rattle.blind_evaluation.specs.Evaluation.{StatementContext, gives_private, slot_is_private, slot_shape, either}
 use Rattle.bytecode.specs.declared.kind.Kind.{Kind}
 use Rattle.verified_code.specs.Steps.{Step, Store, Fill, Put, Argument, Publish, Assert, Branch, Jump, Return, ReturnNone}
-use Rattle.code_model.specs.Kinds.{depth, element_number, kind_of, shape_kinds, in_row}
+pub use Rattle.code_model.specs.Kinds.{shape_number}
+use Rattle.code_model.specs.Kinds.{depth, kind_of, shape_kinds, in_row}
 use Rattle.code_model.specs.Expressions.{Numbers, classifying, picked, lacks, classified_at, stands_at, next_row, unread_code, expression_code}
 
 -- ---- DEFAULTS
-
--- After its slots a function that has any has one public register of each shape, which no step writes: a declaration
--- without a value stores what it begins as.
-abbrev pub shape_number : Shape → ℕ
-shape_number s = element_number s.element + either s.array 1 0
 
 abbrev pub default_kinds : List Kind
 default_kinds = shape_kinds false

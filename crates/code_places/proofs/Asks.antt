@@ -70,7 +70,7 @@ still {R = R} {c = c} {c' = c'} q h = record { opened = opens_nothing q; same = 
 same_event : (e : Event) → LikeEvent e e
 same_event (event.Open elements) = refl
 same_event (event.Publish text elements) = (refl, refl)
-same_event (event.Hand text elements) = (refl, refl)
+same_event (event.Hand text kind elements) = (refl, refl, refl)
 
 same_events : (es : List Event) → LikeEvents es es
 same_events [] = tt

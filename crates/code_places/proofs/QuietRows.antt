@@ -303,4 +303,4 @@ handed_quiet w (Private k) v =
 pub published_quiet : (w : World) (text : List ℕ) (v : Value) → Quiet true (published w text v)
 published_quiet w text v =
     quiet_bind true (untrapped_quiet true (size v)) (λ _. quiet_bind true (handed_quiet w v.secrecy v) (λ _.
-    quiet_emit (publication v.secrecy text (elements_of v))))
+    quiet_emit (publication v.secrecy v.shape.element text (elements_of v))))

@@ -2,6 +2,7 @@
 use Rattle.std.proofs.Common.{◌≡◌, ℕ, zero, suc, ◌+◌, ◌<◌, List, [], ◌∷◌, ◌++◌, length, refl, sym, ap, ◌∙◌, subst, arith}
 use Rattle.std.proofs.Common.{append_assoc, append-nil, length-append}
 use Rattle.std.proofs.lemmas.List.{get_or_append_left}
+use Rattle.sc_text.specs.declared.elements.ElementKind.{ElementKind}
 use Rattle.sc_text.specs.declared.event.Event.{Event}
 use Rattle.sc_text.specs.declared.event.Event.TheVariants.{Open, Publish, Hand}
 use Rattle.proto_core.specs.declared.party.Number.{Number}
@@ -21,7 +22,7 @@ use Rattle.gate_laws.proofs.GateRunLaws.{run-count}
 use Rattle.language_model.specs.Effects.{Clear, Stage}
 use Rattle.language_model.specs.Reports.{Offered, world_of}
 use Rattle.language_model.specs.Tapes.{AtMost}
-use Rattle.language_model.specs.Values.{gate_words}
+use Rattle.language_model.specs.Values.{gate_words, printed_kind}
 use Rattle.gate_laws.specs.Facts as facts
 use Rattle.gate_laws.specs.Facts.{handed_values, none_of, run_at, IsAt}
 use Rattle.gate_laws.specs.Dealt.{Dealt, drawn_by}
@@ -43,7 +44,7 @@ handed-append (Handed text form count words ∷ ns) ms = ap (λ (vs : Values). w
 hand : Event → ℕ
 hand (Open elements) = 0
 hand (Publish text elements) = 0
-hand (Hand text elements) = 1
+hand (Hand text kind elements) = 1
 
 pub hands : List Event → ℕ
 hands [] = 0
@@ -62,9 +63,9 @@ pub hands-published : (es : List Event) (text : List ℕ) (elements : List _) �
 unfolding hands hand
 hands-published es text elements = let a = hands-append es (Publish text elements ∷ []) in omega (arith, a)
 
-hands-handed : (es : List Event) (text : List ℕ) (elements : List _) → hands (es ++ Hand text elements ∷ []) ≡ hands es + 1
+hands-handed : (es : List Event) (text : List ℕ) (kind : ElementKind) (elements : List _) → hands (es ++ Hand text kind elements ∷ []) ≡ hands es + 1
 unfolding hands hand
-hands-handed es text elements = let a = hands-append es (Hand text elements ∷ []) in omega (arith, a)
+hands-handed es text kind elements = let a = hands-append es (Hand text kind elements ∷ []) in omega (arith, a)
 
 -- as many as there are events that hand over
 handed-count : (es : List Event) (vs : Values) → facts.Handed es vs → length vs ≡ hands es
@@ -75,7 +76,7 @@ handed-count _ _ (facts.and_opened {es = es} {vs = vs} elements h) =
 handed-count _ _ (facts.and_published {es = es} {vs = vs} text elements h) =
     let e = handed-count es vs h in let a = hands-append es (Publish text elements ∷ []) in omega (arith, e, a)
 handed-count _ _ (facts.and_handed {es = es} {vs = vs} text d words range h) =
-    length-append vs (gate_words d words ∷ []) ∙ ap (λ n. n + 1) (handed-count es vs h) ∙ sym (hands-handed es text _)
+    length-append vs (gate_words d words ∷ []) ∙ ap (λ n. n + 1) (handed-count es vs h) ∙ sym (hands-handed es text (printed_kind d) _)
 
 -- ---- GATES
 

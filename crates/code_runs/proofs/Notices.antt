@@ -22,7 +22,7 @@ use Rattle.shared_gates.specs.Model.{miner_of}
 use Rattle.gate_laws.specs.GateRuns.{end_shares}
 use Rattle.language_model.specs.Effects.{Clear, Stage}
 use Rattle.language_model.specs.Reports.{Offered, world_of}
-use Rattle.language_model.specs.Values.{Secrecy, Plain, Private, Value, plain, ring_for, gate_words, element_of, elements_of}
+use Rattle.language_model.specs.Values.{Secrecy, Plain, Private, Value, plain, ring_for, gate_words, element_of, elements_of, printed_kind}
 use Rattle.language_model.specs.Operations.{publication}
 use Rattle.code_model.specs.Courses.{LikeEvent}
 use Rattle.program_trees.specs.declared.kinds.Shape.{Shape}
@@ -278,7 +278,7 @@ module _ (o : Offered) (d : Dealt) (c : List Function) (tapes : Tapes) (words : 
     hands text r n h Plain e =
         let v = p.machine.registers r in
         one (event.Publish text (elements_of v)) (λ i. Published text (form_of v.shape) v.words)
-        (subst (λ z. q.stage.events ≡ p.stage.events ++ publication z text (elements_of v) ∷ []) e h.events)
+        (subst (λ z. q.stage.events ≡ p.stage.events ++ publication z v.shape.element text (elements_of v) ∷ []) e h.events)
         (λ i.
         ap (λ z. told_by z b.machine (gained b.stage.opened a.stage.opened) (last_of (behind d tapes q.stage.gates i))) (same_next ∙ n)
         ∙ ap
@@ -290,15 +290,15 @@ module _ (o : Offered) (d : Dealt) (c : List Function) (tapes : Tapes) (words : 
         subst (λ z. Tells (event.Publish text z ∷ rest) (λ i. Published text (form_of v.shape) v.words ∷ notices i)) (told_same v.shape v.words)
         (tells.published text (form_of v.shape) v.words (of_form v.shape v.words (st.stands.registers r).1.range) t))
         (gave_none
-        (ap all_hands (subst (λ z. q.stage.events ≡ p.stage.events ++ publication z text (elements_of v) ∷ []) e h.events)
+        (ap all_hands (subst (λ z. q.stage.events ≡ p.stage.events ++ publication z v.shape.element text (elements_of v) ∷ []) e h.events)
         ∙ hands-published p.stage.events text _))
     hands text r n h (Private j) e =
         let v = p.machine.registers r in
         let made = h.handed j e in
         let shares : Number → List ℕ = λ i. last_of (behind d tapes q.stage.gates i) in
         let held = handed_shares r made.before made.number made.gates j e made.number_for in
-        one (event.Hand text (elements_of v)) (λ i. Handed text (form_of v.shape) (length v.words) (shares i))
-        (subst (λ z. q.stage.events ≡ p.stage.events ++ publication z text (elements_of v) ∷ []) e h.events)
+        one (event.Hand text (printed_kind v.shape.element) (elements_of v)) (λ i. Handed text (form_of v.shape) (length v.words) (shares i))
+        (subst (λ z. q.stage.events ≡ p.stage.events ++ publication z v.shape.element text (elements_of v) ∷ []) e h.events)
         (λ i.
         ap (λ z. told_by z b.machine (gained b.stage.opened a.stage.opened) (shares i)) (same_next ∙ n)
         ∙ ap (λ z. publishing z text (form_of (b.machine.registers r).shape) (b.machine.registers r).words (shares i) ∷ [])
@@ -306,7 +306,8 @@ module _ (o : Offered) (d : Dealt) (c : List Function) (tapes : Tapes) (words : 
         ∙ ap (λ z. Handed text (form_of z) (length (b.machine.registers r).words) (shares i) ∷ []) (sym (machines.registers r).shape)
         ∙ ap (λ n. Handed text (form_of v.shape) n (shares i) ∷ []) (same_count r))
         (λ rest notices t.
-        subst (λ z. Tells (event.Hand text z ∷ rest) (λ i. Handed text (form_of v.shape) (length v.words) (shares i) ∷ notices i)) (told_same v.shape v.words)
+        subst (λ t. Tells (event.Hand text (printed_kind t) (map (element_of t) v.words) ∷ rest)
+        (λ i. Handed text (form_of v.shape) (length v.words) (shares i) ∷ notices i)) (same_type v.shape.element)
         (tells.handed text (form_of v.shape) v.words shares (of_form v.shape v.words (st.stands.registers r).1.range)
         (subst (λ z. AreShares (ring_of (ring_for z)) (gate_words z v.words) shares) (sym (same_type v.shape.element)) held) t))
         (λ i. kept_last r made.before made.number made.gates j made.number_for i)

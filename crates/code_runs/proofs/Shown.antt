@@ -21,7 +21,7 @@ use Rattle.sc_text.specs.declared.event.Event.{Event}
 use Rattle.sc_text.specs.declared.event.Event.TheVariants as event
 use Rattle.program_trees.specs.declared.expression.DataType.{DataType}
 use Rattle.language_model.specs.Effects.{Clear, Stage}
-use Rattle.language_model.specs.Values.{Secrecy, Plain, Private, element_of, gate_words}
+use Rattle.language_model.specs.Values.{Secrecy, Plain, Private, element_of, gate_words, printed_kind}
 use Rattle.language_model.specs.Learned.{learned_of}
 use Rattle.language_model.specs.Operations.{read_answer, publication}
 use Rattle.language_model.specs.Reports.{Offered, world_of}
@@ -79,10 +79,10 @@ record Last (s u : Stage) : Type 0 where
   gates : u.gates ≡ s.gates ++ (before ++ Open ring number ∷ [])
   none : (values : Values) → opened_values values before ≡ []
 
-learned_publication : (events : List Event) (a : Secrecy) (text : List ℕ) (elements : List Element)
-    → learned_of (events ++ publication a text elements ∷ []) ≡ learned_of events
-learned_publication events Plain text elements = learned_still events (event.Publish text elements) refl
-learned_publication events (Private k) text elements = learned_still events (event.Hand text elements) refl
+learned_publication : (events : List Event) (a : Secrecy) (e : DataType) (text : List ℕ) (elements : List Element)
+    → learned_of (events ++ publication a e text elements ∷ []) ≡ learned_of events
+learned_publication events Plain e text elements = learned_still events (event.Publish text elements) refl
+learned_publication events (Private k) e text elements = learned_still events (event.Hand text (printed_kind e) elements) refl
 
 learned_word : (events : List Event) (e : DataType) (told words : List ℕ) → words ≡ read_answer e told
     → learned_of (events ++ event.Open (map (element_of e) words) ∷ []) ≡ learned_of events ++ gate_words e words
@@ -103,7 +103,7 @@ opens_last (Some (Declassify d r)) m s u (opens words before ring k read o e a g
       gates = g;
       none = none;
     })
-opens_last (Some (Publish text r)) m s u h = inl (ap learned_of h.events ∙ learned_publication s.events (m.registers r).secrecy text _)
+opens_last (Some (Publish text r)) m s u h = inl (ap learned_of h.events ∙ learned_publication s.events (m.registers r).secrecy (m.registers r).shape.element text _)
 opens_last i m s u h = inl (ap learned_of h.events)
 
 nothing_gained : {A : Type 0} (xs ys : List A) → ys ≡ xs → gained xs ys ≡ []

@@ -14,7 +14,7 @@ use Rattle.gates.proofs.Packing.{unpacked-packed}
 use Rattle.shared_gates.specs.Shares.{sum_of, AreShares}
 use Rattle.language_model.specs.Values.{ring_for, gate_words}
 use Rattle.gate_laws.specs.Dealt.{InRange}
-use Rattle.code_runs.specs.Telling.{type_of, elements_told, Tells, nothing, opened, published, handed}
+use Rattle.code_runs.specs.Telling.{type_of, elements_told, kind_told, Tells, nothing, opened, published, handed}
 use Rattle.code_runs.specs.ClientTold.{words_added_up, all_added_up, told_together}
 use Rattle.code_runs.specs.ClientLaws.{ToldTogetherAreTheEvents}
 
@@ -70,7 +70,7 @@ together nothing = refl
 together (opened {events = events} form words range h) = ap (λ (es : List Event). Open (elements_told form words) ∷ es) (together h)
 together (published {events = events} text form words range h) = ap (λ (es : List Event). Publish text (elements_told form words) ∷ es) (together h)
 together (handed {events = events} text form words shares range are h) =
-    first_event _ _ _ events (ap (λ ws. Hand text (elements_told form ws)) (shares_add_up form.element words shares range are)) (together h)
+    first_event _ _ _ events (ap (λ ws. Hand text (kind_told form) (elements_told form ws)) (shares_add_up form.element words shares range are)) (together h)
 
 pub told_together_are_the_events : ToldTogetherAreTheEvents
 told_together_are_the_events events notices h = together h

@@ -61,7 +61,7 @@ pub record Numbered (v : Value) (j : Option ℕ) (s u : Stage) : Type 0 where
 pub record Publishing (text : List ℕ) (v : Value) (s u : Stage) : Type 0 where
   pub opened : u.opened ≡ s.opened
   pub answers : u.answers ≡ s.answers
-  pub events : u.events ≡ s.events ++ publication v.secrecy text (elements_of v) ∷ []
+  pub events : u.events ≡ s.events ++ publication v.secrecy v.shape.element text (elements_of v) ∷ []
   pub handed : (j : Option ℕ) → v.secrecy ≡ Private j → Numbered v j s u
 
 -- a run that ends tells nothing
@@ -177,13 +177,13 @@ module _ (o : Offered) (v : Value) (s : Stage) where
     -- with these gates, and the event told
     abbrev behind : List ℕ → ℕ → List Gate → Stage
     behind text made gates =
-        record s { left = l; drawn = n; made = made; gates = gates; events = s.events ++ publication v.secrecy text (elements_of v) ∷ [] }
+        record s { left = l; drawn = n; made = made; gates = gates; events = s.events ++ publication v.secrecy v.shape.element text (elements_of v) ∷ [] }
 
     handed_tells :
         (text : List ℕ) (a : Secrecy) → v.secrecy ≡ a
         → EndsWith (Publishing text v s) s
         (((number_from a own_words >>= λ u. gate (Result ring u) >>= λ _. done (tt {0})) >>= λ _.
-        emit (publication v.secrecy text (elements_of v))) (paid l n s))
+        emit (publication v.secrecy v.shape.element text (elements_of v))) (paid l n s))
     handed_tells text (Private (Some k)) e =
         record {
           opened = refl;
@@ -233,7 +233,7 @@ module _ (o : Offered) (v : Value) (s : Stage) where
 
   module _ (text : List ℕ) where
     abbrev telling : Unit {0} → Effect (Unit {0})
-    telling _ = emit (publication v.secrecy text (elements_of v))
+    telling _ = emit (publication v.secrecy v.shape.element text (elements_of v))
 
     given_tells : (a : Secrecy) → v.secrecy ≡ a → (l : ℕ) (n : Words) → EndsWith (Publishing text v s) s (carry (handed_over w a v (paid l n s)) telling)
     given_tells Plain e l n = record { opened = refl; answers = refl; events = refl; handed = λ j f. absurd (not_private j (sym e ∙ f)) }

@@ -9,7 +9,7 @@ use Rattle.proto_core.specs.declared.party.Number.TheVariants.{One, Two, Three}
 use Rattle.proto_core.specs.Strand.{ElementType, Unsigned, Signed, TruthValue, Notice, Shown, Published, Handed}
 use Rattle.gates.specs.Gathered.{unpacked}
 use Rattle.shared_gates.specs.Shares.{sum_of}
-use Rattle.code_runs.specs.Telling.{elements_told}
+use Rattle.code_runs.specs.Telling.{elements_told, kind_told}
 
 -- the words that three shares come to, word by word
 abbrev pub words_added_up : Ring → (xs ys zs : List ℕ) → List ℕ
@@ -26,7 +26,7 @@ all_added_up TruthValue count xs ys zs = unpacked (words_added_up xor_ring xs ys
 abbrev pub told_by_three : Notice → (second third : List ℕ) → Event
 told_by_three (Shown form words) ys zs = Open (elements_told form words)
 told_by_three (Published text form words) ys zs = Publish text (elements_told form words)
-told_by_three (Handed text form count words) ys zs = Hand text (elements_told form (all_added_up form.element count words ys zs))
+told_by_three (Handed text form count words) ys zs = Hand text (kind_told form) (elements_told form (all_added_up form.element count words ys zs))
 
 abbrev pub words_of : Notice → List ℕ
 words_of (Shown form words) = words

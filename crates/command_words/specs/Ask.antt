@@ -82,6 +82,36 @@ pub record TwinAsk : Type 0 where
   pub to : Text
   pub budget : ℕ
 
+pub record ClientMapAsk : Type 0 where
+  pub program : Text
+  pub input : Text
+  pub tape : Text
+  -- where the simulator's tape, the public part, the opened lines and the lines of what is handed over are written
+  pub sim : Text
+  pub public : Text
+  pub opened : Text
+  pub published : Text
+  pub budget : ℕ
+
+pub record ClientSimulateAsk : Type 0 where
+  pub program : Text
+  pub public : Text
+  pub opened : Text
+  pub published : Text
+  pub sim : Text
+  -- where the client's view is written
+  pub view : Text
+  pub budget : ℕ
+
+pub record ClientTwinAsk : Type 0 where
+  pub program : Text
+  pub input : Text
+  pub second : Text
+  pub tape : Text
+  -- where the tape of the second input is written
+  pub to : Text
+  pub budget : ℕ
+
 pub record GatherAsk : Type 0 where
   pub miner : Number
   -- the share files that owners dealt the miner
@@ -130,6 +160,9 @@ pub data Ask : Type 0 where
   map_tape : MapAsk → Ask
   simulate : SimulateAsk → Ask
   twin : TwinAsk → Ask
+  client_map : ClientMapAsk → Ask
+  client_simulate : ClientSimulateAsk → Ask
+  client_twin : ClientTwinAsk → Ask
   load : (number : ℕ) → Ask
   gather : GatherAsk → Ask
   join : JoinAsk → Ask
@@ -256,6 +289,45 @@ twin_of rows = do
     budget = budget;
   })
 
+unfoldable pub client_map_of : List Row → Option ClientMapAsk
+client_map_of rows = do
+  budget ← number_or default_budget (first_of (codes "budget") rows)
+  Some (record {
+    program = required_of (codes "program") rows;
+    input = required_of (codes "input") rows;
+    tape = required_of (codes "tape") rows;
+    sim = required_of (codes "sim") rows;
+    public = required_of (codes "public") rows;
+    opened = required_of (codes "opened") rows;
+    published = required_of (codes "published") rows;
+    budget = budget;
+  })
+
+unfoldable pub client_simulate_of : List Row → Option ClientSimulateAsk
+client_simulate_of rows = do
+  budget ← number_or default_budget (first_of (codes "budget") rows)
+  Some (record {
+    program = required_of (codes "program") rows;
+    public = required_of (codes "public") rows;
+    opened = required_of (codes "opened") rows;
+    published = required_of (codes "published") rows;
+    sim = required_of (codes "sim") rows;
+    view = required_of (codes "view") rows;
+    budget = budget;
+  })
+
+unfoldable pub client_twin_of : List Row → Option ClientTwinAsk
+client_twin_of rows = do
+  budget ← number_or default_budget (first_of (codes "budget") rows)
+  Some (record {
+    program = required_of (codes "program") rows;
+    input = required_of (codes "input") rows;
+    second = required_of (codes "second") rows;
+    tape = required_of (codes "tape") rows;
+    to = required_of (codes "to") rows;
+    budget = budget;
+  })
+
 unfoldable pub gather_of : List Row → Option GatherAsk
 gather_of rows = do
   number ← miner_of (required_of (codes "me") rows)
@@ -304,6 +376,9 @@ named name rows =
     else if bytes_eq name (codes "map") then option_map map_tape (map_of rows)
     else if bytes_eq name (codes "simulate") then option_map simulate (simulate_of rows)
     else if bytes_eq name (codes "twin") then option_map twin (twin_of rows)
+    else if bytes_eq name (codes "client-map") then option_map client_map (client_map_of rows)
+    else if bytes_eq name (codes "client-simulate") then option_map client_simulate (client_simulate_of rows)
+    else if bytes_eq name (codes "client-twin") then option_map client_twin (client_twin_of rows)
     else if bytes_eq name (codes "load") then option_map load (number_of (required_of (codes "number") rows))
     else if bytes_eq name (codes "gather") then option_map gather (gather_of rows)
     else if bytes_eq name (codes "join") then option_map join (join_of rows)

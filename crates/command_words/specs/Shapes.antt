@@ -72,6 +72,25 @@ simulate_app = view_app (codes "simulate") (codes "public" ∷ codes "opened" �
 unfoldable pub twin_app : App
 twin_app = view_app (codes "twin") (codes "input" ∷ codes "second" ∷ codes "tape" ∷ codes "to" ∷ []) eval_options
 
+-- the command of this name about the client's view: the program, the options that must be there, and the budget
+unfoldable pub client_app : Text → List Text → App
+client_app name required = command_app name (codes "program" ∷ []) required eval_options
+
+-- client-map PROGRAM --input F --tape F --sim F --public F --opened F --published F, and the budget
+unfoldable pub client_map_app : App
+client_map_app =
+    client_app (codes "client-map")
+    (codes "input" ∷ codes "tape" ∷ codes "sim" ∷ codes "public" ∷ codes "opened" ∷ codes "published" ∷ [])
+
+-- client-simulate PROGRAM --public F --opened F --published F --sim F --view F, and the budget
+unfoldable pub client_simulate_app : App
+client_simulate_app =
+    client_app (codes "client-simulate") (codes "public" ∷ codes "opened" ∷ codes "published" ∷ codes "sim" ∷ codes "view" ∷ [])
+
+-- client-twin PROGRAM --input F --second F --tape F --to F, and the budget
+unfoldable pub client_twin_app : App
+client_twin_app = client_app (codes "client-twin") (codes "input" ∷ codes "second" ∷ codes "tape" ∷ codes "to" ∷ [])
+
 -- load --number K
 unfoldable pub load_app : App
 load_app = command_app (codes "load") [] (codes "number" ∷ []) []
@@ -105,5 +124,5 @@ with_command a command = with_subcommand a command.top
 unfoldable pub secrec_app : App
 secrec_app = fold with_command bare_app
     (run_app ∷ deal_app ∷ evaluation_app (codes "eval") ∷ evaluation_app (codes "need") ∷ check_app ∷ compile_app ∷ upgrade_app ∷ map_app ∷ simulate_app
-    ∷ twin_app ∷ load_app
+    ∷ twin_app ∷ client_map_app ∷ client_simulate_app ∷ client_twin_app ∷ load_app
     ∷ gather_app ∷ miner_app ∷ trio_app ∷ join_app ∷ [])

@@ -8,20 +8,23 @@ use Rattle.command_words.specs.Ask.{Ask, Source, run, deal, check, compile, eval
 use Rattle.command_words.specs.Ask.{scheduled, shuffled, words_of, named, matched}
 use Rattle.command_words.specs.Ask.{run_of, deal_of, compile_of, eval_of, map_of, simulate_of, twin_of, source_of, seeded_source}
 use Rattle.command_words.specs.Ask.{gather, gather_of, others_of}
+use Rattle.command_words.specs.Ask.{client_map, client_map_of, client_simulate, client_simulate_of, client_twin, client_twin_of}
 use Rattle.command_words.specs.Ask.{order_of, number_or, required_of}
 use Rattle.command_words.specs.Ask.{join, join_of, miner, miner_ask_of, trio, trio_of, upgrade, upgrade_of}
 use Rattle.command_words.specs.Numbers.{number_of, miner_of, port_of, seed_of}
 use Rattle.proto_core.specs.declared.party.Number.TheVariants.{One, Two, Three}
 use Rattle.command_words.specs.Shapes.{gather_app, words_rule, join_app, miner_app, trio_app, secrec_app, run_app, deal_app, check_app}
 use Rattle.command_words.specs.Shapes.{compile_app, evaluation_app, view_app, map_app, simulate_app, twin_app}
+use Rattle.command_words.specs.Shapes.{client_app, client_map_app, client_simulate_app, client_twin_app}
 use Rattle.command_words.specs.Shapes.{load_app, command_app, bare_app, eval_options, with_options}
 use Rattle.command_words.specs.Shapes.{word_rule, option_rule, upgrade_app}
 
 -- opens the definitions, so that they compute at words that are written out
 unfoldable pub words_on_literals : ⊤
 unfolding clap_on_literals hex_on_literals secrec_app run_app deal_app check_app compile_app
-    evaluation_app view_app map_app simulate_app twin_app load_app command_app bare_app eval_options
+    evaluation_app view_app map_app simulate_app twin_app client_app client_map_app client_simulate_app client_twin_app load_app command_app bare_app eval_options
     with_options word_rule option_rule words_of named matched run_of deal_of compile_of eval_of map_of simulate_of twin_of
+    client_map_of client_simulate_of client_twin_of
     source_of seeded_source order_of number_or required_of number_of miner_of seed_of gather_app words_rule gather_of others_of
     join_app miner_app trio_app join_of miner_ask_of trio_of port_of upgrade_app upgrade_of
 words_on_literals = tt
@@ -296,6 +299,46 @@ twin_words : words_of (codes "twin" ∷ codes "2" ∷ codes "p.sc" ∷ codes "--
     }))
 unfolding words_on_literals
 twin_words = refl
+
+client_map_words : words_of (codes "client-map" ∷ codes "p.sc" ∷ codes "--input=i" ∷ codes "--tape=t" ∷ codes "--sim=s" ∷ codes "--public=p"
+    ∷ codes "--opened=o" ∷ codes "--published=q" ∷ codes "--budget" ∷ codes "9" ∷ [])
+    ≡ Some (client_map (record {
+      program = codes "p.sc";
+      input = codes "i";
+      tape = codes "t";
+      sim = codes "s";
+      public = codes "p";
+      opened = codes "o";
+      published = codes "q";
+      budget = 9;
+    }))
+unfolding words_on_literals
+client_map_words = refl
+
+client_simulate_words : words_of (codes "client-simulate" ∷ codes "p.sc" ∷ codes "--public=p" ∷ codes "--opened=o" ∷ codes "--published=q"
+    ∷ codes "--sim=s" ∷ codes "--view=v" ∷ [])
+    ≡ Some (client_simulate (record {
+      program = codes "p.sc";
+      public = codes "p";
+      opened = codes "o";
+      published = codes "q";
+      sim = codes "s";
+      view = codes "v";
+      budget = 1000000;
+    }))
+unfolding words_on_literals
+client_simulate_words = refl
+
+-- the client is one, and has no number
+client_twin_of_miner : words_of (codes "client-twin" ∷ codes "2" ∷ codes "p.sc" ∷ codes "--input=i" ∷ codes "--second=j" ∷ codes "--tape=t"
+    ∷ codes "--to=u" ∷ []) ≡ None
+unfolding words_on_literals
+client_twin_of_miner = refl
+
+client_twin_words : words_of (codes "client-twin" ∷ codes "p.sc" ∷ codes "--input=i" ∷ codes "--second=j" ∷ codes "--tape=t" ∷ codes "--to=u" ∷ [])
+    ≡ Some (client_twin (record { program = codes "p.sc"; input = codes "i"; second = codes "j"; tape = codes "t"; to = codes "u"; budget = 1000000 }))
+unfolding words_on_literals
+client_twin_words = refl
 
 load_words : words_of (codes "load" ∷ codes "--number" ∷ codes "18446744073709551615" ∷ []) ≡ Some (load 18446744073709551615)
 unfolding words_on_literals

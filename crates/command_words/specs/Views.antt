@@ -17,6 +17,9 @@ use Rattle.command_words.specs.declared.command.EvalWords.{EvalWords}
 use Rattle.command_words.specs.declared.command.MapWords.{MapWords}
 use Rattle.command_words.specs.declared.command.SimulateWords.{SimulateWords}
 use Rattle.command_words.specs.declared.command.TwinWords.{TwinWords}
+use Rattle.command_words.specs.declared.command.ClientMapWords.{ClientMapWords}
+use Rattle.command_words.specs.declared.command.ClientSimulateWords.{ClientSimulateWords}
+use Rattle.command_words.specs.declared.command.ClientTwinWords.{ClientTwinWords}
 use Rattle.command_words.specs.declared.command.GatherWords.{GatherWords}
 use Rattle.command_words.specs.declared.command.JoinWords.{JoinWords}
 use Rattle.command_words.specs.declared.command.MinerWords.{MinerWords}
@@ -27,6 +30,7 @@ use Rattle.command_words.specs.declared.command.WordsErr.{WordsErr}
 use Rattle.command_words.specs.declared.command.WordsErr.TheVariants.{Usage, Memory}
 use Rattle.command_words.specs.Ask.{Ask, CompileAsk, DealAsk, EvalAsk, Order, RunAsk, Source, check, compile, deal, eval, file, in_turn, need, run}
 use Rattle.command_words.specs.Ask.{JoinAsk, MinerAsk, TrioAsk, UpgradeAsk, join, miner, trio, upgrade}
+use Rattle.command_words.specs.Ask.{ClientMapAsk, ClientSimulateAsk, ClientTwinAsk, client_map, client_simulate, client_twin}
 use Rattle.command_words.specs.Ask.{GatherAsk, gather, MapAsk, SimulateAsk, TwinAsk, load, map_tape, scheduled, seeded, shuffled, simulate, twin}
 
 abbrev pub source_ask : TapeOrigin → Source
@@ -96,6 +100,39 @@ twin_ask w = record {
   budget = w.budget;
 }
 
+abbrev pub client_map_ask : ClientMapWords → ClientMapAsk
+client_map_ask w = record {
+  program = string_bytes w.program;
+  input = string_bytes w.input;
+  tape = string_bytes w.tape;
+  sim = string_bytes w.sim;
+  public = string_bytes w.public;
+  opened = string_bytes w.opened;
+  published = string_bytes w.published;
+  budget = w.budget;
+}
+
+abbrev pub client_simulate_ask : ClientSimulateWords → ClientSimulateAsk
+client_simulate_ask w = record {
+  program = string_bytes w.program;
+  public = string_bytes w.public;
+  opened = string_bytes w.opened;
+  published = string_bytes w.published;
+  sim = string_bytes w.sim;
+  view = string_bytes w.view;
+  budget = w.budget;
+}
+
+abbrev pub client_twin_ask : ClientTwinWords → ClientTwinAsk
+client_twin_ask w = record {
+  program = string_bytes w.program;
+  input = string_bytes w.input;
+  second = string_bytes w.second;
+  tape = string_bytes w.tape;
+  to = string_bytes w.to;
+  budget = w.budget;
+}
+
 abbrev pub gather_ask : GatherWords → GatherAsk
 gather_ask w = record {
   miner = w.miner;
@@ -139,6 +176,9 @@ ask_of (commands.Need w) = need (eval_ask w)
 ask_of (commands.Map w) = map_tape (map_ask w)
 ask_of (commands.Simulate w) = simulate (simulate_ask w)
 ask_of (commands.Twin w) = twin (twin_ask w)
+ask_of (commands.ClientMap w) = client_map (client_map_ask w)
+ask_of (commands.ClientSimulate w) = client_simulate (client_simulate_ask w)
+ask_of (commands.ClientTwin w) = client_twin (client_twin_ask w)
 ask_of (commands.Load w) = load w.number
 ask_of (commands.Gather w) = gather (gather_ask w)
 ask_of (commands.Join w) = join (join_ask w)

@@ -4,6 +4,8 @@ ghost use Rattle.command_words.specs.Shapes.{gather_app, words_rule, join_app, m
 ghost use Rattle.command_words.specs.Shapes.{check_app, compile_app, eval_options, evaluation_app, view_app, map_app, simulate_app, twin_app};
 ghost use Rattle.command_words.specs.Shapes.{load_app, upgrade_app, with_options, bare_app, secrec_app};
 ghost use Rattle.command_words.specs.inner.Parts.{gather_required, map_required, miner_required, run_options, simulate_options, trio_required};
+ghost use Rattle.command_words.specs.Shapes.{client_app, client_map_app, client_simulate_app, client_twin_app};
+ghost use Rattle.command_words.specs.inner.Parts.{client_map_required, client_simulate_required, client_viewing_app};
 ghost use Rattle.command_words.specs.inner.Parts.{input_app, clear_app, checking_app, program_app, viewing_app, loading_app, gathering_app};
 ghost use Rattle.clap.specs.Words.{App, with_rule, with_subcommand};
 ghost use Rattle.command_words.specs.Builds.{Builds, IsLocal};
@@ -219,6 +221,60 @@ fn twin_command<'a>(alloc: Global) -> Result<Command<'a>, AllocError>
     view_command(alloc, "twin", TWIN_REQUIRED.as_slice(), eval_options())
 }
 
+// The command of this name about the client's view of a program, with these options.
+fn client_command<'a>(
+    alloc: Global,
+    name: &'a str,
+    required: &'static [&'static str],
+) -> Result<Command<'a>, AllocError>
+    ensures { IfOk result (λ c. Builds (client_app name.entry.now (map (λ s. s.now) required.now)) c) }
+{
+    let command = with_word(alloc, Ok(Command::new(alloc, name)), "program");
+    let command = with_options(alloc, command, true, required);
+    with_options(alloc, command, false, eval_options())
+}
+
+static CLIENT_MAP_REQUIRED: [&str; 6] = ["input", "tape", "sim", "public", "opened", "published"];
+
+// The options of `client-map` that must be there.
+#[tactic(auto, unfolding(crate::specs::inner::Parts::client_map_required))]
+fn client_map_required() -> &'static [&'static str]
+    ensures { map (λ s. s.now) result.now ≡ client_map_required }
+{
+    CLIENT_MAP_REQUIRED.as_slice()
+}
+
+#[tactic(auto, unfolding(crate::specs::Shapes::client_map_app, crate::specs::inner::Parts::client_map_required))]
+fn client_map_command<'a>(alloc: Global) -> Result<Command<'a>, AllocError>
+    ensures { IfOk result (λ c. Builds client_map_app c) }
+{
+    client_command(alloc, "client-map", client_map_required())
+}
+
+static CLIENT_SIMULATE_REQUIRED: [&str; 5] = ["public", "opened", "published", "sim", "view"];
+
+// The options of `client-simulate` that must be there.
+#[tactic(auto, unfolding(crate::specs::inner::Parts::client_simulate_required))]
+fn client_simulate_required() -> &'static [&'static str]
+    ensures { map (λ s. s.now) result.now ≡ client_simulate_required }
+{
+    CLIENT_SIMULATE_REQUIRED.as_slice()
+}
+
+#[tactic(auto, unfolding(crate::specs::Shapes::client_simulate_app, crate::specs::inner::Parts::client_simulate_required))]
+fn client_simulate_command<'a>(alloc: Global) -> Result<Command<'a>, AllocError>
+    ensures { IfOk result (λ c. Builds client_simulate_app c) }
+{
+    client_command(alloc, "client-simulate", client_simulate_required())
+}
+
+#[tactic(auto, unfolding(crate::specs::Shapes::client_twin_app))]
+fn client_twin_command<'a>(alloc: Global) -> Result<Command<'a>, AllocError>
+    ensures { IfOk result (λ c. Builds client_twin_app c) }
+{
+    client_command(alloc, "client-twin", TWIN_REQUIRED.as_slice())
+}
+
 fn load_command<'a>(alloc: Global) -> Result<Command<'a>, AllocError>
     ensures { IfOk result (λ c. Builds load_app c) }
 {
@@ -358,11 +414,20 @@ fn viewing_commands<'a>(alloc: Global) -> Result<Command<'a>, AllocError>
     with_command(simulated, twin_command(alloc))
 }
 
+// Those, and the commands about the client's view.
+fn client_viewing_commands<'a>(alloc: Global) -> Result<Command<'a>, AllocError>
+    ensures { IfOk result (λ c. Builds client_viewing_app c) }
+{
+    let mapped = with_command(viewing_commands(alloc), client_map_command(alloc));
+    let simulated = with_command(mapped, client_simulate_command(alloc));
+    with_command(simulated, client_twin_command(alloc))
+}
+
 // Those, and the one that runs a workload.
 fn loading_commands<'a>(alloc: Global) -> Result<Command<'a>, AllocError>
     ensures { IfOk result (λ c. Builds loading_app c) }
 {
-    with_command(viewing_commands(alloc), load_command(alloc))
+    with_command(client_viewing_commands(alloc), load_command(alloc))
 }
 
 // Those, and the one that puts share files end to end.

@@ -146,6 +146,45 @@ pub struct TwinWords {
     pub budget: u64,
 }
 
+/// The words of `client-map`: the paths of the program, the input file and the tape file, the most that the run may cost, and the paths to which
+/// the simulator's tape, the public part of the inputs, the opened lines and the lines of what is handed over are written.
+#[derive(Drop)]
+pub struct ClientMapWords {
+    pub program: String,
+    pub input: String,
+    pub tape: String,
+    pub sim: String,
+    pub public: String,
+    pub opened: String,
+    pub published: String,
+    pub budget: u64,
+}
+
+/// The words of `client-simulate`: the paths of the program, the public part of the inputs, the opened lines, the lines of what is handed over
+/// and the simulator's tape, the most that the run may cost, and the path to which the client's view is written.
+#[derive(Drop)]
+pub struct ClientSimulateWords {
+    pub program: String,
+    pub public: String,
+    pub opened: String,
+    pub published: String,
+    pub sim: String,
+    pub view: String,
+    pub budget: u64,
+}
+
+/// The words of `client-twin`: the paths of the program, the two input files and the tape file, the most that the run may cost, and the path to
+/// which the tape of the second input is written.
+#[derive(Drop)]
+pub struct ClientTwinWords {
+    pub program: String,
+    pub input: String,
+    pub second: String,
+    pub tape: String,
+    pub to: String,
+    pub budget: u64,
+}
+
 /// The word of `load`: the number from which the load is made.
 #[derive(Clone, Copy)]
 pub struct LoadWords {
@@ -209,6 +248,9 @@ pub enum Command {
     Map(MapWords),
     Simulate(SimulateWords),
     Twin(TwinWords),
+    ClientMap(ClientMapWords),
+    ClientSimulate(ClientSimulateWords),
+    ClientTwin(ClientTwinWords),
     Load(LoadWords),
     Gather(GatherWords),
     Join(JoinWords),
@@ -230,6 +272,9 @@ impl Drop for Command {
             | Command::Map(_)
             | Command::Simulate(_)
             | Command::Twin(_)
+            | Command::ClientMap(_)
+            | Command::ClientSimulate(_)
+            | Command::ClientTwin(_)
             | Command::Load(_)
             | Command::Gather(_)
             | Command::Join(_)

@@ -6,13 +6,14 @@ ghost use Rattle.command_words.specs.Ask.{gather, gather_of, others_of};
 ghost use Rattle.command_words.specs.Ask.{join, join_of, miner as miner_words, miner_ask_of, trio, trio_of, upgrade, upgrade_of};
 ghost use Rattle.command_words.specs.Ask.{compile_of, eval_of, map_of, simulate_of, twin_of, named};
 ghost use Rattle.command_words.specs.Ask.{run, deal, check, compile, eval, need, map_tape, simulate, twin, load};
+ghost use Rattle.command_words.specs.Ask.{client_map, client_map_of, client_simulate, client_simulate_of, client_twin, client_twin_of};
 ghost use Rattle.command_words.specs.Numbers.{miner_of, number_of, port_of};
 ghost use Rattle.command_words.specs.Views.{Reads, text_in, source_ask, order_ask, eval_ask, ask_of};
 
 use crate::command::{
-    CheckWords, Command, CompileWords, DealWords, DeliveryOrder, EvalWords, GatherWords, JoinWords,
-    LoadWords, MapWords, MinerWords, RunWords, SimulateWords, TapeOrigin, TrioWords, TwinWords,
-    UpgradeWords, WordsErr,
+    CheckWords, ClientMapWords, ClientSimulateWords, ClientTwinWords, Command, CompileWords,
+    DealWords, DeliveryOrder, EvalWords, GatherWords, JoinWords, LoadWords, MapWords, MinerWords,
+    RunWords, SimulateWords, TapeOrigin, TrioWords, TwinWords, UpgradeWords, WordsErr,
 };
 use crate::numbers::{miner, number, port, seed};
 use crate::tape_seed::TapeSeed;
@@ -366,6 +367,75 @@ fn read_twin(alloc: Global, matches: &ArgMatches) -> Result<Command, WordsErr>
     }))
 }
 
+// `client-map`, with its words.
+#[tactic(auto, unfolding(crate::specs::Ask::client_map_of))]
+fn read_client_map(alloc: Global, matches: &ArgMatches) -> Result<Command, WordsErr>
+    ensures { Reads ask_of (option_map client_map (client_map_of (rows_of (found_of matches.now)))) result }
+{
+    let Some(budget) = budget_in(matches) else {
+        return Err(WordsErr::Usage);
+    };
+    let tape = required(alloc, matches, "tape")?;
+    let published = required(alloc, matches, "published")?;
+    let paths = paths_of(alloc, matches)?;
+    let written = simulator_paths_of(alloc, matches)?;
+    Ok(Command::ClientMap(ClientMapWords {
+        program: paths.program,
+        input: paths.input,
+        tape,
+        sim: written.sim,
+        public: written.public,
+        opened: written.opened,
+        published,
+        budget,
+    }))
+}
+
+// `client-simulate`, with its words.
+#[tactic(auto, unfolding(crate::specs::Ask::client_simulate_of))]
+fn read_client_simulate(alloc: Global, matches: &ArgMatches) -> Result<Command, WordsErr>
+    ensures { Reads ask_of (option_map client_simulate (client_simulate_of (rows_of (found_of matches.now)))) result }
+{
+    let Some(budget) = budget_in(matches) else {
+        return Err(WordsErr::Usage);
+    };
+    let program = required(alloc, matches, "program")?;
+    let published = required(alloc, matches, "published")?;
+    let view = required(alloc, matches, "view")?;
+    let read = simulator_paths_of(alloc, matches)?;
+    Ok(Command::ClientSimulate(ClientSimulateWords {
+        program,
+        public: read.public,
+        opened: read.opened,
+        published,
+        sim: read.sim,
+        view,
+        budget,
+    }))
+}
+
+// `client-twin`, with its words.
+#[tactic(auto, unfolding(crate::specs::Ask::client_twin_of))]
+fn read_client_twin(alloc: Global, matches: &ArgMatches) -> Result<Command, WordsErr>
+    ensures { Reads ask_of (option_map client_twin (client_twin_of (rows_of (found_of matches.now)))) result }
+{
+    let Some(budget) = budget_in(matches) else {
+        return Err(WordsErr::Usage);
+    };
+    let second = required(alloc, matches, "second")?;
+    let tape = required(alloc, matches, "tape")?;
+    let to = required(alloc, matches, "to")?;
+    let paths = paths_of(alloc, matches)?;
+    Ok(Command::ClientTwin(ClientTwinWords {
+        program: paths.program,
+        input: paths.input,
+        second,
+        tape,
+        to,
+        budget,
+    }))
+}
+
 // `load`, with its word.
 #[tactic(auto, unfolding(crate::specs::Ask::required_of))]
 fn read_load(matches: &ArgMatches) -> Result<Command, WordsErr>
@@ -501,6 +571,15 @@ pub(crate) fn named(alloc: Global, name: &str, matches: &ArgMatches) -> Result<C
     }
     if name == "twin" {
         return read_twin(alloc, matches);
+    }
+    if name == "client-map" {
+        return read_client_map(alloc, matches);
+    }
+    if name == "client-simulate" {
+        return read_client_simulate(alloc, matches);
+    }
+    if name == "client-twin" {
+        return read_client_twin(alloc, matches);
     }
     if name == "load" {
         return read_load(matches);

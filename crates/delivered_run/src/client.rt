@@ -9,7 +9,7 @@ use miner_core::Notice;
 use program_trees::Shape;
 use sc_text::{Elements, Event};
 use std::alloc::{AllocError, Global};
-use vector_ops::elements;
+use vector_ops::{elements, printed_kind};
 
 /// The elements, so many, of which three miners hand in these shares.
 #[tactic(auto, using(code_runs::proofs::Types::same_type))]
@@ -55,7 +55,7 @@ fn event_of(
         } => {
             let name = name.copy(alloc)?;
             let given = shared_elements(alloc, *shape, *count, words, second, third)?;
-            Ok(Event::Hand(name, given))
+            Ok(Event::Hand(name, printed_kind(shape.element), given))
         }
     }
 }

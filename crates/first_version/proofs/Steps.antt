@@ -46,7 +46,7 @@ module _ (w : World) where
   unfolding is_beside
   published_beside text v =
       beside_bind (walk.untrapped_holds w w is_beside law (size v)) (λ _. beside_bind (handed_beside v.secrecy v) (λ _.
-      beside_emit (row.publication v.secrecy text (elements_of v))))
+      beside_emit (row.publication v.secrecy v.shape.element text (elements_of v))))
 
   private_beside : (op : BinaryOperator) (ds : Operands) (x y : Value) → Beside (first.private_result w op ds x y) (row.private_result w op ds x y)
   unfolding is_beside

@@ -65,4 +65,4 @@ abbrev pub published : World → List ℕ → Value → Effect (Unit {0})
 published w text v = do
   _ ← row.charged row.no_traps (size v)
   _ ← handed_over w v.secrecy v
-  emit (row.publication v.secrecy text (elements_of v))
+  emit (row.publication v.secrecy v.shape.element text (elements_of v))

@@ -92,7 +92,7 @@ learned_then [] fs = refl
 learned_then (Open elements ∷ es) fs =
     ap (λ z. elements_words elements ++ z) (learned_then es fs) ∙ sym (append_assoc (elements_words elements) (learned_of es) (learned_of fs))
 learned_then (Publish text elements ∷ es) fs = learned_then es fs
-learned_then (Hand text elements ∷ es) fs = learned_then es fs
+learned_then (Hand text kind elements ∷ es) fs = learned_then es fs
 
 -- what isn't an opening teaches nothing
 pub learned_still : (es : List Event) (e : Event) → learned_of (e ∷ []) ≡ [] → learned_of (es ++ e ∷ []) ≡ learned_of es

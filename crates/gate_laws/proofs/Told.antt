@@ -11,7 +11,7 @@ use Rattle.gates.specs.declared.gate.Gate.TheVariants as gates
 use Rattle.program_trees.specs.declared.kinds.Shape.{Shape}
 use Rattle.program_trees.specs.Shapes.{shape_of}
 use Rattle.language_model.specs.Effects.{World, GivenInput, Effect, ◌>>=◌, done, draw, test, gate, emit, words_each}
-use Rattle.language_model.specs.Values.{Secrecy, Plain, Private, Value, plain, size, ring_for, gate_words, gate_size, elements_of, is_true}
+use Rattle.language_model.specs.Values.{Secrecy, Plain, Private, Value, plain, size, ring_for, gate_words, gate_size, elements_of, is_true, printed_kind}
 use Rattle.language_model.specs.Operations.{number_of, handed_over, publication, published, tested, asserted}
 use Rattle.language_model.specs.Evaluation.{same_truth, same_shape, is_as_declared, behind, input_from, input_named, given_value, asked_for}
 use Rattle.gates.specs.declared.ring_kind.RingKind.{RingKind}
@@ -54,7 +54,7 @@ module _ (w : World) (d : Dealt) where
     own_size = gate_size v.shape.element (size v)
 
     abbrev telling : Secrecy → List ℕ → Unit {0} → Effect (Unit {0})
-    telling a text = λ _. emit (publication a text (elements_of v))
+    telling a text = λ _. emit (publication a v.shape.element text (elements_of v))
 
     -- the gate, and then the event
     handing_suits : (fs : List Fact) (k : Option ℕ) (text : List ℕ) (u : ℕ) → Tell fs (fact u ring own_words ∷ [])
@@ -83,11 +83,11 @@ module _ (w : World) (d : Dealt) where
                       omega (arith, at.drawn i, owed, own);
                   answers = at.answers;
                   handed = λ values fit.
-                      subst (Handed (s.events ++ event.Hand text (elements_of v) ∷ []))
+                      subst (Handed (s.events ++ event.Hand text (printed_kind v.shape.element) (elements_of v) ∷ []))
                       (ap (λ z. handed_values values s.gates ++ z ∷ []) (sym (h.words values (before values fit))) ∙ sym (handed_split values s.gates gs))
                       (and_handed text v.shape.element v.words p.range (at.handed values (before values fit)));
                   opened = λ clear values fit.
-                      learned_still s.events (event.Hand text (elements_of v)) refl ∙ at.opened clear values (before values fit)
+                      learned_still s.events (event.Hand text (printed_kind v.shape.element) (elements_of v)) refl ∙ at.opened clear values (before values fit)
                       ∙ sym (append-nil (opened_values values s.gates)) ∙ sym (opened_split values s.gates gs);
                 };
                 facts = tt;

@@ -16,7 +16,7 @@ use Rattle.shared_plans.specs.Model.{miner_of}
 use Rattle.shared_plans.specs.Computed.{opened_values}
 use Rattle.shared_plans.specs.GateRuns.{GateRun, IsWellFormed, value_count, words_drawn}
 use Rattle.language_model.specs.Effects.{World, Clear, Stage, Run, Effect}
-use Rattle.language_model.specs.Values.{Secrecy, Plain, Private, Value, ring_for, gate_words, element_of}
+use Rattle.language_model.specs.Values.{Secrecy, Plain, Private, Value, ring_for, gate_words, element_of, printed_kind}
 use Rattle.language_model.specs.Learned.{learned_of}
 use Rattle.gate_laws.specs.Dealt.{Dealt, InRange, drawn_by}
 
@@ -79,7 +79,7 @@ pub data Handed : List Event → List (List ℕ) → Type 0 where
       {es : List Event} {vs : List (List ℕ)} (text : List ℕ) (elements : List Element) → Handed es vs → Handed (es ++ Publish text elements ∷ []) vs
   and_handed :
       {es : List Event} {vs : List (List ℕ)} (text : List ℕ) (e : DataType) (words : List ℕ) → InRange e words → Handed es vs
-      → Handed (es ++ Hand text (map (element_of e) words) ∷ []) (vs ++ gate_words e words ∷ [])
+      → Handed (es ++ Hand text (printed_kind e) (map (element_of e) words) ∷ []) (vs ++ gate_words e words ∷ [])
 
 -- ---- STAGES
 

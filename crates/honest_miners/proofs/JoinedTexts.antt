@@ -18,7 +18,7 @@ use Rattle.shared_gates.specs.Shares.{AreShares}
 use Rattle.gates.proofs.Packing.{length-packed}
 use Rattle.language_model.specs.Values.{element_of, gate_words}
 use Rattle.code_runs.specs.Places.{element_type_of}
-use Rattle.code_runs.specs.Telling.{type_of, elements_told, ring_told, AreOf, Tells, nothing, opened, published, handed}
+use Rattle.code_runs.specs.Telling.{type_of, elements_told, kind_told, ring_told, AreOf, Tells, nothing, opened, published, handed}
 use Rattle.code_runs.specs.ClientTold.{all_added_up}
 use Rattle.code_runs.proofs.Together.{told_together_are_the_events}
 use Rattle.miner_text.specs.Lines.{type_word, line_text, text_of}
@@ -84,16 +84,16 @@ abbrev AreSharesOf : Form → List ℕ → (Number → List ℕ) → Type 0
 AreSharesOf form words shares = AreShares (ring_told form) (gate_words (type_of form.element) words) shares
 
 shares_told : (text : List ℕ) (form : Form) (words : List ℕ) (shares : Number → List ℕ) → AreOf form words → AreSharesOf form words shares →
-    Hand text (elements_told form (all_added_up form.element (length words) (shares One) (shares Two) (shares Three)))
-    ≡ Hand text (elements_told form words)
+    Hand text (kind_told form) (elements_told form (all_added_up form.element (length words) (shares One) (shares Two) (shares Three)))
+    ≡ Hand text (kind_told form) (elements_told form words)
 shares_told text form words shares range are =
     same_head _ _ (told_together_are_the_events _ _ (handed text form words shares range are nothing))
 
 share_joined : (text : List ℕ) (form : Form) (words : List ℕ) (shares : Number → List ℕ) → AreOf form words → AreSharesOf form words shares →
     joined_line (line_told (Handed text form (length words) (shares One))) (shares Two) (shares Three)
-    ≡ event_line (Hand text (elements_told form words))
+    ≡ event_line (Hand text (kind_told form) (elements_told form words))
 share_joined text form words shares range are =
-    ap (λ f. event_line (Hand text (map (element_of (type_of form.element)) (all_added_up f (length words) (shares One) (shares Two) (shares Three)))))
+    ap (λ f. event_line (Hand text (kind_told form) (map (element_of (type_of form.element)) (all_added_up f (length words) (shares One) (shares Two) (shares Three)))))
     (type_back form.element)
     ∙ ap event_line (shares_told text form words shares range are)
 
@@ -145,7 +145,7 @@ lines_joined k end (handed {events = events} {notices = notices} text form words
     (lines_of notices end One) (lines_of notices end Two) (lines_of notices end Three)
     (share_alike text form (length words) (shares One) (shares Two) (are.sizes One ∙ sym (are.sizes Two)))
     (share_alike text form (length words) (shares One) (shares Three) (are.sizes One ∙ sym (are.sizes Three)))
-    ∙ put_front (Hand text (elements_told form words)) events end _ _ (share_joined text form words shares range are) (lines_joined (k + 1) end h)
+    ∙ put_front (Hand text (kind_told form) (elements_told form words)) events end _ _ (share_joined text form words shares range are) (lines_joined (k + 1) end h)
 
 -- ---- their texts
 

@@ -8,6 +8,7 @@ use Rattle.sc_text.specs.declared.elements.Element.{Element}
 use Rattle.sc_text.specs.declared.end.Ending.TheVariants.{Budget}
 use Rattle.sc_text.specs.declared.event.Event.{Event}
 use Rattle.sc_text.specs.declared.event.Event.TheVariants as event
+use Rattle.program_trees.specs.declared.expression.DataType.{DataType}
 use Rattle.program_trees.specs.TypedPrograms.{TypedProgramTree}
 use Rattle.language_model.specs.Effects.{World, Clear, Stage, RunStop, Ended, Run, Effect, ◌>>=◌, carry, done, charge, emit}
 use Rattle.language_model.specs.Operations.{charged, no_traps, handed_over, publication, published}
@@ -31,17 +32,18 @@ paid_more : (k m : ℕ) (events : List Event) → k ≤ m → ArePaid k events �
 paid_more k m [] le h = tt
 paid_more k m (event.Open es ∷ events) le h = paid_more k m events le h
 paid_more k m (event.Publish name es ∷ events) le h = paid_more k m events le h
-paid_more k m (event.Hand name es ∷ events) le h = let first = h.0 in (omega (arith, first, le), paid_more k m events le h.1)
+paid_more k m (event.Hand name kind es ∷ events) le h = let first = h.0 in (omega (arith, first, le), paid_more k m events le h.1)
 
 paid_then : (k : ℕ) (events more : List Event) → ArePaid k events → ArePaid k more → ArePaid k (events ++ more)
 paid_then k [] more h m = m
 paid_then k (event.Open es ∷ events) more h m = paid_then k events more h m
 paid_then k (event.Publish name es ∷ events) more h m = paid_then k events more h m
-paid_then k (event.Hand name es ∷ events) more h m = (h.0, paid_then k events more h.1 m)
+paid_then k (event.Hand name kind es ∷ events) more h m = (h.0, paid_then k events more h.1 m)
 
-publication_paid : (k : ℕ) (secrecy : Secrecy) (name : List ℕ) (es : List Element) → length es ≤ k → ArePaid k (publication secrecy name es ∷ [])
-publication_paid k Plain name es h = tt
-publication_paid k (Private j) name es h = (h, tt)
+publication_paid : (k : ℕ) (secrecy : Secrecy) (e : DataType) (name : List ℕ) (es : List Element) → length es ≤ k
+    → ArePaid k (publication secrecy e name es ∷ [])
+publication_paid k Plain e name es h = tt
+publication_paid k (Private j) e name es h = (h, tt)
 
 -- ---- WHAT AN EFFECT COSTS
 
@@ -102,15 +104,15 @@ module _ (o : Offered) where
   unfolding is_onward
   handed_onward x v = walk.handed_holds w w (is_onward w) (onward_law w) x v
 
-  told_onward : (x : Secrecy) (text : List ℕ) (es : List Element) → Onward w (emit (publication x text es))
+  told_onward : (x : Secrecy) (e : DataType) (text : List ℕ) (es : List Element) → Onward w (emit (publication x e text es))
   unfolding is_onward
-  told_onward x text es = (onward_law w).on_publish x text es
+  told_onward x e text es = (onward_law w).on_publish x e text es
 
   published_costs : (text : List ℕ) (v : Value) → Costs (size v) (published w text v)
   published_costs text v =
       costs_less (size v) (size v + (0 + 0)) (omega arith)
       (costs_both (size v) (0 + 0) (costs_charged (size v)) (λ _. costs_both 0 0 (costs_onward (handed_onward v.secrecy v))
-      (λ _. costs_onward (told_onward v.secrecy text (elements_of v)))))
+      (λ _. costs_onward (told_onward v.secrecy v.shape.element text (elements_of v)))))
 
   -- ---- STEPS
 
@@ -154,7 +156,7 @@ module _ (o : Offered) where
         let v = m.registers r in
         let within = h.within in
         let count = length-map v.words (element_of v.shape.element) in
-        paid_so s u _ h le t.events (publication_paid (budget - u.left) v.secrecy text (elements_of v) (omega (arith, cost, within, count)))
+        paid_so s u _ h le t.events (publication_paid (budget - u.left) v.secrecy v.shape.element text (elements_of v) (omega (arith, cost, within, count)))
     told_paid i m s u h le cost t = same_paid s u h le t
 
     -- ---- A RUN

@@ -18,7 +18,7 @@ abbrev pub ArePaid : (cost : ℕ) → List Event → Type 0
 ArePaid cost [] = Unit {0}
 ArePaid cost (Open elements ∷ events) = ArePaid cost events
 ArePaid cost (Publish name elements ∷ events) = ArePaid cost events
-ArePaid cost (Hand name elements ∷ events) = (length elements ≤ cost) × ArePaid cost events
+ArePaid cost (Hand name kind elements ∷ events) = (length elements ≤ cost) × ArePaid cost events
 
 -- of events that are told under names and are paid for, as those of each accepted program are, and an end that can be written; that the miners' words
 -- have 64 bits, and the numbers of elements, follows

@@ -348,7 +348,7 @@ steady_law w n n' = record {
   on_gate = steady_gate;
   on_number = steady_number;
   on_gates = steady_gates;
-  on_publish = λ x text elements. steady_emit (publication x text elements);
+  on_publish = λ x e text elements. steady_emit (publication x e text elements);
   on_answers = steady_answers;
   on_told = λ shape words. let shown = read_answer shape.element words in
       steady_bind (steady_show shown)

@@ -78,7 +78,8 @@ pub record IsLaw (w w' : World) (P : (A : Type 0) → Effect A → Effect A → 
   pub on_gate : (g : Gate) → P _ (gate g) (gate g)
   pub on_number : P _ next_number next_number
   pub on_gates : (gs : List Gate) → P _ (put_gates gs) (put_gates gs)
-  pub on_publish : (x : Secrecy) (text : List ℕ) (elements : List Element) → P _ (emit (publication x text elements)) (emit (publication x text elements))
+  pub on_publish : (x : Secrecy) (e : DataType) (text : List ℕ) (elements : List Element)
+      → P _ (emit (publication x e text elements)) (emit (publication x e text elements))
   pub on_answers : (n : ℕ) → P _ (next_answers n) (next_answers n)
   pub on_told : (shape : Shape) (words : List ℕ) → P _ (told_open shape words) (told_open shape words)
   pub on_turns : {condition condition' : Frame → Effect Value} {step step' body body' : Frame → Effect Flow}
@@ -331,7 +332,7 @@ module _ (w w' : World) (P : (A : Type 0) → Effect A → Effect A → Type 0) 
   handed_holds (Private k) v = law.bind (law.on_draw _) (λ _. law.bind (number_holds v) (λ u. law.bind (law.on_gate _) (λ _. law.on_done tt)))
 
   pub published_holds : (text : List ℕ) (v : Value) → P _ (published w text v) (published w' text v)
-  published_holds text v = law.bind (untrapped_holds (size v)) (λ _. law.bind (handed_holds v.secrecy v) (λ _. law.on_publish _ _ _))
+  published_holds text v = law.bind (untrapped_holds (size v)) (λ _. law.bind (handed_holds v.secrecy v) (λ _. law.on_publish _ _ _ _))
 
   pub tested_holds : (v : Value) → P _ (tested v) (tested v)
   tested_holds v = law.bind (law.on_charge 1) (λ _. law.on_done _)

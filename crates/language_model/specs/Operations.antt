@@ -34,7 +34,7 @@ pub use Rattle.reached_instances.specs.Operators.{cast_shape, is_product, result
 use Rattle.reached_instances.specs.Shapes.{shape_of}
 use Rattle.language_model.specs.Effects.{Words, World, Effect, ◌>>=◌, done, charge, test, words_each, draw, gate, planned, next_number, emit, answer, show}
 use Rattle.language_model.specs.Values.{Secrecy, Plain, Private, Value, plain, hidden, is_secret, size, visible_words, is_true, elements_of}
-use Rattle.language_model.specs.Values.{ring_for, gate_words, gate_size}
+use Rattle.language_model.specs.Values.{ring_for, gate_words, gate_size, printed_kind}
 use Rattle.language_model.specs.Words as W
 
 -- ---- THE PARTS OF AN OPERATION
@@ -473,15 +473,15 @@ handed_over w (Private k) v = do
   done tt
 
 -- it is told as such: a public value is published, a private one is handed over
-abbrev pub publication : Secrecy → List ℕ → List Element → Event
-publication Plain text elements = event.Publish text elements
-publication (Private k) text elements = event.Hand text elements
+abbrev pub publication : Secrecy → DataType → List ℕ → List Element → Event
+publication Plain e text elements = event.Publish text elements
+publication (Private k) e text elements = event.Hand text (printed_kind e) elements
 
 abbrev pub published : World → List ℕ → Value → Effect (Unit {0})
 published w text v = do
   _ ← charged no_traps (size v)
   _ ← handed_over w v.secrecy v
-  emit (publication v.secrecy text (elements_of v))
+  emit (publication v.secrecy v.shape.element text (elements_of v))
 
 -- ---- CONTROL
 

@@ -1,7 +1,9 @@
 -- What a run computes with.
-use Rattle.std.specs.Prelude.{ℕ, Bool, true, false, not, ◌==◌, ◌&&◌, ◌-◌, ◌^◌, nat_le, nat_lt, if◌then◌else◌, List, [], ◌∷◌, Option, Some, None, length, map}
+use Rattle.std.specs.Prelude.{ℕ, Bool, true, false, not, ◌==◌, ◌&&◌, ◌-◌, ◌%◌, ◌^◌, nat_le, nat_lt, if◌then◌else◌, List, [], ◌∷◌, Option, Some, None, length, map}
 use Rattle.sc_text.specs.declared.elements.Element.{Element}
 use Rattle.sc_text.specs.declared.elements.Element.TheVariants.{Word, Negative, Truth}
+use Rattle.sc_text.specs.declared.elements.ElementKind.{ElementKind}
+use Rattle.sc_text.specs.declared.elements.ElementKind.TheVariants as kinds
 use Rattle.program_trees.specs.declared.expression.DataType.{DataType}
 use Rattle.program_trees.specs.declared.expression.DataType.TheVariants.{Uint64, Int64}
 use Rattle.program_trees.specs.declared.expression.DataType.TheVariants as datatype
@@ -75,9 +77,21 @@ gate_size Uint64 n = n
 gate_size Int64 n = n
 gate_size datatype.Bool n = words_for n
 
+-- what the elements of a data type are, as they are printed
+abbrev pub printed_kind : DataType → ElementKind
+printed_kind Uint64 = kinds.Unsigned
+printed_kind Int64 = kinds.Signed
+printed_kind datatype.Bool = kinds.TruthValue
+
 -- a number with a sign, by its word, as it is printed
 abbrev pub signed_element : ℕ → Element
 signed_element x = if nat_le (2 ^ 63) x && nat_lt x (2 ^ 64) then Negative (2 ^ 64 - x) else Word x
+
+-- the element of a kind that a word stands for; of a truth value bit 0 counts
+abbrev pub element_as : ElementKind → ℕ → Element
+element_as kinds.Unsigned x = Word x
+element_as kinds.Signed x = signed_element x
+element_as kinds.TruthValue x = Truth (not (x % 2 == 0))
 
 -- as it is printed
 abbrev pub element_of : DataType → ℕ → Element

@@ -1,6 +1,7 @@
 -- Small programs and what evaluation gives for them, worked out by hand from the rules.
 use Rattle.std.specs.Prelude.{ℕ, ◌≡◌, Bool, true, false, List, [], ◌∷◌, Some, codes, replicate, refl}
 use Rattle.sc_text.specs.declared.elements.Element.TheVariants.{Word, Negative, Truth}
+use Rattle.sc_text.specs.declared.elements.ElementKind.TheVariants as kinds
 use Rattle.sc_text.specs.declared.end.Ending.TheVariants as ending
 use Rattle.sc_text.specs.declared.end.TrapKind.TheVariants as trap
 use Rattle.sc_text.specs.declared.end.TapeOwner.TheVariants as owner
@@ -159,7 +160,7 @@ product_told : eval product_for_the_client (two 6 7) 1000000
       cost = 7;
       dealt = 4;
       drawn = words_each 4;
-      events = Hand (codes "c") (Word 42 ∷ []) ∷ [];
+      events = Hand (codes "c") kinds.Unsigned (Word 42 ∷ []) ∷ [];
       opened =
           [];
       gates = gate.Input 0 ∷ gate.Input 1 ∷ gate.Mul 0 1 ∷ gate.Result Arithmetic 2 ∷ [];
@@ -505,7 +506,7 @@ arrays_told : eval arrays_of_bools (offered (secret_bools (codes "a") (0 ∷ 1 �
       cost = 31;
       dealt = 2;
       drawn = words_each 1;
-      events = Hand (codes "c") (replicate 3 (Truth true)) ∷ [];
+      events = Hand (codes "c") kinds.TruthValue (replicate 3 (Truth true)) ∷ [];
       opened = [];
       gates =
           gate.Input 0 ∷ gate.Const (3 ∷ []) ∷ gate.Xor 0 1 ∷ gate.CatBit 2 2 0 2 ∷ gate.CatBit 3 4 0 2 ∷ gate.PartBit 0 0
@@ -516,7 +517,7 @@ arrays_told = refl
 
 -- the gates have opened the truth values as one word
 bools_learned :
-    learned_of (Open (Truth true ∷ Truth false ∷ Truth true ∷ []) ∷ Hand (codes "c") (Truth true ∷ []) ∷ Open (Word 7 ∷ Word 8 ∷ []) ∷ [])
+    learned_of (Open (Truth true ∷ Truth false ∷ Truth true ∷ []) ∷ Hand (codes "c") kinds.TruthValue (Truth true ∷ []) ∷ Open (Word 7 ∷ Word 8 ∷ []) ∷ [])
     ≡ 5 ∷ 7 ∷ 8 ∷ []
 unfolding packed words_with number_with
 bools_learned = refl

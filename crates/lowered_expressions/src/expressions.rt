@@ -3,6 +3,7 @@
 // tree, of which each function takes those of its own expressions: the time grows with the size of a tree.
 ghost use Rattle.std.specs.Prelude.{◌≡◌, ◌∷◌, [], IfOk, OnOk, false, length, map};
 ghost use Rattle.program_trees.specs.TypedTree.{binary_node, call_node, cat_node, cut_node, element_node, lookup_node, typed_tree, typed_trees_of};
+ghost use Rattle.reached_instances.specs.Views.{setting};
 ghost use Rattle.verified_code.specs.Steps as S;
 ghost use Rattle.language_model.specs.Evaluation.{either, gives_private};
 ghost use Rattle.code_model.specs.Expressions.{arguments_code, arguments_places, classified_at, lacks, expression_code, picked, read_at, stands_at};
@@ -19,14 +20,14 @@ use crate::closing::{LeftOperand, One, close_binary, close_cut, close_lookup, on
 use crate::kinds::kind_of;
 use crate::notes::{Note, behind_first, first_is_private, first_kind, first_private_kind, parted};
 use crate::operands::{WantedOperand, wanted};
-use crate::rows::{in_row, next_row};
+use crate::rows::{default_register, in_row, next_row};
 use crate::step::Step;
 use crate::words::{lacks, mixes, truth_word};
 use bytecode::Kind;
 use program_trees::{
     BinaryOperator, Connective, DataType, Operands, Operation, Shape, Slot, TypedExpression,
 };
-use reached_instances::{BoundDomain, next_is_private};
+use reached_instances::{BoundDomain, Setting, next_is_private};
 use std::alloc::AllocError;
 
 /// Puts the code of an expression, of which these are the notes, after a body, with registers from a row on; the register where its value
@@ -45,14 +46,15 @@ pub fn expression(
 {
     node(body, around, notes, row, e)?;
     let own = in_row(row, first_kind(notes))?;
-    Ok(place(e, own))
+    Ok(place(&around.here, e, own))
 }
 
 // Where the value of an expression stands whose own register this is.
-fn place(e: &TypedExpression, own: usize) -> usize
-    ensures { result ≡ read_at (typed_tree e.now) own }
+fn place(here: &Setting<'_>, e: &TypedExpression, own: usize) -> usize
+    ensures { result ≡ read_at (setting here.now) (typed_tree e.now) own }
 {
     match e {
+        TypedExpression::Zero => default_register(here, Shape::scalar(DataType::Int64)),
         TypedExpression::Variable(slot) => *slot,
         _ => own,
     }
@@ -75,7 +77,7 @@ fn node(
         TypedExpression::Truth(truth) => {
             literal(body, row, first_kind(notes), truth_word(*truth))
         }
-        TypedExpression::Variable(_) => Ok(()),
+        TypedExpression::Zero | TypedExpression::Variable(_) => Ok(()),
         TypedExpression::Call(line, function, list) => {
             read_call(body, around, notes, row, *line, *function, list)
         }

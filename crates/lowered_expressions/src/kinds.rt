@@ -41,6 +41,7 @@ fn shape(here: &Setting<'_>, e: &TypedExpression) -> Shape
         TypedExpression::Truth(_) | TypedExpression::CutShort(_, _, _) => Shape::scalar(
             DataType::Bool,
         ),
+        TypedExpression::Zero => Shape::scalar(DataType::Int64),
         TypedExpression::Variable(slot) => slot_shape(here, *slot),
         TypedExpression::Call(_, function, _) => called_shape(here.functions, *function),
         TypedExpression::BitExtract(_, _) => Shape {

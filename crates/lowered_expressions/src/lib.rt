@@ -21,6 +21,6 @@ pub use calling::{CallHead, given_to};
 pub use entries::{call, expression, operand};
 pub use kinds::{kind, kind_of};
 pub use operands::{WantedOperand, wanted};
-pub use rows::{depth, depth_of_two, greater, in_row, next_row};
+pub use rows::{default_register, depth, depth_of_two, greater, in_row, next_row};
 pub use step::{BodyPiece, Step};
 pub use words::lacks;

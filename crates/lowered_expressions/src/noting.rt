@@ -115,6 +115,7 @@ fn note_operands(
     match e {
         TypedExpression::Word(_) => Ok(public(Shape::scalar(DataType::Uint64))),
         TypedExpression::Truth(_) => Ok(public(Shape::scalar(DataType::Bool))),
+        TypedExpression::Zero => Ok(public(Shape::scalar(DataType::Int64))),
         TypedExpression::Variable(slot) => {
             Ok(given_of(slot_domain(here, *slot), slot_shape(here, *slot)))
         }

@@ -1,11 +1,14 @@
 // The registers of values on their way. They stand in rows of twelve, one for each kind, which each statement uses again.
-ghost use Rattle.std.specs.Prelude.{◌≡◌, ◌+◌, IfOk, map, max};
+ghost use Rattle.std.specs.Prelude.{◌≡◌, ◌+◌, ◌<◌, IfOk, length, map, max};
+ghost use Rattle.program_trees.specs.Shapes.{shape_of};
 ghost use Rattle.program_trees.specs.TypedTree.{typed_tree, typed_trees_of};
 ghost use Rattle.code_model.specs.Expressions.{next_row};
-ghost use Rattle.code_model.specs.Kinds.{depth, depths, in_row, kind_number};
+ghost use Rattle.code_model.specs.Kinds.{depth, depths, in_row, kind_number, shape_number};
+ghost use Rattle.reached_instances.specs.Views.{setting};
 
 use bytecode::Kind;
-use program_trees::{DataType, TypedExpression};
+use program_trees::{DataType, Shape, TypedExpression};
+use reached_instances::Setting;
 use std::alloc::AllocError;
 
 // A sum that memory has room for.
@@ -25,18 +28,32 @@ pub fn greater(a: usize, b: usize) -> usize
     a.max(b)
 }
 
+// The place of a shape in half a row.
+fn shape_number(element: DataType, array: bool) -> usize
+    ensures number { result ≡ shape_number (shape_of element array) }
+    ensures few { result < 6 }
+{
+    let first = match element {
+        DataType::Uint64 => 0,
+        DataType::Int64 => 2,
+        DataType::Bool => 4,
+    };
+    if array { first + 1 } else { first }
+}
+
 // The place of a kind in a row.
 fn kind_number(kind: Kind) -> usize
     ensures { result ≡ kind_number kind }
 {
     let secrecy = if kind.secret { 6 } else { 0 };
-    let element = match kind.element {
-        DataType::Uint64 => 0,
-        DataType::Int64 => 2,
-        DataType::Bool => 4,
-    };
-    let shape = if kind.array { element + 1 } else { element };
-    secrecy + shape
+    secrecy + shape_number(kind.element, kind.array)
+}
+
+/// The register of a shape that nothing writes. These stand after the slots, if there are any.
+pub fn default_register(here: &Setting<'_>, shape: Shape) -> usize
+    ensures { result ≡ length (setting here.now).slots + shape_number shape }
+{
+    here.slots.len() + shape_number(shape.element, shape.array)
 }
 
 /// The register for a kind in the row that begins at a register. An error comes where no memory could hold so many.
@@ -60,9 +77,10 @@ pub fn depth(e: &TypedExpression) -> Result<usize, AllocError>
     ensures { IfOk result (λ rows. rows ≡ depth (typed_tree e.now)) }
 {
     match e {
-        TypedExpression::Word(_) | TypedExpression::Truth(_) | TypedExpression::Variable(_) => Ok(
-            1,
-        ),
+        TypedExpression::Word(_)
+        | TypedExpression::Truth(_)
+        | TypedExpression::Zero
+        | TypedExpression::Variable(_) => Ok(1),
         TypedExpression::Call(_, _, list) => {
             let arguments = depths(list)?;
             Ok(greater(arguments, 1))

@@ -1,9 +1,8 @@
 // The code of statements without others in them.
-ghost use Rattle.std.specs.Prelude.{◌≡◌, ◌<◌, OnOk};
+ghost use Rattle.std.specs.Prelude.{◌≡◌, OnOk};
 ghost use Rattle.program_trees.specs.TypedTree.{typed_tree};
 ghost use Rattle.program_trees.specs.TypedStatements.{assert_statement, default_statement, evaluate_statement, input_statement, optional_tree, publish_statement};
 ghost use Rattle.program_trees.specs.TypedStatements.{return_statement, store_statement};
-ghost use Rattle.code_model.specs.Statements.{shape_number};
 ghost use Rattle.lowered_expressions.specs.Views.{built, here_of, numbers_of, step_seen};
 ghost use Rattle.lowering.specs.inner.Leaves.{pair_statement, pair_step, with_leaf};
 ghost use Rattle.lowering.specs.inner.Pieces.{with_statement};
@@ -12,10 +11,10 @@ ghost use Rattle.lowering.specs.inner.Views.{numbers_at, place_seen};
 use crate::place::LoweringContext;
 use crate::rows::first_row;
 use lowered_expressions::{
-    Around, Body, CallHead, Step, WantedOperand, call, expression, given_to, in_row, kind, kind_of,
-    lacks, next_row, operand, wanted,
+    Around, Body, CallHead, Step, WantedOperand, call, default_register, expression, given_to,
+    in_row, kind, kind_of, lacks, next_row, operand, wanted,
 };
-use program_trees::{DataType, Shape, TypedExpression};
+use program_trees::TypedExpression;
 use reached_instances::{slot_is_private, slot_shape};
 use sc_text::Name;
 use std::alloc::AllocError;
@@ -80,19 +79,6 @@ pub fn store(
     body.push(Step::Store { to: slot, source })
 }
 
-// The number of a shape among those of the registers that nothing writes.
-fn shape_number(shape: Shape) -> usize
-    ensures number { result ≡ shape_number shape }
-    ensures few { result < 6 }
-{
-    let element = match shape.element {
-        DataType::Uint64 => 0,
-        DataType::Int64 => 2,
-        DataType::Bool => 4,
-    };
-    if shape.array { element + 1 } else { element }
-}
-
 /// What a declaration without a value stores: 0, false or the empty array, of a register that nothing writes.
 pub fn default_store(
     body: &mut Body<'_>,
@@ -110,7 +96,7 @@ pub fn default_store(
         WantedOperand {
             lacks: lacks(slot_is_private(here, slot), false),
             classified,
-            value: here.slots.len() + shape_number(shape),
+            value: default_register(here, shape),
         },
     )?;
     body.push(Step::Store { to: slot, source })

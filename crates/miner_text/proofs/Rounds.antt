@@ -61,7 +61,7 @@ line_is_cut : (l : MinerLine) → IsLine l → words_in_line (shown l) ≡ line_
 line_is_cut (lines.Told (Open es)) h = words_back _ _ (no_spaces (line_words (lines.Told (Open es))) (line_plain (lines.Told (Open es)) h))
 line_is_cut (lines.Told (Publish name es)) h =
     words_back _ _ (no_spaces (line_words (lines.Told (Publish name es))) (line_plain (lines.Told (Publish name es)) h))
-line_is_cut (lines.Told (Hand name es)) h = absurd h
+line_is_cut (lines.Told (Hand name kind es)) h = absurd h
 line_is_cut (lines.Share s) h = words_back _ _ (no_spaces (line_words (lines.Share s)) (line_plain (lines.Share s) h))
 line_is_cut (lines.Ended end) h = words_back _ _ (no_spaces (line_words (lines.Ended end)) (line_plain (lines.Ended end) h))
 

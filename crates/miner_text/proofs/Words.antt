@@ -40,7 +40,7 @@ IsLine (lines.Ended end) = IsEnd end
 abbrev pub event_words : Event → List (List ℕ)
 event_words (Open es) = codes "open" ∷ map element_text es
 event_words (Publish name es) = codes "publish" ∷ name ∷ map element_text es
-event_words (Hand name es) = codes "publish" ∷ name ∷ map element_text es
+event_words (Hand name kind es) = codes "publish" ∷ name ∷ map element_text es
 
 -- the numbers in the line of a share
 abbrev pub numbers_told : ResultShare → List ℕ
@@ -73,7 +73,7 @@ event_written : (event : Event) → event_line event ≡ spaced (event_words eve
 unfolding event_line
 event_written (Open es) = sym (opened_line es)
 event_written (Publish name es) = ap (λ x. codes "publish " ++ (x ++ 10 ∷ [])) (sym (spaced_elements name es))
-event_written (Hand name es) = ap (λ x. codes "publish " ++ (x ++ 10 ∷ [])) (sym (spaced_elements name es))
+event_written (Hand name kind es) = ap (λ x. codes "publish " ++ (x ++ 10 ∷ [])) (sym (spaced_elements name es))
 
 share_written : (s : ResultShare) → share_line s ≡ spaced (line_words (lines.Share s)) ++ 10 ∷ []
 unfolding share_line
@@ -112,7 +112,7 @@ numbers_are_words s h = numbers_fit s.element s.count s.words h.2 h.1
 pub line_plain : (l : MinerLine) → IsLine l → NoGaps (line_words l)
 line_plain (lines.Told (Open es)) h = view_line_plain (Opened es) h
 line_plain (lines.Told (Publish name es)) h = (plain (codes "publish") refl, (name_plain name h.0, (view_line_plain (Opened es) h.1).1))
-line_plain (lines.Told (Hand name es)) h = absurd h
+line_plain (lines.Told (Hand name kind es)) h = absurd h
 line_plain (lines.Share s) h =
     (plain (codes "share") refl, (name_plain s.name h.0, (type_plain s.element, (view_line_plain (Drew (numbers_told s)) (numbers_are_words s h)).1)))
 line_plain (lines.Ended end) h = view_line_plain (Ended end) (record { how = h.0; cost = h.1 })
@@ -176,7 +176,7 @@ share_back s h =
 pub line_back : (l : MinerLine) → IsLine l → line_in (line_words l) ≡ Some l
 line_back (lines.Told (Open es)) h = ap (option_map (λ xs. lines.Told (Open xs))) (elements_back es h)
 line_back (lines.Told (Publish name es)) h = ap (option_map lines.Told) (published_back name es h)
-line_back (lines.Told (Hand name es)) h = absurd h
+line_back (lines.Told (Hand name kind es)) h = absurd h
 line_back (lines.Share s) h = ap (option_map lines.Share) (share_back s h)
 line_back (lines.Ended end) h = ap (option_map lines.Ended) (end_back end h)
 

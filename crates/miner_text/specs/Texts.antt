@@ -17,7 +17,7 @@ use Rattle.miner_text.specs.declared.line.MinerLine.TheVariants as lines
 abbrev pub IsEvent : Event → Type 0
 IsEvent (Open es) = AreElements es
 IsEvent (Publish name es) = (is_name name ≡ true) × AreElements es
-IsEvent (Hand name es) = ⊥
+IsEvent (Hand name kind es) = ⊥
 
 -- so many elements take so many words: each number one, 64 truth values one
 abbrev pub AreHeld : DataType → (count words : ℕ) → Type 0

@@ -327,4 +327,4 @@ handed_besides w (Private k) v =
 pub published_besides : (w : World) (text : List ℕ) (v : Value) → Besides (published w text v)
 published_besides w text v =
     besides_bind (untrapped_besides (size v)) (λ _. besides_bind (handed_besides w v.secrecy v) (λ _.
-    besides_emit (publication v.secrecy text (elements_of v))))
+    besides_emit (publication v.secrecy v.shape.element text (elements_of v))))

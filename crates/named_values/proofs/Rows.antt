@@ -25,7 +25,7 @@ use Rattle.program_trees.specs.declared.operators.BinaryOperator.TheVariants as 
 use Rattle.program_trees.specs.declared.operators.Operands.{Operands}
 use Rattle.program_trees.specs.declared.operators.Cast.{Cast}
 use Rattle.program_trees.specs.Shapes.{shape_of}
-use Rattle.language_model.specs.Effects.{World, GivenInput, Effect, ◌>>=◌, done, test, words_each, gate, planned}
+use Rattle.language_model.specs.Effects.{World, GivenInput, Effect, ◌>>=◌, done, test, words_each, gate}
 use Rattle.language_model.specs.Values.{Secrecy, Plain, Private, Value, plain, hidden, never_stored, size, visible_words, is_true, elements_of}
 use Rattle.language_model.specs.Values.{ring_for, gate_words, gate_size}
 use Rattle.language_model.specs.Words as W
@@ -342,7 +342,7 @@ module _ (N : Numbers) where
     pub published_naming : (w : World) (text : List ℕ) → Naming N (row.published w text v) (Any {A = Unit {0}})
     published_naming w text =
         naming_bind (plain_charge (size v)) (λ _ _. naming_bind (handed_naming w v.secrecy) (λ _ _.
-        emit_naming (row.publication v.secrecy text (elements_of v))))
+        emit_naming (row.publication v.secrecy v.shape.element text (elements_of v))))
 
   module _ (x y : Value) (a : Names N x) (b : Names N y) where
     both_naming : {f : ℕ → ℕ → Effect ℕ} (shape : Shape) (words : List ℕ) → ((u v : ℕ) → N u → N v → Naming N (f u v) N)

@@ -26,6 +26,9 @@ third_in p q r ps = (2, omega arith, refl)
 pub fourth_in : (p q r s : List ℕ) (ps : List (List ℕ)) → Contains (p ∷ q ∷ r ∷ s ∷ ps) s
 fourth_in p q r s ps = (3, omega arith, refl)
 
+pub fifth_in : (p q r s t : List ℕ) (ps : List (List ℕ)) → Contains (p ∷ q ∷ r ∷ s ∷ t ∷ ps) t
+fifth_in p q r s t ps = (4, omega arith, refl)
+
 -- ---- a stop that is handed on
 
 pub stopped : (reads written : List (List ℕ)) (stop : Stop) (r : Result Plan Stop) → IsErrAnd r (λ given. given ≡ stop) → StopNames reads stop

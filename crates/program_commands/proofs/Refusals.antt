@@ -18,11 +18,12 @@ use Rattle.value_file.specs.declared.read_err.ReadErr.{ReadErr}
 use Rattle.value_file.specs.Input.{read_of as inputs_read_of}
 use Rattle.value_file.specs.PublicFile.{read_public_of}
 use Rattle.view_reader.specs.Opened.{opened_of}
+use Rattle.view_reader.specs.Published.{published_in}
 use Rattle.program_commands.specs.Ends.{ending_status}
 use Rattle.program_commands.specs.Judging.{JudgedAt}
 use Rattle.program_commands.specs.Programs.{accepted, bad_program, tree_at}
 use Rattle.schedule_file.specs.Reading.{links_of}
-use Rattle.program_commands.specs.Reading.{bad_input, bad_opened, bad_schedule, bad_tape, delivery_at, inputs_at, opened_at, public_at, read_or}
+use Rattle.program_commands.specs.Reading.{bad_input, bad_opened, bad_schedule, bad_tape, delivery_at, inputs_at, opened_at, public_at, published_at, read_or}
 use Rattle.program_commands.specs.Reading.{schedule_file_at, share_at, tape_file_at, tapes_at}
 use Rattle.input_share.specs.Reading.{read_share_of}
 use Rattle.proto_core.specs.Parties.{count_of as number_of}
@@ -187,6 +188,11 @@ pub share_refused : (files : Contents) (miner : Number) (path : List ℕ) (c : C
     → ReadRefused files path bad_input (read_share_of (number_of miner)) c
 unfolding share_at
 share_refused files miner path c is = read_refused files path bad_input (read_share_of (number_of miner)) c is
+
+pub published_refused : (files : Contents) (path : List ℕ) (c : Cause) → published_at files path ≡ Err c
+    → ReadRefused files path bad_opened published_in c
+unfolding published_at
+published_refused files path c is = read_refused files path bad_opened published_in c is
 
 pub opened_refused : (files : Contents) (path : List ℕ) (c : Cause) → opened_at files path ≡ Err c → ReadRefused files path bad_opened opened_of c
 unfolding opened_at

@@ -30,6 +30,7 @@ use Rattle.value_file.specs.declared.read_err.ReadErr.TheVariants as read_errs
 use Rattle.value_file.specs.Input.{read_of as inputs_read_of}
 use Rattle.value_file.specs.PublicFile.{read_public_of}
 use Rattle.view_reader.specs.Opened.{opened_of}
+use Rattle.view_reader.specs.Published.{published_in}
 
 -- the refusal of a tape file, by the place of its first fault
 unfoldable pub bad_tape : ℕ → Cause
@@ -92,6 +93,10 @@ bad_opened line = record { status = Input; line = fault_line (faults.BadView lin
 -- the words of a file of opened values
 unfoldable pub opened_at : Contents → List ℕ → Result (List ℕ) Cause
 opened_at files path = bytes_at files path >>= λ bytes. read_or bad_opened (opened_of bytes)
+
+-- the words of a file of what is handed over
+unfoldable pub published_at : Contents → List ℕ → Result (List ℕ) Cause
+published_at files path = bytes_at files path >>= λ bytes. read_or bad_opened (published_in bytes)
 
 unfoldable pub tape_file_at : Contents → List ℕ → Result FourTapes Cause
 tape_file_at files path = bytes_at files path >>= λ bytes. read_or bad_tape (tapes_read_of bytes)

@@ -12,7 +12,7 @@ ghost use Rattle.value_file.specs.Input.{AreInputs};
 ghost use Rattle.value_file.specs.PublicFile.{IsWritable};
 ghost use Rattle.value_file.specs.declared.read_err.ReadErr.{ReadErr};
 ghost use Rattle.program_commands.specs.Reading.{bad_input, bad_opened, bad_tape, bad_schedule, field_fault, top_fault};
-ghost use Rattle.program_commands.specs.Reading.{entry_field, inputs_at, opened_at, public_at, share_at, tape_file_at, schedule_file_at};
+ghost use Rattle.program_commands.specs.Reading.{entry_field, inputs_at, opened_at, public_at, published_at, share_at, tape_file_at, schedule_file_at};
 
 use command_frame::{Status, Stop, read_file, refused};
 use input_share::{ShareFile, read_share};
@@ -148,7 +148,7 @@ pub fn read_share_file<F: Files>(
     }
 }
 
-// Why a file of opened values is refused.
+// Why a file of opened values, or of what is handed over, is refused.
 #[tactic(auto, unfolding(crate::specs::Reading::bad_opened))]
 fn opened_stop(alloc: Global, line: u64) -> Stop
     ensures { IsRefusalFor (bad_opened line) result }
@@ -170,6 +170,26 @@ pub fn read_opened_file<F: Files>(
 {
     let bytes = read_file(alloc, files, path)?;
     match view_reader::read_opened(alloc, &bytes) {
+        Ok(words) => Ok(words),
+        Err(view_reader::ReadErr::BadView { line }) => Err(opened_stop(alloc, line)),
+        Err(view_reader::ReadErr::Memory) => Err(Stop::Memory),
+    }
+}
+
+/// The words of the file of what is handed over at this path.
+#[tactic(auto, unfolding(crate::specs::Reading::published_at))]
+pub fn read_published_file<F: Files>(
+    alloc: Global,
+    files: &mut F,
+    path: &str,
+) -> Result<Vec<u64>, Stop>
+    ensures files { OnlyRead (F.state files.old) (F.state files.new) }
+    ensures answer { Gives (λ words. words.items) (F.state files.old) (F.state files.new) result
+        (published_at (F.state files.old).contents path.now) }
+    ensures names { IfErr result (StopNames (path.now ∷ [])) }
+{
+    let bytes = read_file(alloc, files, path)?;
+    match view_reader::read_published(alloc, &bytes) {
         Ok(words) => Ok(words),
         Err(view_reader::ReadErr::BadView { line }) => Err(opened_stop(alloc, line)),
         Err(view_reader::ReadErr::Memory) => Err(Stop::Memory),

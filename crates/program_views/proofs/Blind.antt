@@ -47,13 +47,13 @@ same_openings (e ∷ es) [] h = absurd h
 same_openings (Open elements ∷ es) (Open others ∷ fs) h =
     ap (λ (x : List Element). x ∷ openings es) h.0 ∙ ap (λ xs. others ∷ xs) (same_openings es fs h.1)
 same_openings (Publish text elements ∷ es) (Publish text' others ∷ fs) h = same_openings es fs h.1
-same_openings (Hand text elements ∷ es) (Hand text' others ∷ fs) h = same_openings es fs h.1
+same_openings (Hand text kind elements ∷ es) (Hand text' kind' others ∷ fs) h = same_openings es fs h.1
 same_openings (Open elements ∷ es) (Publish text others ∷ fs) h = absurd h.0
-same_openings (Open elements ∷ es) (Hand text others ∷ fs) h = absurd h.0
+same_openings (Open elements ∷ es) (Hand text kind others ∷ fs) h = absurd h.0
 same_openings (Publish text elements ∷ es) (Open others ∷ fs) h = absurd h.0
-same_openings (Publish text elements ∷ es) (Hand text' others ∷ fs) h = absurd h.0
-same_openings (Hand text elements ∷ es) (Open others ∷ fs) h = absurd h.0
-same_openings (Hand text elements ∷ es) (Publish text' others ∷ fs) h = absurd h.0
+same_openings (Publish text elements ∷ es) (Hand text' kind' others ∷ fs) h = absurd h.0
+same_openings (Hand text kind elements ∷ es) (Open others ∷ fs) h = absurd h.0
+same_openings (Hand text kind elements ∷ es) (Publish text' others ∷ fs) h = absurd h.0
 
 -- the words that the gates open are those of the openings
 words_of : List (List Element) → List ℕ
@@ -65,7 +65,7 @@ unfolding words_of
 learned_so [] = refl
 learned_so (Open elements ∷ es) = ap (λ ws. elements_words elements ++ ws) (learned_so es)
 learned_so (Publish text elements ∷ es) = learned_so es
-learned_so (Hand text elements ∷ es) = learned_so es
+learned_so (Hand text kind elements ∷ es) = learned_so es
 
 pub same_learned : (es fs : List Event) → LikeEvents es fs → learned_of es ≡ learned_of fs
 same_learned es fs h = learned_so es ∙ ap words_of (same_openings es fs h) ∙ sym (learned_so fs)

@@ -23,5 +23,8 @@ module _ (p : TypedProgramTree) (entries : List Entry) (t : FourTapes) (budget :
   pub no_gates : (run_on p entries (lengths_of t) budget).gates ≡ []
   no_gates = ap (λ (r : Report). r.gates) undealt
 
+  pub no_events : (run_on p entries (lengths_of t) budget).events ≡ []
+  no_events = ap (λ (r : Report). r.events) undealt
+
   pub none_drawn : (run_on p entries (lengths_of t) budget).drawn ≡ words_each 0
   none_drawn = ap (λ (r : Report). r.drawn) undealt

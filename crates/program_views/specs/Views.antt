@@ -54,7 +54,7 @@ abbrev pub openings : List Event → List (List Element)
 openings [] = []
 openings (Open elements ∷ events) = elements ∷ openings events
 openings (Publish text elements ∷ events) = openings events
-openings (Hand text elements ∷ events) = openings events
+openings (Hand text kind elements ∷ events) = openings events
 
 abbrev pub nothing_seen : Seen
 nothing_seen = record { inputs = []; drew = []; got = [] }

@@ -32,6 +32,8 @@ use Rattle.run_engine.proofs.ViewLaws.{maps_correspond, simulated_so, twins_see_
 use Rattle.workload.proofs.Runnable.{load_is_runnable}
 use Rattle.run_engine.proofs.Upgrades.{upgrade_keeps}
 use Rattle.run_engine.proofs.ViewPromises.{map_keeps, simulate_keeps, twin_keeps}
+use Rattle.run_engine.proofs.ClientLaws.{client_maps_correspond, client_simulated_so, client_twins_see_it}
+use Rattle.run_engine.proofs.ClientPromises.{client_map_keeps, client_simulate_keeps, client_twin_keeps}
 
 module _ (words : List (List ℕ)) (m m' : Moment) (s : Status) (call : Call words m m' s) (deeds : Deeds words m m' s) where
   pub commands_kept : Commands words m m' s
@@ -48,6 +50,9 @@ module _ (words : List (List ℕ)) (m m' : Moment) (s : Status) (call : Call wor
     maps = map_keeps words m m' s call;
     simulates = simulate_keeps words m m' s call;
     twins = twin_keeps words m m' s call;
+    client_maps = client_map_keeps words m m' s call;
+    client_simulates = client_simulate_keeps words m m' s call;
+    client_twins = client_twin_keeps words m m' s call;
     joins = join_keeps words m m' s call;
     mines = mine_keeps words m m' s call;
     runs_trio = λ ask asks told. trio_keeps words m m' s call ask asks told;
@@ -87,6 +92,10 @@ laws_kept words files = record {
       simulated_so ask files program entries tapes more delivery held have;
   run_views_and_simulator_have_one_net = have_one_net;
   twins_see_the_same = λ ask program first second tapes asks held alike. twins_see_it ask files program first second tapes held alike;
+  client_tapes_correspond = λ ask program entries tapes asks held. client_maps_correspond ask files program entries tapes held;
+  client_views_are_simulated = λ ask program entries tapes more also asks held have.
+      client_simulated_so ask files program entries tapes more also held have;
+  client_twins_see_the_same = λ ask program first second tapes asks held alike. client_twins_see_it ask files program first second tapes held alike;
   load_program_is_runnable = load_is_runnable;
   runs_open_what_they_tell = λ program entries lengths budget. opened_is_told (world_of Clear (offered entries lengths)) program budget [];
   mapped_files_are_simulated = λ mapping program entries tapes asks held. mapped_simulated mapping files program entries tapes held;

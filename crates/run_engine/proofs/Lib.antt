@@ -1,5 +1,10 @@
 pub mod Calls
 pub mod Chains
+pub mod ClientLaws
+pub mod ClientMapRefusals
+pub mod ClientPromises
+pub mod ClientSimulateRefusals
+pub mod ClientTwinRefusals
 mod Deals
 pub mod Evals
 pub mod Gathers

@@ -15,6 +15,7 @@ use Rattle.command_frame.specs.Whole.{status_in}
 use Rattle.command_frame.proofs.Deciding.{same_sink}
 use Rattle.command_words.specs.Ask.{Ask, check, compile, deal, eval, gather, join, load, map_tape, miner, need, run, simulate, trio, twin}
 use Rattle.command_words.specs.Ask.{upgrade}
+use Rattle.command_words.specs.Ask.{client_map, client_simulate, client_twin}
 use Rattle.miner_commands.specs.Load.{load_effect}
 use Rattle.run_engine.specs.Loading.{Printed}
 use Rattle.run_engine.specs.Obeying.{DecidesLoad, DoesLoad}
@@ -54,6 +55,9 @@ load_stop (need ask) stop o is = tt
 load_stop (map_tape ask) stop o is = tt
 load_stop (simulate ask) stop o is = tt
 load_stop (twin ask) stop o is = tt
+load_stop (client_map ask) stop o is = tt
+load_stop (client_simulate ask) stop o is = tt
+load_stop (client_twin ask) stop o is = tt
 load_stop (load ask) stop o is = inr (inr (ap status_of is, inl (same_sink o)))
 load_stop (gather ask) stop o is = tt
 load_stop (join ask) stop o is = tt
@@ -72,6 +76,9 @@ load_end (need ask) plan f f' o o' r is part = tt
 load_end (map_tape ask) plan f f' o o' r is part = tt
 load_end (simulate ask) plan f f' o o' r is part = tt
 load_end (twin ask) plan f f' o o' r is part = tt
+load_end (client_map ask) plan f f' o o' r is part = tt
+load_end (client_simulate ask) plan f f' o o' r is part = tt
+load_end (client_twin ask) plan f f' o o' r is part = tt
 load_end (load number) plan f f' o o' r is part =
     printed (load_effect number) refl f f' o o' r (subst (λ (e : Effect). Finishes e f f' o o' r) is part)
 load_end (gather ask) plan f f' o o' r is part = tt

@@ -24,6 +24,7 @@ use Rattle.command_frame.proofs.Finishing.{at_last}
 use Rattle.command_frame.proofs.Statuses.{never}
 use Rattle.command_words.specs.Ask.{Ask, MinerAsk, check, compile, deal, eval, gather, join, load, map_tape, miner, need, run, simulate, trio, twin}
 use Rattle.command_words.specs.Ask.{upgrade}
+use Rattle.command_words.specs.Ask.{client_map, client_simulate, client_twin}
 use Rattle.miner_command.specs.Miner.{miner_of, nothing_sent, sent_of}
 use Rattle.miner_command.specs.Playing.{MovesSo, SendsSo, SentAll, SentBefore, SentFronts}
 use Rattle.miner_command.specs.Files.{given_at}
@@ -163,6 +164,9 @@ moves_stop (need ask) s s' stop moves = tt
 moves_stop (map_tape ask) s s' stop moves = tt
 moves_stop (simulate ask) s s' stop moves = tt
 moves_stop (twin ask) s s' stop moves = tt
+moves_stop (client_map ask) s s' stop moves = tt
+moves_stop (client_simulate ask) s s' stop moves = tt
+moves_stop (client_twin ask) s s' stop moves = tt
 moves_stop (load ask) s s' stop moves = tt
 moves_stop (gather ask) s s' stop moves = tt
 moves_stop (join ask) s s' stop moves = tt
@@ -183,6 +187,9 @@ moves_end (need ask) a b f o o' plan r moves part = tt
 moves_end (map_tape ask) a b f o o' plan r moves part = tt
 moves_end (simulate ask) a b f o o' plan r moves part = tt
 moves_end (twin ask) a b f o o' plan r moves part = tt
+moves_end (client_map ask) a b f o o' plan r moves part = tt
+moves_end (client_simulate ask) a b f o o' plan r moves part = tt
+moves_end (client_twin ask) a b f o o' plan r moves part = tt
 moves_end (load ask) a b f o o' plan r moves part = tt
 moves_end (gather ask) a b f o o' plan r moves part = tt
 moves_end (join ask) a b f o o' plan r moves part = tt
@@ -210,6 +217,9 @@ moves_none (need ask) s = tt
 moves_none (map_tape ask) s = tt
 moves_none (simulate ask) s = tt
 moves_none (twin ask) s = tt
+moves_none (client_map ask) s = tt
+moves_none (client_simulate ask) s = tt
+moves_none (client_twin ask) s = tt
 moves_none (load ask) s = tt
 moves_none (gather ask) s = tt
 moves_none (join ask) s = tt

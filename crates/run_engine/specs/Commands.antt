@@ -24,6 +24,10 @@ use Rattle.run_engine.specs.MapPromises.{MapEffect, MapRefused}
 use Rattle.run_engine.specs.Promises.{CheckEffect, CompileEffect, DealEffect, EvalEffect, RunEffect, UpgradeEffect, Keeps, KeepsOf, is_refusal}
 use Rattle.run_engine.specs.Runs.{RunRefused}
 use Rattle.run_engine.specs.SimulatePromises.{SimulateEffect, SimulateRefused}
+use Rattle.command_words.specs.Ask.{ClientMapAsk, ClientSimulateAsk, ClientTwinAsk, client_map, client_simulate, client_twin}
+use Rattle.run_engine.specs.ClientMapPromises.{ClientMapEffect, ClientMapRefused}
+use Rattle.run_engine.specs.ClientSimulatePromises.{ClientSimulateEffect, ClientSimulateRefused}
+use Rattle.run_engine.specs.ClientTwinPromises.{ClientTwinEffect, ClientTwinRefused}
 use Rattle.run_engine.specs.Told.{contents_in, outside_of, place_of}
 use Rattle.run_engine.specs.TrioPromises.{KeepsTrio, StartsMiners}
 use Rattle.run_engine.specs.Words.{files_and_links, texts_alone}
@@ -72,6 +76,17 @@ pub record Commands (words : List (List ℕ)) (before after : Moment) (given : S
   -- `twin` writes the tapes with which the second inputs give the miner the view of the first. Inputs that are not alike, in what
   -- everybody knows or in what is opened, are a refusal of it.
   pub twins : (ask : TwinAsk) → Kept words before after given (twin ask) (TwinEffect ask) (TwinRefused ask) is_done
+  -- `client-map` writes the tapes that the client's view of the run is made of, the public part of the inputs, what is opened, and what is handed
+  -- over, however the run ends.
+  pub client_maps : (ask : ClientMapAsk) → Kept words before after given (client_map ask) (ClientMapEffect ask) (ClientMapRefused ask) is_done
+  -- `client-simulate` writes the view that the simulator makes for the client of the public part of the inputs, the opened words, those of what is
+  -- handed over, and the tapes, however the run of one who is told these words ends. Words that don't suffice are a refusal of it, those that are
+  -- wanted first.
+  pub client_simulates :
+      (ask : ClientSimulateAsk) → Kept words before after given (client_simulate ask) (ClientSimulateEffect ask) (ClientSimulateRefused ask) is_done
+  -- `client-twin` writes the tapes with which the second inputs give the client the view of the first. Inputs that are not alike to it, in what
+  -- everybody knows, in what is opened, or in what is handed over, are a refusal of it.
+  pub client_twins : (ask : ClientTwinAsk) → Kept words before after given (client_twin ask) (ClientTwinEffect ask) (ClientTwinRefused ask) is_done
   -- `join` prints the text of the run of which three miners wrote these texts, with the status of its end. A text that is not of its form is a
   -- refusal of it, and else two that differ.
   pub joins :

@@ -29,6 +29,11 @@ use Rattle.workload.specs.LoadTree.{load_typed}
 use Rattle.workload.specs.Runnable.{IsRunnable}
 use Rattle.program_views.specs.Views.{openings, run_on}
 use Rattle.view_reader.specs.Opened.{opened_words}
+use Rattle.command_words.specs.Ask.{ClientMapAsk, ClientSimulateAsk, ClientTwinAsk, client_map, client_simulate, client_twin}
+use Rattle.client_view.specs.TapeMaps.{ClientMapsCorrespond, IsClientTwin, client_twinned}
+use Rattle.run_engine.specs.ClientMapPromises.{HoldsClientMap}
+use Rattle.run_engine.specs.ClientSimulatePromises.{HoldsOfClientRun, IsOfClientRun}
+use Rattle.run_engine.specs.ClientTwinPromises.{AreTakenByClient, HoldsClientTwin}
 use Rattle.run_engine.specs.Chains.{MappedIsSimulated, TwinIsReadAgain}
 use Rattle.run_engine.specs.MapPromises.{HoldsMap}
 use Rattle.run_engine.specs.SimulatePromises.{HoldsOfRun, IsOfRun}
@@ -91,6 +96,22 @@ pub record Laws (words : List (List ℕ)) (files : Contents) : Type 0 where
       (ask : TwinAsk) (program : TypedProgramTree) (first second : List Entry) (tapes : FourTapes) → words_of words ≡ Some (twin ask)
       → HoldsTwin ask files program first second tapes → AreTaken ask program first second tapes
       → IsTwin ask.miner program first second tapes (twinned ask.miner program first second tapes ask.budget) ask.budget
+  -- The tapes that `client-map` writes correspond one to one with those that it reads; each keeps its length, and the dealer's and the third miner's
+  -- their words.
+  pub client_tapes_correspond :
+      (ask : ClientMapAsk) (program : TypedProgramTree) (entries : List Entry) (tapes : FourTapes) → words_of words ≡ Some (client_map ask)
+      → HoldsClientMap ask files program entries tapes → ClientMapsCorrespond program entries tapes ask.budget
+  -- Where the files hold the public part, the opened words and those of what is handed over, both also with more after them, and the mapped tapes of a
+  -- run, as `client-map` writes them, the words suffice for `client-simulate`, and the view is the one that the client has of the run.
+  pub client_views_are_simulated :
+      (ask : ClientSimulateAsk) (program : TypedProgramTree) (entries : List Entry) (tapes : FourTapes) (more also : List ℕ)
+      → words_of words ≡ Some (client_simulate ask) → HoldsOfClientRun ask program entries tapes more also files → HaveWords entries tapes
+      → IsOfClientRun ask program entries tapes more also
+  -- The tapes that `client-twin` writes give the client the same view, and the twin of the twin is the first tape.
+  pub client_twins_see_the_same :
+      (ask : ClientTwinAsk) (program : TypedProgramTree) (first second : List Entry) (tapes : FourTapes) → words_of words ≡ Some (client_twin ask)
+      → HoldsClientTwin ask files program first second tapes → AreTakenByClient ask program first second tapes
+      → IsClientTwin program first second tapes (client_twinned program first second tapes ask.budget) ask.budget
   -- The words that a run opens are those of its `open` lines, one after another: who is told no more than them is told no more than what
   -- everybody reads.
   pub runs_open_what_they_tell :

@@ -1,5 +1,8 @@
 pub mod Call
 pub mod Chains
+pub mod ClientMapPromises
+pub mod ClientSimulatePromises
+pub mod ClientTwinPromises
 pub mod Commands
 pub mod Deeds
 pub mod Headline

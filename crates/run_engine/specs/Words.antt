@@ -8,6 +8,7 @@ use Rattle.command_frame.specs.Status.{is_done, is_end, of_peers, of_texts}
 use Rattle.command_frame.specs.Whole.{Paths}
 use Rattle.command_words.specs.Ask.{Ask, run, deal, check, compile, eval, need, map_tape, simulate, twin, words_of, load, gather, join, miner, trio}
 use Rattle.command_words.specs.Ask.{upgrade}
+use Rattle.command_words.specs.Ask.{client_map, client_simulate, client_twin}
 use Rattle.program_commands.specs.Check.{check_of, check_paths}
 use Rattle.program_commands.specs.Compile.{compile_of, compile_paths, compiled_paths}
 use Rattle.program_commands.specs.Deal.{deal_of, deal_paths, written_paths}
@@ -26,6 +27,9 @@ use Rattle.miner_commands.specs.Load.{load_of}
 use Rattle.miner_commands.specs.Run.{ran_paths, run_of, run_paths}
 use Rattle.tape_commands.specs.Simulate.{simulate_of, simulate_paths, simulated_paths}
 use Rattle.tape_commands.specs.Twin.{twin_of, twin_paths, twinned_paths}
+use Rattle.client_commands.specs.Map.{client_map_of, client_map_paths, client_mapped_paths}
+use Rattle.client_commands.specs.Simulate.{client_simulate_of, client_simulate_paths, client_simulated_paths}
+use Rattle.client_commands.specs.Twin.{client_twin_of, client_twin_paths}
 
 -- files, and the texts of miners in them; files, and links to the peers
 abbrev pub texts_alone : Reach
@@ -77,6 +81,13 @@ conduct_of (simulate ask) =
     deciding (its_program ask.program) (simulate_paths ask) (simulated_paths ask.view) is_done (λ told. simulate_of told.found ask told.outside.files)
 conduct_of (twin ask) =
     deciding (its_program ask.program) (twin_paths ask) (twinned_paths ask.to) is_done (λ told. twin_of told.found ask told.outside.files)
+conduct_of (client_map ask) =
+    deciding (its_program ask.program) (client_map_paths ask) (client_mapped_paths ask) is_done (λ told. client_map_of told.found ask told.outside.files)
+conduct_of (client_simulate ask) =
+    deciding (its_program ask.program) (client_simulate_paths ask) (client_simulated_paths ask.view) is_done
+    (λ told. client_simulate_of told.found ask told.outside.files)
+conduct_of (client_twin ask) =
+    deciding (its_program ask.program) (client_twin_paths ask) (twinned_paths ask.to) is_done (λ told. client_twin_of told.found ask told.outside.files)
 conduct_of (load number) = deciding nothing [] [] is_end (λ told. load_of number)
 conduct_of (gather ask) = deciding nothing (gather_paths ask) (gathered_paths ask.to) is_done (λ told. gather_of ask told.outside.files)
 conduct_of (join ask) = record (deciding nothing (join_paths ask) [] is_end (λ told. join_of ask told.outside.files)) { reach = texts_alone }

@@ -9,6 +9,7 @@ ghost use Rattle.run_engine.specs.Obeying.{Acted, Obeyed, Planned};
 ghost use Rattle.run_engine.specs.Told.{moment_of, sources_of};
 ghost use Rattle.run_engine.specs.Words.{reach_miners, reach_of, start_programs};
 
+use client_commands::{plan_client_map, plan_client_simulate, plan_client_twin};
 use command_frame::{Plan, Status, Stop, ended_status, finish_plan, say};
 use command_words::{Command, WordsErr, read};
 use gather_command::plan_gather;
@@ -45,6 +46,9 @@ fn plan<F: Files, L: Links, C: Spawner>(
         Command::Map(words) => plan_map(alloc, files, words),
         Command::Simulate(words) => plan_simulate(alloc, files, words),
         Command::Twin(words) => plan_twin(alloc, files, words),
+        Command::ClientMap(words) => plan_client_map(alloc, files, words),
+        Command::ClientSimulate(words) => plan_client_simulate(alloc, files, words),
+        Command::ClientTwin(words) => plan_client_twin(alloc, files, words),
         Command::Load(words) => plan_load(alloc, words),
         Command::Gather(words) => plan_gather(alloc, files, words),
         Command::Join(words) => plan_join(alloc, files, words),

@@ -17,7 +17,7 @@ openings_more : (es : List Event) (e : Event) → openings (es ++ e ∷ []) ≡ 
 openings_more [] e = refl
 openings_more (Open elements ∷ es) e = ap (λ (os : List (List Element)). elements ∷ os) (openings_more es e)
 openings_more (Publish text elements ∷ es) e = openings_more es e
-openings_more (Hand text elements ∷ es) e = openings_more es e
+openings_more (Hand text kind elements ∷ es) e = openings_more es e
 
 one_line_more : (os : List (List Element)) (elements : List Element)
     → opened_bytes (os ++ elements ∷ []) ≡ opened_bytes os ++ 111 ∷ 112 ∷ 101 ∷ 110 ∷ (elements_text elements ++ 10 ∷ [])
@@ -43,7 +43,7 @@ opening_told events k d e elements lt is opens =
 pub none_opened : (e : Event) → ((elements : List Element) → e ≡ Open elements → ⊥) → openings (e ∷ []) ≡ []
 none_opened (Open elements) h = absurd (h elements refl)
 none_opened (Publish text elements) h = refl
-none_opened (Hand text elements) h = refl
+none_opened (Hand text kind elements) h = refl
 
 pub none_told : (events : List Event) (k : ℕ) (d e : Event) → k < length events → e ≡ get_or events k d → openings (e ∷ []) ≡ []
     → opened_bytes (openings (take (k + 1) events)) ≡ opened_bytes (openings (take k events))

@@ -6,6 +6,6 @@ mod map;
 mod simulate;
 mod twin;
 
-pub use map::plan_map;
-pub use simulate::plan_simulate;
-pub use twin::plan_twin;
+pub use map::{add_planned, opened_lines, plan_map, public_file};
+pub use simulate::{plan_simulate, short_text};
+pub use twin::{entry_text, plan_twin, twin_plan, word_text};

@@ -18,8 +18,8 @@ use std::alloc::{AllocError, Global};
 use tape_twin::{MappedRun, map_run};
 use value_file::{Inputs, public_part, write_public};
 
-// The lines of what a run opened.
-fn opened_lines(alloc: Global, events: &[Event]) -> Result<Vec<u8>, AllocError>
+/// The lines of what a run opened.
+pub fn opened_lines(alloc: Global, events: &[Event]) -> Result<Vec<u8>, AllocError>
     ensures { IfOk result (λ file. file.items ≡ opened_bytes (openings events.now)) }
 {
     let mut text = String::new(alloc);
@@ -31,8 +31,8 @@ fn opened_lines(alloc: Global, events: &[Event]) -> Result<Vec<u8>, AllocError>
     Ok(text.into_bytes())
 }
 
-// Adds a file that is to be written at a path.
-fn add_planned(
+/// Adds a file that is to be written at a path.
+pub fn add_planned(
     writes: &mut Vec<PlannedWrite>,
     path: &String,
     bytes: Vec<u8>,
@@ -45,8 +45,8 @@ fn add_planned(
     Ok(())
 }
 
-// The file of the public part of inputs.
-fn public_file(alloc: Global, inputs: &Inputs) -> Result<Vec<u8>, AllocError>
+/// The file of the public part of inputs.
+pub fn public_file(alloc: Global, inputs: &Inputs) -> Result<Vec<u8>, AllocError>
     ensures { IfOk result (λ file. file.items ≡ part_bytes (part_of inputs.now)) }
 {
     let part = public_part(alloc, inputs)?;

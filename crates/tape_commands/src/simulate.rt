@@ -17,8 +17,8 @@ use std::alloc::{AllocError, Global};
 use view_simulator::{SimulateErr, SimulatedRun, simulate};
 use view_text::View;
 
-// The line of opened words that don't suffice.
-fn short_text(alloc: Global, have: u64) -> Result<String, AllocError>
+/// The line of opened words that don't suffice.
+pub fn short_text(alloc: Global, have: u64) -> Result<String, AllocError>
     ensures { IfOk result (λ text. string_bytes text ≡ short_line have) }
 {
     format!(in alloc; "error: V2 have {have}\n")

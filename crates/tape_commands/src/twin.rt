@@ -14,16 +14,16 @@ use std::alloc::{AllocError, Global};
 use tape_file::Tapes;
 use tape_twin::{Both, TwinErr, twin};
 
-// The line of an input that isn't the same in what everybody knows.
+/// The line of an input that isn't the same in what everybody knows.
 #[tactic(auto, unfolding(crate::specs::Twin::entry_line))]
-fn entry_text(alloc: Global, name: &str) -> Result<String, AllocError>
+pub fn entry_text(alloc: Global, name: &str) -> Result<String, AllocError>
     ensures { IfOk result (λ text. string_bytes text ≡ entry_line name.now) }
 {
     format!(in alloc; "error: Z1 public {name}\n")
 }
 
-// The line of opened words that aren't the same.
-fn word_text(alloc: Global, place: usize, first: u64, second: u64) -> Result<String, AllocError>
+/// The line of opened words that aren't the same.
+pub fn word_text(alloc: Global, place: usize, first: u64, second: u64) -> Result<String, AllocError>
     ensures { IfOk result (λ text. string_bytes text ≡ word_line place first second) }
 {
     format!(in alloc; "error: Z1 opened {place} {first} {second}\n")
@@ -46,9 +46,9 @@ fn twin_stop(alloc: Global, refusal: &TwinErr) -> Stop
     }
 }
 
-// What is to be written of a twin.
+/// What is to be written of a twin.
 #[tactic(auto, unfolding(crate::specs::Twin::twinned_paths))]
-fn twin_plan(alloc: Global, to: &String, tapes: &Tapes) -> Result<Plan, AllocError>
+pub fn twin_plan(alloc: Global, to: &String, tapes: &Tapes) -> Result<Plan, AllocError>
     ensures effect { IfOk result (λ plan. effect_of plan ≡ written_effect (string_bytes to.now) tapes.now) }
     ensures names { IfOk result (PlanNames (twinned_paths (string_bytes to.now))) }
     ensures ends { EndsDone result }

@@ -32,7 +32,7 @@ use Rattle.proto_core.proofs.Beginnings.{append-none}
 use Rattle.value_file.specs.declared.inputs.Entry.{Entry}
 use Rattle.value_file.specs.declared.public.PublicEntry.{PublicEntry}
 use Rattle.value_file.specs.Public.{public_entry, part_of}
-use Rattle.tape_twin.specs.Alike.{PartsDiffer, WordsDiffer, OneBegins}
+use Rattle.tape_twin.specs.Alike.{PartsDiffer, ListsDiffer, OneBegins}
 
 -- ---- entries
 
@@ -135,10 +135,10 @@ all-same first second k past size so_far =
 
 -- ---- words
 
-pub words-differ :
-    (first second : List ℕ) (k x y : ℕ) → k < length first → k < length second → x ≡ get_or first k 0 → y ≡ get_or second k 0 →
-    (x ≡ y → ⊥) → take k first ≡ take k second → WordsDiffer first second k x y
-words-differ first second k x y below other is there differ same =
+pub lists-differ :
+    {A : Type 0} (d : A) (first second : List A) (k : ℕ) (x y : A) → k < length first → k < length second → x ≡ get_or first k d → y ≡ get_or second k d →
+    (x ≡ y → ⊥) → take k first ≡ take k second → ListsDiffer first second k x y
+lists-differ {A = A} d first second k x y below other is there differ same =
     record {
       common = take k second;
       rest = drop (suc k) first;
@@ -146,25 +146,26 @@ words-differ first second k x y below other is there differ same =
       count = length-take-le k second (omega arith);
       first_is =
           sym (take-append-drop k first)
-          ∙ ap (λ (l : List ℕ). l ++ drop k first) same
-          ∙ ap (λ (l : List ℕ). take k second ++ l) (drop-cons first k 0 below ∙ ap (λ w. w ∷ drop (suc k) first) (sym is));
+          ∙ ap (λ (l : List A). l ++ drop k first) same
+          ∙ ap (λ (l : List A). take k second ++ l) (drop-cons first k d below ∙ ap (λ w. w ∷ drop (suc k) first) (sym is));
       second_is =
           sym (take-append-drop k second)
-          ∙ ap (λ (l : List ℕ). take k second ++ l) (drop-cons second k 0 other ∙ ap (λ w. w ∷ drop (suc k) second) (sym there));
+          ∙ ap (λ (l : List A). take k second ++ l) (drop-cons second k d other ∙ ap (λ w. w ∷ drop (suc k) second) (sym there));
       differ = differ;
     }
 
-pub one-begins : (first second : List ℕ) (k : ℕ) → take k first ≡ take k second → (length first ≤ k) ⊎ (length second ≤ k) → OneBegins first second
-one-begins first second k same ends =
+pub one-begins :
+    {A : Type 0} (first second : List A) (k : ℕ) → take k first ≡ take k second → (length first ≤ k) ⊎ (length second ≤ k) → OneBegins first second
+one-begins {A = A} first second k same ends =
     elim ends as (λ _. OneBegins first second) [
       | inl past ↦
           inr (record {
             more = drop k second;
             is =
-                sym (take-append-drop k second) ∙ ap (λ (l : List ℕ). l ++ drop k second) (sym same ∙ take_all k first past);
+                sym (take-append-drop k second) ∙ ap (λ (l : List A). l ++ drop k second) (sym same ∙ take_all k first past);
           })
       | inr past ↦
-          inl (record { more = drop k first; is = sym (take-append-drop k first) ∙ ap (λ (l : List ℕ). l ++ drop k first) (same ∙ take_all k second past) })
+          inl (record { more = drop k first; is = sym (take-append-drop k first) ∙ ap (λ (l : List A). l ++ drop k first) (same ∙ take_all k second past) })
     ]
 
 pub past-shorter : (m n k : ℕ) → min m n ≤ k → (m ≤ k) ⊎ (n ≤ k)

@@ -17,7 +17,7 @@ use Rattle.value_file.specs.declared.value.DataType.TheVariants as kind
 use Rattle.value_file.specs.declared.value.Shape as form
 use Rattle.value_file.specs.declared.value.Shape.TheVariants.{Scalar, Array}
 use Rattle.value_file.specs.declared.value.Value.{Value}
-use Rattle.value_file.specs.declared.value.Value.TheVariants.{Number, Truth, Numbers, Truths}
+use Rattle.value_file.specs.declared.value.Value.TheVariants.{Number, Integer, Truth, Numbers, Integers, Truths}
 use Rattle.value_file.specs.declared.public.PublicValue.{PublicValue}
 use Rattle.value_file.specs.declared.public.PublicValue.TheVariants.{Known, Hidden}
 use Rattle.value_file.specs.declared.public.PublicEntry.{PublicEntry}
@@ -39,6 +39,7 @@ truth-itself false = refl
 
 type-itself : (t : DataType) → same_type t t ≡ true
 type-itself datatype.Uint64 = refl
+type-itself datatype.Int64 = refl
 type-itself datatype.Bool = refl
 
 bytes-itself : (xs : List ℕ) → bytes_eq xs xs ≡ true
@@ -60,8 +61,13 @@ truth-same false false h = refl
 
 type-same : (t u : DataType) → same_type t u ≡ true → t ≡ u
 type-same datatype.Uint64 datatype.Uint64 h = refl
+type-same datatype.Uint64 datatype.Int64 h = absurd (false≢true h)
 type-same datatype.Uint64 datatype.Bool h = absurd (false≢true h)
+type-same datatype.Int64 datatype.Uint64 h = absurd (false≢true h)
+type-same datatype.Int64 datatype.Int64 h = refl
+type-same datatype.Int64 datatype.Bool h = absurd (false≢true h)
 type-same datatype.Bool datatype.Uint64 h = absurd (false≢true h)
+type-same datatype.Bool datatype.Int64 h = absurd (false≢true h)
 type-same datatype.Bool datatype.Bool h = refl
 
 shape-same : (s t : Shape) → same_shape s t ≡ true → s ≡ t
@@ -88,11 +94,14 @@ input-same x y h =
 abbrev known-back : DataType → (array : Bool) → (words : List ℕ) → Value
 known-back datatype.Uint64 false words = Number (get_or words 0 0)
 known-back datatype.Uint64 true words = Numbers words
+known-back datatype.Int64 false words = Integer (get_or words 0 0)
+known-back datatype.Int64 true words = Integers words
 known-back datatype.Bool false words = Truth (get_or words 0 0 == 1)
 known-back datatype.Bool true words = Truths (map (λ w. w == 1) words)
 
 abbrev type-back : DataType → told.DataType
 type-back datatype.Uint64 = kind.Uint64
+type-back datatype.Int64 = kind.Int64
 type-back datatype.Bool = kind.Bool
 
 abbrev shape-back : (array : Bool) → (count : ℕ) → form.Shape
@@ -113,10 +122,14 @@ shown-back : (name : List ℕ) (v : PublicValue)
 shown-back name (Known (Number n)) = refl
 shown-back name (Known (Truth true)) = refl
 shown-back name (Known (Truth false)) = refl
+shown-back name (Known (Integer n)) = refl
 shown-back name (Known (Numbers ns)) = refl
+shown-back name (Known (Integers ns)) = refl
 shown-back name (Known (Truths bs)) = ap (λ (cs : List Bool). Known (Truths cs)) (truths-back bs)
 shown-back name (Hidden kind.Uint64 Scalar) = refl
 shown-back name (Hidden kind.Uint64 (Array n)) = ap (λ (k : ℕ). Hidden kind.Uint64 (Array k)) (length-replicate n 0)
+shown-back name (Hidden kind.Int64 Scalar) = refl
+shown-back name (Hidden kind.Int64 (Array n)) = ap (λ (k : ℕ). Hidden kind.Int64 (Array k)) (length-replicate n 0)
 shown-back name (Hidden kind.Bool Scalar) = refl
 shown-back name (Hidden kind.Bool (Array n)) = ap (λ (k : ℕ). Hidden kind.Bool (Array k)) (length-replicate n 0)
 
@@ -179,7 +192,7 @@ parts-differ (c ∷ cs) rest other name h = rw (entry-itself c) (parts-differ cs
 
 -- ---- words
 
-words-itself : (k : ℕ) (xs : List ℕ) → other_word k xs xs ≡ None
+pub words-itself : (k : ℕ) (xs : List ℕ) → other_word k xs xs ≡ None
 words-itself k [] = refl
 words-itself k (x ∷ xs) = rw (eq-eqb x x refl) (words-itself (k + 1) xs)
 
@@ -190,7 +203,7 @@ begins-later x y xs ys same h =
 abbrev next-word : Bool → (k x y : ℕ) (xs ys : List ℕ) → Option Difference
 next-word same k x y xs ys = if same then other_word (k + 1) xs ys else Some (at_word k x y)
 
-words-begin : (k : ℕ) (xs ys : List ℕ) → other_word k xs ys ≡ None → OneBegins xs ys
+pub words-begin : (k : ℕ) (xs ys : List ℕ) → other_word k xs ys ≡ None → OneBegins xs ys
 words-begin k [] ys h = inr (record { more = ys; is = refl })
 words-begin k (x ∷ xs) [] h = inl (record { more = x ∷ xs; is = refl })
 words-begin k (x ∷ xs) (y ∷ ys) h = at (x == y) refl h (words-begin (k + 1) xs ys)
@@ -213,6 +226,15 @@ words-differ k (c ∷ cs) rest other x y differ =
     let here : (k + 1) + length cs ≡ k + length (c ∷ cs) = omega arith in
     rw (eq-eqb c c refl)
     (words-differ (k + 1) cs rest other x y differ ∙ ap (λ (place : ℕ). Some (at_word place x y)) here)
+
+-- the first word at which two lists differ
+pub words-told : (first second : List ℕ) (place x y : ℕ) → WordsDiffer first second place x y → other_word 0 first second ≡ Some (at_word place x y)
+words-told first second place x y h =
+    let here : 0 + length h.common ≡ length h.common = omega arith in
+    ap (λ (words : List ℕ). other_word 0 words second) h.first_is
+    ∙ ap (λ (words : List ℕ). other_word 0 (h.common ++ x ∷ h.rest) words) h.second_is
+    ∙ words-differ 0 h.common h.rest h.other x y h.differ
+    ∙ ap (λ (k : ℕ). Some (at_word k x y)) (here ∙ h.count)
 
 -- ---- the difference
 
@@ -254,10 +276,6 @@ module _ (p : TypedProgramTree) (lengths : List ℕ) (budget : ℕ) where
       → WordsDiffer (opened_with first) (opened_with second) place x y → difference p first second lengths budget ≡ Some (at_word place x y)
   unfolding difference
   told_at_word first second place x y known h =
-      let here : 0 + length h.common ≡ length h.common = omega arith in
       ap (λ (part : List PublicEntry). entry_first (other_entry (part_of first) part) (words_of first second)) (sym known)
       ∙ ap (λ (name : Option (List ℕ)). entry_first name (words_of first second)) (parts-itself (part_of first))
-      ∙ ap (λ (words : List ℕ). other_word 0 words (opened_with second)) h.first_is
-      ∙ ap (λ (words : List ℕ). other_word 0 (h.common ++ x ∷ h.rest) words) h.second_is
-      ∙ words-differ 0 h.common h.rest h.other x y h.differ
-      ∙ ap (λ (k : ℕ). Some (at_word k x y)) (here ∙ h.count)
+      ∙ words-told (opened_with first) (opened_with second) place x y h

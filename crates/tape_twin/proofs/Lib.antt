@@ -1,8 +1,9 @@
 mod DealerWords
 pub mod Whole
-mod Differences
+pub mod Differences
 pub mod FirstDifferences
-mod Runs
+pub mod Runs
 mod Blocks
+mod Looks
 pub mod Passing
 mod Walking

@@ -28,30 +28,30 @@ use Rattle.joint_run.proofs.GateSteps.{exchange-sized, can-exchange, exchange-dr
 use Rattle.gate_exchanges.proofs.OneGate.{local-gate, exchanged-gate, local-draws}
 use Rattle.tape_twin.specs.declared.way.Way.{Way}
 use Rattle.tape_twin.specs.declared.way.Way.TheVariants.{ToView, FromView}
-use Rattle.tape_twin.specs.declared.way.ViewMap.{ViewMap}
-use Rattle.tape_twin.specs.Maps.{block_map, gates_map}
+use Rattle.tape_twin.specs.declared.way.TapeMap.{TapeMap}
+use Rattle.tape_twin.specs.Maps.{block_map, gates_map, looked, looked_protocol}
 use Rattle.tape_twin.specs.Stands.{Stand, gate_on, begun_with, RunsWith, TakesOperands, size_of_operand, drawn_for, Passes, CanPass}
 
 -- the words that a block is really run with, by those of the tapes that are mapped
-abbrev pub real_words : Way → Protocol → ℕ → Number → Joint → Number → List ℕ
-real_words ToView p n i j = j.words
-real_words FromView p n i j = p.back n i j
+abbrev pub real_words : Way → Protocol → ℕ → Joint → Number → List ℕ
+real_words ToView p n j = j.words
+real_words FromView p n j = p.back n Three j
 
 -- ---- the first gate of a list
 
 local-first :
-    (way : Way) (i : Number) (size : ℕ) (f : Number → List (List ℕ) → List ℕ) (gates : List model.Gate) (shares : Shares) (rest : Tapes) (k : Number) →
-    gates_map way i (Local size f ∷ gates) shares rest k ≡ gates_map way i gates (after_local f shares) rest k
-local-first ToView i size f gates shares rest k = refl
-local-first FromView i size f gates shares rest k = refl
+    (way : Way) (size : ℕ) (f : Number → List (List ℕ) → List ℕ) (gates : List model.Gate) (shares : Shares) (rest : Tapes) (k : Number) →
+    gates_map way (Local size f ∷ gates) shares rest k ≡ gates_map way gates (after_local f shares) rest k
+local-first ToView size f gates shares rest k = refl
+local-first FromView size f gates shares rest k = refl
 
 joined-first :
-    (way : Way) (i : Number) (p : Protocol) (n u : ℕ) (v : Option ℕ) (gates : List model.Gate) (shares : Shares) (rest : Tapes) (k : Number) →
-    gates_map way i (Joined p n u v ∷ gates) shares rest k
-    ≡ block_map way p n i (gate_joint u v shares (drawn p n rest)) k
-    ++ gates_map way i gates (after p n u v shares (real_words way p n i (gate_joint u v shares (drawn p n rest)))) (left p n rest) k
-joined-first ToView i p n u v gates shares rest k = refl
-joined-first FromView i p n u v gates shares rest k = refl
+    (way : Way) (p : Protocol) (n u : ℕ) (v : Option ℕ) (gates : List model.Gate) (shares : Shares) (rest : Tapes) (k : Number) →
+    gates_map way (Joined p n u v ∷ gates) shares rest k
+    ≡ block_map way p n Three (gate_joint u v shares (drawn p n rest)) k
+    ++ gates_map way gates (after p n u v shares (real_words way p n (gate_joint u v shares (drawn p n rest)))) (left p n rest) k
+joined-first ToView p n u v gates shares rest k = refl
+joined-first FromView p n u v gates shares rest k = refl
 
 pub same_for : {A : Type 0} (f g : Number → A) → ((i : Number) → f i ≡ g i) → f ≡ g
 same_for f g h = λ d. λ i. h i d
@@ -116,7 +116,7 @@ takes-sized gate x shares rest takes reach =
     (record { first = reach One; second = reach Two; third = reach Three }))
     refl
 
-module _ (map : ViewMap) (dealt : Number → Values) (gate : Gate) (s : Stand) where
+module _ (map : TapeMap) (dealt : Number → Values) (gate : Gate) (s : Stand) where
   -- ---- a gate that sends nothing
 
   module _ (local : IsLocal gate) where
@@ -129,9 +129,9 @@ module _ (map : ViewMap) (dealt : Number → Values) (gate : Gate) (s : Stand) w
     local-passes words later runs =
         record {
           whole = λ gates k.
-              ap (λ (g : model.Gate). s.made k ++ gates_map map.way map.miner (g ∷ gates) s.shares s.rest k) is
-              ∙ ap (λ w. s.made k ++ w) (local-first map.way map.miner size f gates s.shares s.rest k)
-              ∙ ap (λ (shares : Shares). s.made k ++ gates_map map.way map.miner gates shares s.rest k) (sym values);
+              ap (λ (g : model.Gate). s.made k ++ gates_map map.way (looked map.looker gate g ∷ gates) s.shares s.rest k) is
+              ∙ ap (λ w. s.made k ++ w) (local-first map.way size f gates s.shares s.rest k)
+              ∙ ap (λ (shares : Shares). s.made k ++ gates_map map.way gates shares s.rest k) (sym values);
           sizes = runs.sizes;
           left = λ k. ap (λ n. drop n (s.rest k)) (sym (local-draws dealt (dealt_sizes dealt) (dealt_sizes s.shares) gate k local));
         }
@@ -153,6 +153,9 @@ module _ (map : ViewMap) (dealt : Number → Values) (gate : Gate) (s : Stand) w
   module _ (x : Exchanged) (exchanged : IsExchanged gate x) where
     abbrev p : Protocol
     p = protocol_in x
+
+    abbrev q : Protocol
+    q = looked_protocol map.looker gate p
 
     abbrev n : ℕ
     n = size_of_operand x s.shares
@@ -183,8 +186,8 @@ module _ (map : ViewMap) (dealt : Number → Values) (gate : Gate) (s : Stand) w
 
     -- the words that it is run with
     pub given-real :
-        map.way ≡ ToView → (given : Tapes) → ((k : Number) → given k ≡ j.words k) → (k : Number) → given k ≡ real_words map.way p n map.miner j k
-    given-real is given are k = are k ∙ ap (λ (w : Way). real_words w p n map.miner j k) (sym is)
+        map.way ≡ ToView → (given : Tapes) → ((k : Number) → given k ≡ j.words k) → (k : Number) → given k ≡ real_words map.way q n j k
+    given-real is given are k = are k ∙ ap (λ (w : Way). real_words w q n j k) (sym is)
 
     pub given-length :
         (given : Tapes) → ((k : Number) → p.draws n k ≤ length (s.rest k)) → ((k : Number) → given k ≡ j.words k) →
@@ -192,10 +195,10 @@ module _ (map : ViewMap) (dealt : Number → Values) (gate : Gate) (s : Stand) w
     given-length given reach are k = ap length (are k) ∙ length-take-le (p.draws n k) (s.rest k) (reach k)
 
     pub mapped-real :
-        map.way ≡ FromView → (mapped : Tapes) → ((k : Number) → mapped k ≡ block_map map.way p n map.miner j k) →
-        (k : Number) → mapped k ≡ real_words map.way p n map.miner j k
+        map.way ≡ FromView → (mapped : Tapes) → ((k : Number) → mapped k ≡ block_map map.way q n Three j k) →
+        (k : Number) → mapped k ≡ real_words map.way q n j k
     mapped-real is mapped are k =
-        are k ∙ ap (λ (w : Way). block_map w p n map.miner j k) is ∙ ap (λ (w : Way). real_words w p n map.miner j k) (sym is)
+        are k ∙ ap (λ (w : Way). block_map w q n Three j k) is ∙ ap (λ (w : Way). real_words w q n j k) (sym is)
 
     pub exchange-reach :
         (words : Tapes) → ((k : Number) → length (words k) ≡ p.draws n k) → (k : Number) →
@@ -213,30 +216,30 @@ module _ (map : ViewMap) (dealt : Number → Values) (gate : Gate) (s : Stand) w
 
     pub exchange-passes :
         (words : Tapes) (t : Stand) → RunsWith dealt gate s.shares words t.shares →
-        ((k : Number) → words k ≡ real_words map.way p n map.miner j k) →
+        ((k : Number) → words k ≡ real_words map.way q n j k) →
         ((k : Number) → length (words k) ≡ p.draws n k) →
-        ((k : Number) → t.made k ≡ s.made k ++ block_map map.way p n map.miner j k) →
+        ((k : Number) → t.made k ≡ s.made k ++ block_map map.way q n Three j k) →
         ((k : Number) → t.rest k ≡ drop (p.draws n k) (s.rest k)) → Passes map dealt gate s t
     exchange-passes words t runs real len made rest =
         record {
           whole = λ gates k.
               let J : Joint = gate_joint x.u x.v s.shares (drawn p n s.rest) in
-              ap (λ (g : model.Gate). s.made k ++ gates_map map.way map.miner (g ∷ gates) s.shares s.rest k) is
-              ∙ ap (λ w. s.made k ++ w) (joined-first map.way map.miner p n x.u x.v gates s.shares s.rest k)
+              ap (λ (g : model.Gate). s.made k ++ gates_map map.way (looked map.looker gate g ∷ gates) s.shares s.rest k) is
+              ∙ ap (λ w. s.made k ++ w) (joined-first map.way q n x.u x.v gates s.shares s.rest k)
               ∙ ap
               (λ (b : Joint).
               s.made k
-              ++ (block_map map.way p n map.miner b k
-              ++ gates_map map.way map.miner gates (after p n x.u x.v s.shares (real_words map.way p n map.miner b)) (left p n s.rest) k))
+              ++ (block_map map.way q n Three b k
+              ++ gates_map map.way gates (after p n x.u x.v s.shares (real_words map.way q n b)) (left p n s.rest) k))
               (sym (same (drawn p n s.rest)))
               ∙ sym
-              (append_assoc (s.made k) (block_map map.way p n map.miner j k)
-              (gates_map map.way map.miner gates (after p n x.u x.v s.shares (real_words map.way p n map.miner j)) (left p n s.rest) k))
+              (append_assoc (s.made k) (block_map map.way q n Three j k)
+              (gates_map map.way gates (after p n x.u x.v s.shares (real_words map.way q n j)) (left p n s.rest) k))
               ∙ ap
-              (λ w. w ++ gates_map map.way map.miner gates (after p n x.u x.v s.shares (real_words map.way p n map.miner j)) (left p n s.rest) k)
+              (λ w. w ++ gates_map map.way gates (after p n x.u x.v s.shares (real_words map.way q n j)) (left p n s.rest) k)
               (sym (made k))
-              ∙ ap (λ (shares : Shares). t.made k ++ gates_map map.way map.miner gates shares (left p n s.rest) k) (sym values)
-              ∙ ap (λ (tapes : Tapes). t.made k ++ gates_map map.way map.miner gates t.shares tapes k) (sym tapes_left);
+              ∙ ap (λ (shares : Shares). t.made k ++ gates_map map.way gates shares (left p n s.rest) k) (sym values)
+              ∙ ap (λ (tapes : Tapes). t.made k ++ gates_map map.way gates t.shares tapes k) (sym tapes_left);
           sizes = runs.sizes;
           left = λ k. rest k ∙ ap (λ m. drop m (s.rest k)) (exchange-needs k);
         }
@@ -244,12 +247,12 @@ module _ (map : ViewMap) (dealt : Number → Values) (gate : Gate) (s : Stand) w
         all : (k : Number) → take (p.draws n k) (words k) ≡ words k
         all k = take_all (p.draws n k) (words k) (let e : length (words k) ≡ p.draws n k = len k in omega arith)
 
-        words_are : drawn p n words ≡ real_words map.way p n map.miner j
-        words_are = same_for (drawn p n words) (real_words map.way p n map.miner j) (λ k. all k ∙ real k)
+        words_are : drawn p n words ≡ real_words map.way q n j
+        words_are = same_for (drawn p n words) (real_words map.way q n j) (λ k. all k ∙ real k)
 
-        values : t.shares ≡ after p n x.u x.v s.shares (real_words map.way p n map.miner j)
+        values : t.shares ≡ after p n x.u x.v s.shares (real_words map.way q n j)
         values =
-            same_for t.shares (after p n x.u x.v s.shares (real_words map.way p n map.miner j))
+            same_for t.shares (after p n x.u x.v s.shares (real_words map.way q n j))
             (λ i.
             runs.made i
             ∙ ap (λ (g : model.Gate). run_values (g ∷ []) s.shares words i) is

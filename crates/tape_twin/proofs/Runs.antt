@@ -58,7 +58,7 @@ module _ (p : TypedProgramTree) (lengths : List ℕ) (budget : ℕ) where
 
 -- ---- the gates of a run, on other tapes of the same lengths
 
-runs-on-same : (entries : List Entry) (gates : List Gate) (s t : FourTapes) → SameLengths s t → CanRun entries gates t → CanRun entries gates s
+pub runs-on-same : (entries : List Entry) (gates : List Gate) (s t : FourTapes) → SameLengths s t → CanRun entries gates t → CanRun entries gates s
 runs-on-same entries gates s t same can enough =
     let reaches : Reaches entries gates t = can (subst (λ (n : ℕ). need_of entries ≤ n) same.0 enough) in
     record { suit = reaches.suit; reach = λ i. let reach = reaches.reach i in let long = same.1 i in omega (arith, reach, long) }

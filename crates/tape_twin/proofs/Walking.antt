@@ -12,8 +12,8 @@ use Rattle.shared_gates.specs.Model.{AllSizesSuit, sizes_made, run_gates}
 use Rattle.joint_run.specs.JointRuns.{dealt_sizes, IsEven, CanRun}
 use Rattle.tape_twin.specs.declared.way.Way.{Way}
 use Rattle.tape_twin.specs.declared.way.Way.TheVariants.{ToView, FromView}
-use Rattle.tape_twin.specs.declared.way.ViewMap.{ViewMap}
-use Rattle.tape_twin.specs.Maps.{gates_map, run_map}
+use Rattle.tape_twin.specs.declared.way.TapeMap.{TapeMap}
+use Rattle.tape_twin.specs.Maps.{gates_map, looked_gates, run_map}
 use Rattle.tape_twin.specs.Stands.{Stand, gate_on, whole_with, Passes, CanPass}
 
 abbrev no_values : Shares
@@ -27,19 +27,19 @@ pub record CanFinish (dealt : Number → Values) (later : List Gate) (s : Stand)
   pub suit : AllSizesSuit (dealt_sizes dealt) (dealt_sizes s.shares) later
   pub reach : (k : Number) → needed (gates_on dealt s.shares later) k ≤ length (s.rest k)
 
-pub record Walked (map : ViewMap) (dealt : Number → Values) (gates : List Gate) (tapes : Tapes) (later : List Gate) (s : Stand) : Type 0 where
+pub record Walked (map : TapeMap) (dealt : Number → Values) (gates : List Gate) (tapes : Tapes) (later : List Gate) (s : Stand) : Type 0 where
   pub even : IsEven s.shares
   pub whole :
       (k : Number) →
-      whole_with map s (gates_on dealt s.shares later) k
+      whole_with map s (looked_gates map.looker later (gates_on dealt s.shares later)) k
       ≡ run_map map dealt gates tapes k
   pub can : CanRun dealt gates tapes → CanFinish dealt later s
 
-none-first : (way : Way) (i : Number) (shares : Shares) (rest : Tapes) (k : Number) → gates_map way i [] shares rest k ≡ rest k
-none-first ToView i shares rest k = refl
-none-first FromView i shares rest k = refl
+none-first : (way : Way) (shares : Shares) (rest : Tapes) (k : Number) → gates_map way [] shares rest k ≡ rest k
+none-first ToView shares rest k = refl
+none-first FromView shares rest k = refl
 
-module _ (map : ViewMap) (dealt : Number → Values) (gates : List Gate) (tapes : Tapes) where
+module _ (map : TapeMap) (dealt : Number → Values) (gates : List Gate) (tapes : Tapes) where
   -- no gate yet
   pub begun : (s : Stand) → ((k : Number) → s.shares k ≡ []) → s.rest ≡ tapes → ((k : Number) → s.made k ≡ []) → Walked map dealt gates tapes gates s
   begun s none rest made =
@@ -47,9 +47,9 @@ module _ (map : ViewMap) (dealt : Number → Values) (gates : List Gate) (tapes 
       record {
         even = λ k. ap sizes_of (none k) ∙ ap sizes_of (sym (none One));
         whole = λ k.
-            ap (λ w. w ++ gates_map map.way map.miner (gates_on dealt s.shares gates) s.shares s.rest k) (made k)
-            ∙ ap (λ (v : Shares). gates_map map.way map.miner (gates_on dealt v gates) v s.rest k) shares
-            ∙ ap (λ (t : Tapes). gates_map map.way map.miner (run_gates dealt (dealt_sizes dealt) [] gates) no_values t k) rest;
+            ap (λ w. w ++ gates_map map.way (looked_gates map.looker gates (gates_on dealt s.shares gates)) s.shares s.rest k) (made k)
+            ∙ ap (λ (v : Shares). gates_map map.way (looked_gates map.looker gates (gates_on dealt v gates)) v s.rest k) shares
+            ∙ ap (λ (t : Tapes). gates_map map.way (looked_gates map.looker gates (run_gates dealt (dealt_sizes dealt) [] gates)) no_values t k) rest;
         can = λ can.
             record {
               suit = subst (λ (v : Shares). AllSizesSuit (dealt_sizes dealt) (dealt_sizes v) gates) (sym shares) can.suit;
@@ -84,8 +84,8 @@ module _ (map : ViewMap) (dealt : Number → Values) (gates : List Gate) (tapes 
         record {
           even = λ k. passes.sizes k ∙ sym (passes.sizes One);
           whole = λ k.
-              ap (λ (l : List ℕ). whole_with map t (run_gates dealt ds l later) k) here
-              ∙ sym (passes.whole (run_gates dealt ds sizes later) k)
+              ap (λ (l : List ℕ). whole_with map t (looked_gates map.looker later (run_gates dealt ds l later)) k) here
+              ∙ sym (passes.whole (looked_gates map.looker later (run_gates dealt ds sizes later)) k)
               ∙ walked.whole k;
           can = λ can.
               let h : CanFinish dealt (gate ∷ later) s = walked.can can in
@@ -108,4 +108,4 @@ module _ (map : ViewMap) (dealt : Number → Values) (gates : List Gate) (tapes 
   pub ended :
       (s : Stand) → Walked map dealt gates tapes [] s → (k : Number) →
       s.made k ++ s.rest k ≡ run_map map dealt gates tapes k
-  ended s walked k = ap (λ w. s.made k ++ w) (sym (none-first map.way map.miner s.shares s.rest k)) ∙ walked.whole k
+  ended s walked k = ap (λ w. s.made k ++ w) (sym (none-first map.way s.shares s.rest k)) ∙ walked.whole k

@@ -1,5 +1,5 @@
 -- The tapes of a whole run, by what was dealt.
-use Rattle.std.proofs.Common.{◌≡◌, ℕ, ◌<◌, ◌≤◌, Bool, false, if◌then◌else◌, List, [], length, sym, ◌∙◌, ap, subst, arith}
+use Rattle.std.proofs.Common.{◌≡◌, ℕ, ◌<◌, ◌≤◌, Bool, false, if◌then◌else◌, List, [], length, refl, sym, ◌∙◌, ap, subst, arith}
 use Rattle.std.specs.Prelude.{nat_le, Option, Some, None, IfSome, IfNone}
 use Rattle.proto_core.specs.declared.party.Number.{Number}
 use Rattle.proto_core.specs.declared.party.Number.TheVariants.{One, Two, Three}
@@ -10,6 +10,8 @@ use Rattle.gates.specs.Clear.{Values}
 use Rattle.shared_gates.specs.Model.{AllSizesSuit, run_gates}
 use Rattle.shared_gates.proofs.Drawn.{drawn-counted}
 use Rattle.proto_core.specs.Parties.{of_three}
+use Rattle.handed_shares.specs.Handed.{all_of}
+use Rattle.client_model.specs.ClientMaps.{client_gates}
 use Rattle.joint_run.specs.JointRuns.{dealt_sizes, IsEven}
 use Rattle.joint_run.specs.JointRuns as joint
 use Rattle.value_file.specs.declared.inputs.Entry.{Entry}
@@ -17,10 +19,12 @@ use Rattle.input_share.specs.Dealing.{need_of}
 use Rattle.tape_file.specs.Tapes.{FourTapes}
 use Rattle.tape_twin.specs.declared.way.Way.{Way}
 use Rattle.tape_twin.specs.declared.way.Way.TheVariants.{ToView, FromView}
-use Rattle.tape_twin.specs.Maps.{gates_map, run_map}
+use Rattle.tape_twin.specs.declared.way.Looker.TheVariants.{Miner, Client}
+use Rattle.tape_twin.specs.Maps.{gates_map, run_map, client_map}
+use Rattle.tape_twin.proofs.Looks.{miner_map, miner-looks, client-looks}
 use Rattle.tape_twin.proofs.Passing.{same_for}
 use Rattle.view_model.specs.Dealing.{dealt_to, private_sizes, seen_dealer}
-use Rattle.view_model.specs.TapeMaps.{miners_of, four_of, no_values, gates_dealt, to_simulated, from_simulated, Reaches, CanRun}
+use Rattle.view_model.specs.TapeMaps.{miners_of, four_of, no_values, gates_dealt, to_simulated, from_simulated, Reaches}
 use Rattle.view_model.proofs.Dealings.{seen_length}
 use Rattle.view_model.proofs.DealtSizes.{sizes_dealt}
 use Rattle.view_model.proofs.Corresponding.{le_true, same_tapes}
@@ -42,7 +46,7 @@ own-tapes t a b d first second third = same_for (miners_of t) (of_three a b d) a
     at Two = sym second
     at Three = sym third
 
-lt_false : (a b : ℕ) → b < a → nat_le a b ≡ false
+pub lt_false : (a b : ℕ) → b < a → nat_le a b ≡ false
 lt_false a b h = grind arith
 
 -- ---- what was dealt
@@ -64,8 +68,20 @@ module _
 
     pub run-map-is :
         (i : Number) (way : Way) (gates : List Gate) (tapes : Tapes) (k : Number) →
-        run_map (record { miner = i; way = way }) shares gates tapes k ≡ gates_map way i (gates_dealt es dealer gates) no_values tapes k
-    run-map-is i way gates tapes k = ap (λ gs. gates_map way i gs no_values tapes k) (dealt-gates gates)
+        run_map (record { looker = Miner i; way = way }) shares gates tapes k ≡ miner_map way i (gates_dealt es dealer gates) no_values tapes k
+    run-map-is i way gates tapes k =
+        miner-looks i shares (dealt_sizes shares) way [] gates no_values tapes k
+        ∙ ap (λ gs. miner_map way i gs no_values tapes k) (dealt-gates gates)
+
+    client-map-is :
+        (way : Way) (gates : List Gate) (tapes : Tapes) (k : Number) →
+        run_map (record { looker = Client; way = way }) shares gates tapes k
+        ≡ gates_map way (client_gates all_of 0 (dealt_to es dealer) (private_sizes es) [] gates) no_values tapes k
+    client-map-is way gates tapes k =
+        ap (λ gs. gates_map way gs no_values tapes k)
+        (client-looks shares (dealt_sizes shares) 0 [] gates
+        ∙ ap (λ (ds : List ℕ). client_gates all_of 0 shares ds [] gates) (sizes-are One)
+        ∙ ap (λ (s : Number → Values). client_gates all_of 0 s (private_sizes es) [] gates) (same_for shares (dealt_to es dealer) are))
 
     pub can-run : (gates : List Gate) (t : FourTapes) → Reaches es gates t → joint.CanRun shares gates (miners_of t)
     can-run gates t reaches =
@@ -82,11 +98,11 @@ module _
 
 module _ (i : Number) (es : List Entry) (gates : List Gate) (t : FourTapes) where
   abbrev mapped : FourTapes
-  mapped = four_of (seen_dealer i es t.dealer) (gates_map ToView i (gates_dealt es t.dealer gates) no_values (miners_of t))
+  mapped = four_of (seen_dealer i es t.dealer) (miner_map ToView i (gates_dealt es t.dealer gates) no_values (miners_of t))
 
   abbrev unmapped : FourTapes
   unmapped =
-      four_of (seen_dealer i es t.dealer) (gates_map FromView i (gates_dealt es (seen_dealer i es t.dealer) gates) no_values (miners_of t))
+      four_of (seen_dealer i es t.dealer) (miner_map FromView i (gates_dealt es (seen_dealer i es t.dealer) gates) no_values (miners_of t))
 
   to-dealt : need_of es ≤ length t.dealer → mapped ≡ to_simulated i es gates t
   unfolding to_simulated
@@ -107,7 +123,7 @@ module _ (i : Number) (es : List Entry) (gates : List Gate) (t : FourTapes) wher
   pub to-is :
       (shares : Number → Values) (dealer : List ℕ) → need_of es ≤ length t.dealer → ((k : Number) → shares k ≡ dealt_to es t.dealer k) →
       dealer ≡ seen_dealer i es t.dealer →
-      four_of dealer (run_map (record { miner = i; way = ToView }) shares gates (miners_of t)) ≡ to_simulated i es gates t
+      four_of dealer (run_map (record { looker = Miner i; way = ToView }) shares gates (miners_of t)) ≡ to_simulated i es gates t
   to-is shares dealer enough are seen =
       same_four _ _ _ _ seen (run-map-is es t.dealer enough shares are i ToView gates (miners_of t)) ∙ to-dealt enough
 
@@ -119,10 +135,41 @@ module _ (i : Number) (es : List Entry) (gates : List Gate) (t : FourTapes) wher
   pub from-is :
       (shares : Number → Values) (dealer : List ℕ) → need_of es ≤ length t.dealer → ((k : Number) → shares k ≡ dealt_to es dealer k) →
       dealer ≡ seen_dealer i es t.dealer →
-      four_of dealer (run_map (record { miner = i; way = FromView }) shares gates (miners_of t)) ≡ from_simulated i es gates t
+      four_of dealer (run_map (record { looker = Miner i; way = FromView }) shares gates (miners_of t)) ≡ from_simulated i es gates t
   from-is shares dealer enough are seen =
       same_four _ _ _ _ seen
       (λ k.
       run-map-is es dealer (seen-enough dealer enough seen) shares are i FromView gates (miners_of t) k
-      ∙ ap (λ (w : List ℕ). gates_map FromView i (gates_dealt es w gates) no_values (miners_of t) k) seen)
+      ∙ ap (λ (w : List ℕ). miner_map FromView i (gates_dealt es w gates) no_values (miners_of t) k) seen)
       ∙ from-dealt enough
+
+-- ---- the two maps for the client
+
+client-maps :
+    (way : Way) (dealt : Number → Values) (ds : List ℕ) (gates : List Gate) (tapes : Tapes) (k : Number) →
+    gates_map way (client_gates all_of 0 dealt ds [] gates) no_values tapes k ≡ client_map way dealt ds gates tapes k
+client-maps ToView dealt ds gates tapes k = refl
+client-maps FromView dealt ds gates tapes k = refl
+
+none-mapped : (way : Way) (dealt : Number → Values) (ds : List ℕ) (t : FourTapes) → t ≡ four_of t.dealer (client_map way dealt ds [] (miners_of t))
+none-mapped ToView dealt ds t = refl
+none-mapped FromView dealt ds t = refl
+
+module _ (way : Way) (es : List Entry) (gates : List Gate) (t : FourTapes) where
+  abbrev client_is : FourTapes
+  client_is = four_of t.dealer (client_map way (dealt_to es t.dealer) (private_sizes es) gates (miners_of t))
+
+  pub client-dealt :
+      (shares : Number → Values) (dealer : List ℕ) → need_of es ≤ length t.dealer → ((k : Number) → shares k ≡ dealt_to es t.dealer k) →
+      dealer ≡ t.dealer → four_of dealer (run_map (record { looker = Client; way = way }) shares gates (miners_of t)) ≡ client_is
+  client-dealt shares dealer enough are same =
+      same_four dealer t.dealer (run_map (record { looker = Client; way = way }) shares gates (miners_of t))
+      (client_map way (dealt_to es t.dealer) (private_sizes es) gates (miners_of t)) same
+      (λ k.
+      client-map-is es t.dealer enough shares are way gates (miners_of t) k
+      ∙ client-maps way (dealt_to es t.dealer) (private_sizes es) gates (miners_of t) k)
+
+  pub client-undealt : gates ≡ [] → t ≡ client_is
+  client-undealt none =
+      none-mapped way (dealt_to es t.dealer) (private_sizes es) t
+      ∙ ap (λ (gs : List Gate). four_of t.dealer (client_map way (dealt_to es t.dealer) (private_sizes es) gs (miners_of t))) (sym none)

@@ -24,22 +24,25 @@ pub record PartsDiffer (first second : List PublicEntry) (name : List ℕ) : Typ
   pub second_is : second ≡ common ++ other
   pub here : DifferHere rest other name
 
--- after so many words that they have in common, two lists have these words
-pub record WordsDiffer (first second : List ℕ) (place x y : ℕ) : Type 0 where
-  pub common : List ℕ
-  pub rest : List ℕ
-  pub other : List ℕ
+-- after so many that they have in common, two lists have these
+pub record ListsDiffer {A : Type 0} (first second : List A) (place : ℕ) (x y : A) : Type 0 where
+  pub common : List A
+  pub rest : List A
+  pub other : List A
   pub count : length common ≡ place
   pub first_is : first ≡ common ++ x ∷ rest
   pub second_is : second ≡ common ++ y ∷ other
   pub differ : x ≡ y → ⊥
 
+abbrev pub WordsDiffer : (first second : List ℕ) (place x y : ℕ) → Type 0
+WordsDiffer first second place x y = ListsDiffer first second place x y
+
 -- one list begins with the other
-pub record BeginsWith (xs front : List ℕ) : Type 0 where
-  pub more : List ℕ
+pub record BeginsWith {A : Type 0} (xs front : List A) : Type 0 where
+  pub more : List A
   pub is : xs ≡ front ++ more
 
-abbrev pub OneBegins : (xs ys : List ℕ) → Type 0
+abbrev pub OneBegins : {A : Type 0} → (xs ys : List A) → Type 0
 OneBegins xs ys = BeginsWith xs ys ⊎ BeginsWith ys xs
 
 -- why there is no twin: the public parts differ, or they are the same and the opened words differ

@@ -17,8 +17,8 @@ use Rattle.joint_run.specs.Steps.{operands_of}
 use Rattle.gate_exchanges.specs.Exchanged.{IsExchanged, protocol_in}
 use Rattle.joint_run.specs.JointRuns.{dealt_sizes, IsEven}
 use Rattle.tape_twin.specs.declared.gate.Passing.{Passing}
-use Rattle.tape_twin.specs.declared.way.ViewMap.{ViewMap}
-use Rattle.tape_twin.specs.Maps.{gates_map}
+use Rattle.tape_twin.specs.declared.way.TapeMap.{TapeMap}
+use Rattle.tape_twin.specs.Maps.{gates_map, looked}
 
 -- the miners' shares of all values, what is left of the tapes that are mapped, and the words that came of those before
 pub record Stand : Type 0 where
@@ -62,12 +62,14 @@ drawn_for x shares tapes = operands_of x shares (drawn (protocol_in x) (size_of_
 -- ---- one gate, passed
 
 -- the words made so far, and what these gates make of those that are left
-abbrev pub whole_with : ViewMap → Stand → List model.Gate → Number → List ℕ
-whole_with map s gates k = s.made k ++ gates_map map.way map.miner gates s.shares s.rest k
+abbrev pub whole_with : TapeMap → Stand → List model.Gate → Number → List ℕ
+whole_with map s gates k = s.made k ++ gates_map map.way gates s.shares s.rest k
 
 -- whatever gates are after it, all words together are as the map has them
-pub record Passes (map : ViewMap) (dealt : Number → Values) (gate : Gate) (before after : Stand) : Type 0 where
-  pub whole : (gates : List model.Gate) (k : Number) → whole_with map before (gate_on dealt before.shares gate ∷ gates) k ≡ whole_with map after gates k
+pub record Passes (map : TapeMap) (dealt : Number → Values) (gate : Gate) (before after : Stand) : Type 0 where
+  pub whole :
+      (gates : List model.Gate) (k : Number) →
+      whole_with map before (looked map.looker gate (gate_on dealt before.shares gate) ∷ gates) k ≡ whole_with map after gates k
   pub sizes :
       (k : Number) →
       sizes_of (after.shares k) ≡ dealt_sizes before.shares ++ sizes_made (dealt_sizes dealt) (dealt_sizes before.shares) gate

@@ -13,8 +13,10 @@ fn same_value(x: &Value, y: &Value) -> bool
 {
     match (x, y) {
         (Value::Number(a), Value::Number(b)) => *a == *b,
+        (Value::Integer(a), Value::Integer(b)) => *a == *b,
         (Value::Truth(a), Value::Truth(b)) => *a == *b,
         (Value::Numbers(a), Value::Numbers(b)) => a.as_slice() == b.as_slice(),
+        (Value::Integers(a), Value::Integers(b)) => a.as_slice() == b.as_slice(),
         (Value::Truths(a), Value::Truths(b)) => a.as_slice() == b.as_slice(),
         _ => false,
     }
@@ -42,7 +44,7 @@ fn same_entry(x: &Entry, y: &Entry) -> bool
 
 /// The name of the input at which the public parts of two inputs first differ, if they do: that of the first inputs, or of the second
 /// where the first end.
-pub(crate) fn public_difference(
+pub fn public_difference(
     alloc: Global,
     first: &[Entry],
     second: &[Entry],
@@ -62,7 +64,7 @@ pub(crate) fn public_difference(
 }
 
 /// The place at which two lists of words first differ, with the word of each there; none where one of them begins with the other.
-pub(crate) fn first_difference(first: &[u64], second: &[u64]) -> Option<(usize, u64, u64)>
+pub fn first_difference(first: &[u64], second: &[u64]) -> Option<(usize, u64, u64)>
     ensures some { IfSome result (λ found. WordsDiffer first.now second.now found.0 found.1 found.2) }
     ensures none { IfNone result (OneBegins first.now second.now) }
 {

@@ -1,6 +1,7 @@
 // One gate of a walk: its words are mapped, and the three miners' values are made of those that are drawn.
 ghost use Rattle.std.specs.Prelude.{◌≡◌, ◌≤◌, [], ◌++◌, length, drop, IfOk, IfErr, OnOk};
 ghost use Rattle.proto_core.specs.declared.party.Number.{Number as NumberValue};
+ghost use Rattle.proto_core.specs.declared.party.Number.TheVariants.{Three};
 ghost use Rattle.gates.specs.Clear.{value};
 ghost use Rattle.blocked_protocol.specs.Blocked.{blocked};
 ghost use Rattle.joint_run.specs.Three.{each_of, values_of};
@@ -8,13 +9,13 @@ ghost use Rattle.joint_run.specs.Exchanges.{protocol_of};
 ghost use Rattle.joint_run.specs.JointRuns.{IsEven};
 ghost use Rattle.joint_run.specs.GateByGate.{RefusesGate};
 ghost use Rattle.joint_run.specs.declared.joint_err.JointErr.TheVariants.{Memory};
-ghost use Rattle.tape_twin.specs.Maps.{block_map};
+ghost use Rattle.tape_twin.specs.Maps.{block_map, looked_protocol};
 ghost use Rattle.tape_twin.specs.Stands.{stand_of, begun_with, size_of_operand, drawn_for, RunsWith, TakesOperands, Passes, CanPass};
 
-use crate::blockwise::map_gate;
+use crate::looking::looked_words;
 use crate::made::MadeTapes;
 use crate::taking::take_words;
-use crate::way::{ViewMap, Way};
+use crate::way::{TapeMap, Way};
 use gates::Gate;
 use joint_run::{
     Exchanged, JointErr, JointRun, SharedValues, Tapes, Transcript, as_exchanged, operands,
@@ -39,7 +40,7 @@ pub struct Passing<'a> {
 /// A gate's words off the tapes, and what they are mapped to, which is put after what was made before.
 fn map_exchange<'a>(
     alloc: Global,
-    map: ViewMap,
+    map: TapeMap,
     placed: Placed,
     gate: Exchanged,
     shares: &SharedValues,
@@ -51,8 +52,8 @@ fn map_exchange<'a>(
     ensures given { IfOk result (λ both. (k : NumberValue) →
         each_of both.0 k ≡ (drawn_for gate (values_of shares.now) (each_of passing.old.rest)).words k) }
     ensures mapped { IfOk result (λ both. (k : NumberValue) →
-        each_of both.1 k ≡ block_map map.way (blocked (protocol_of gate.exchange)) (size_of_operand gate (values_of shares.now)) map.miner
-        (drawn_for gate (values_of shares.now) (each_of passing.old.rest)) k) }
+        each_of both.1 k ≡ block_map map.way (looked_protocol map.looker placed.entry.gate.now (blocked (protocol_of gate.exchange)))
+        (size_of_operand gate (values_of shares.now)) Three (drawn_for gate (values_of shares.now) (each_of passing.old.rest)) k) }
     ensures len { IfOk result (λ both. (k : NumberValue) →
         length (each_of both.1 k) ≡ (protocol_of gate.exchange).draws (size_of_operand gate (values_of shares.now)) k) }
     ensures made { IfOk result (λ both. (k : NumberValue) →
@@ -66,7 +67,7 @@ fn map_exchange<'a>(
     let n = shares.first.value(gate.u).len();
     let given = take_words(placed.place, gate.exchange, n, &mut passing.rest)?;
     let operands = operands(gate, shares, given.first, given.second, given.third);
-    let mapped = map_gate(alloc, map, gate.exchange, operands)?;
+    let mapped = looked_words(alloc, map, placed.gate, gate, operands)?;
     passing
         .made
         .extend(&mapped.first, &mapped.second, &mapped.third)?;
@@ -102,7 +103,7 @@ fn run_with(
 /// does not suit the values, a tape has fewer words than it draws, or no memory is left.
 pub(crate) fn pass_gate<'a>(
     alloc: Global,
-    map: ViewMap,
+    map: TapeMap,
     placed: Placed,
     dealt: &SharedValues,
     shares: SharedValues,

@@ -9,10 +9,12 @@
 mod alike;
 mod bits;
 mod blockwise;
+mod client_rows;
+mod client_tapes;
 mod conversion;
 mod dealer;
-mod dealt;
 mod gate;
+mod looking;
 mod made;
 mod mapped_run;
 mod maps;
@@ -27,9 +29,12 @@ mod twinning;
 mod walk;
 mod way;
 
+pub use alike::{first_difference, public_difference};
+pub use client_tapes::{from_client, to_client};
 pub use dealer::seen_dealer;
-pub use dealt::dealt_values;
+pub use joint_steps::{dealt_values, memory_wanting};
 pub use mapped_run::{MappedRun, map_run};
 pub use maps::{from_sim, to_sim};
+pub use running::report_on;
 pub use twin_err::TwinErr;
 pub use twinning::{Both, twin};

@@ -3,23 +3,22 @@ ghost use Rattle.std.specs.Prelude.{◌≡◌, IfOk};
 ghost use Rattle.joint_run.specs.Three.{values_of};
 ghost use Rattle.joint_run.specs.JointRuns.{IsEven};
 ghost use Rattle.joint_run.specs.JointRuns as joint;
-ghost use Rattle.joint_run.specs.declared.joint_err.JointErr.TheVariants.{Memory};
 ghost use Rattle.tape_twin.specs.Maps.{run_map};
 ghost use Rattle.view_model.specs.TapeMaps.{miners_of, four_of, to_simulated, from_simulated, CanRun};
 
 use crate::dealer::seen_dealer;
-use crate::dealt::dealt_values;
 use crate::walk::map_gates;
-use crate::way::{ViewMap, Way};
+use crate::way::{Looker, TapeMap, Way};
 use gates::Gate;
-use joint_run::{JointErr, SharedValues, Tapes as MinersTapes};
+use joint_run::{SharedValues, Tapes as MinersTapes};
+use joint_steps::{dealt_values, memory_wanting};
 use proto_core::Number;
 use std::alloc::{AllocError, Global};
 use tape_file::Tapes;
 use value_file::Inputs;
 
 /// The same tapes.
-fn copied(alloc: Global, tapes: &Tapes) -> Result<Tapes, AllocError>
+pub(crate) fn copied(alloc: Global, tapes: &Tapes) -> Result<Tapes, AllocError>
     ensures { IfOk result (λ copy. copy ≡ tapes.now) }
 {
     let dealer = tapes.dealer().to_vec(alloc)?;
@@ -29,20 +28,10 @@ fn copied(alloc: Global, tapes: &Tapes) -> Result<Tapes, AllocError>
     Ok(Tapes::new(dealer, one, two, three))
 }
 
-/// Of gates that can be run, nothing but want of memory comes.
-fn memory_wanting(refused: JointErr) -> AllocError
-    requires { refused ≡ Memory }
-{
-    match refused {
-        JointErr::Memory => AllocError,
-        JointErr::Dealt | JointErr::Unsuited { .. } | JointErr::TapeEnds { .. } => unreachable!(),
-    }
-}
-
 /// The miners' tapes, mapped on what was dealt, with these words of the dealer.
-fn mapped(
+pub(crate) fn mapped(
     alloc: Global,
-    map: ViewMap,
+    map: TapeMap,
     gates: &[Gate],
     dealt: &SharedValues,
     dealer: Vec<u64>,
@@ -82,7 +71,8 @@ pub fn to_simulated(
     };
     let seen = seen_dealer(alloc, miner, inputs, &dealt, tapes.dealer())?;
     let way = Way::ToView;
-    mapped(alloc, ViewMap { miner, way }, gates, &dealt, seen, tapes)
+    let looker = Looker::Miner(miner);
+    mapped(alloc, TapeMap { looker, way }, gates, &dealt, seen, tapes)
 }
 
 /// The way back: the tapes of the run whose view is made of these.
@@ -106,5 +96,6 @@ pub fn from_simulated(
         unreachable!()
     };
     let way = Way::FromView;
-    mapped(alloc, ViewMap { miner, way }, gates, &dealt, dealer, tapes)
+    let looker = Looker::Miner(miner);
+    mapped(alloc, TapeMap { looker, way }, gates, &dealt, dealer, tapes)
 }

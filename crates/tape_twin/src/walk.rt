@@ -8,19 +8,19 @@ ghost use Rattle.tape_twin.specs.Maps.{run_map};
 
 use crate::gate::{Passing, Placed, pass_gate};
 use crate::made::MadeTapes;
-use crate::way::ViewMap;
+use crate::way::TapeMap;
 use gates::Gate;
 use joint_run::{JointErr, SharedValues, Tapes};
 use std::alloc::Global;
 
-/// The three miners' tapes of a run of gates, on values that were dealt, mapped for one miner's view or back: each gate's words by the row
-/// of its protocol, words after the last as they are.
+/// The three miners' tapes of a run of gates, on values that were dealt, mapped for what a miner or the client sees, or back: each gate's
+/// words by the row of the one who looks, words after the last as they are.
 ///
 /// An error tells why the gates can't be run: one does not suit the values before it, a tape ends within it, or no memory is left. Where
 /// they can be run, it is for want of memory.
 pub fn map_gates(
     alloc: Global,
-    map: ViewMap,
+    map: TapeMap,
     gates: &[Gate],
     dealt: &SharedValues,
     tapes: Tapes,

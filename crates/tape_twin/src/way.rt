@@ -16,3 +16,19 @@ pub struct ViewMap {
     pub miner: Number,
     pub way: Way,
 }
+
+/// Who looks at a run.
+#[derive(Clone, Copy)]
+pub enum Looker {
+    /// A miner, at all that comes to it.
+    Miner(Number),
+    /// The client, at what is handed over to it.
+    Client,
+}
+
+/// The map of the tapes for what one of them sees, or its way back.
+#[derive(Clone, Copy)]
+pub struct TapeMap {
+    pub looker: Looker,
+    pub way: Way,
+}

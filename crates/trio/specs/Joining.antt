@@ -6,7 +6,7 @@ use Rattle.sc_text.specs.declared.elements.Element.{Element}
 use Rattle.sc_text.specs.declared.end.End.{End}
 use Rattle.sc_text.specs.declared.event.Event.TheVariants.{Hand}
 use Rattle.sc_text.specs.Event.{event_line}
-use Rattle.language_model.specs.Values.{element_of}
+use Rattle.language_model.specs.Values.{element_of, printed_kind}
 use Rattle.code_runs.specs.Places.{element_type_of}
 use Rattle.code_runs.specs.ClientTold.{all_added_up}
 use Rattle.miner_text.specs.Shares.{ResultShare}
@@ -63,7 +63,7 @@ elements_added s second third = map (element_of s.element) (all_added_up (elemen
 
 -- a share is published as this value; another line stands as it is
 abbrev pub joined_line : MinerLine → (second third : List ℕ) → List ℕ
-joined_line (lines.Share s) second third = event_line (Hand s.name (elements_added s second third))
+joined_line (lines.Share s) second third = event_line (Hand s.name (printed_kind s.element) (elements_added s second third))
 joined_line l second third = line_text l
 
 -- the words of a share; of another line, or of none, there are none

@@ -11,7 +11,7 @@ use code_runs::all_added_up;
 use miner_text::{MinerLine, ResultShare};
 use sc_text::{Elements, End, Event};
 use std::alloc::{AllocError, Global};
-use vector_ops::elements;
+use vector_ops::{elements, printed_kind};
 
 /// The words of a line that is a share; else none.
 fn words_in(line: Option<&MinerLine>) -> &[u64]
@@ -53,7 +53,7 @@ fn push_joined(
     if let MinerLine::Share(share) = line {
         let name = share.name().copy(alloc)?;
         let elements = elements_added(alloc, share, second, third)?;
-        let event = Event::Hand(name, elements);
+        let event = Event::Hand(name, printed_kind(share.element()), elements);
         write!(text, "{event}")?;
     } else {
         write!(text, "{line}")?;

@@ -13,9 +13,10 @@ use crate::telling::emit;
 use crate::value::{Secrecy, Value};
 use crate::world::World;
 use gates::Gate;
+use program_trees::DataType;
 use sc_text::{Elements, Event, Name};
 use std::alloc::Global;
-use vector_ops::{elements, gate_size};
+use vector_ops::{elements, gate_size, printed_kind};
 
 /// Hands a private value over: each miner's share of it is made anew for the client.
 fn handed_over(
@@ -42,12 +43,12 @@ fn handed_over(
 }
 
 /// How it is told that a value goes to the client: a public one is published, a private one is handed over.
-fn publication(secrecy: Secrecy, name: Name, given: Elements) -> Event
-    ensures { result ≡ publication (secrecy_seen secrecy) name given }
+fn publication(secrecy: Secrecy, element: DataType, name: Name, given: Elements) -> Event
+    ensures { result ≡ publication (secrecy_seen secrecy) element name given }
 {
     match secrecy {
         Secrecy::Plain => Event::Publish(name, given),
-        Secrecy::Private(_) => Event::Hand(name, given),
+        Secrecy::Private(_) => Event::Hand(name, printed_kind(element), given),
     }
 }
 
@@ -65,6 +66,6 @@ pub fn published(
     charged(stage, value.size())?;
     handed_over(alloc, world, stage, value)?;
     let given = elements(alloc, value.shape.element, &value.words)?;
-    let event = publication(value.secrecy, name.copy(alloc)?, given);
+    let event = publication(value.secrecy, value.shape.element, name.copy(alloc)?, given);
     emit(stage, event)
 }

@@ -15,7 +15,7 @@ mod words;
 pub use operators::{operation, signed_operation, truth_operation, word_operation};
 pub use packing::{gate_size, gate_words, into_gate_words};
 pub use pairs::{each, each_and_scalar, may_divide, scalar_and_each};
-pub use printing::elements;
+pub use printing::{element_as, elements, printed_kind};
 pub use words::{
     bits, cast_words, first_word, flipped, looked_up, low_bits, repeated, wrapping_sum,
 };

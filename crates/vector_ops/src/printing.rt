@@ -1,9 +1,9 @@
 // Words as they are printed.
 ghost use Rattle.std.specs.Prelude.{◌≡◌, map, IfOk};
-ghost use Rattle.language_model.specs.Values.{element_of, signed_element};
+ghost use Rattle.language_model.specs.Values.{element_as, element_of, printed_kind, signed_element};
 
 use program_trees::DataType;
-use sc_text::{Element, Elements};
+use sc_text::{Element, ElementKind, Elements};
 use std::alloc::{AllocError, Global};
 
 /// How many words there are whose number with a sign isn't below 0.
@@ -17,6 +17,28 @@ fn printed_signed(x: u64) -> Element
         Element::Word(x)
     } else {
         Element::Negative(x.wrapping_neg())
+    }
+}
+
+/// The element of a kind that a word stands for: a number with a sign by two's complement, a truth value by bit 0.
+pub fn element_as(kind: ElementKind, word: u64) -> Element
+    ensures { result ≡ element_as kind word }
+{
+    match kind {
+        ElementKind::Unsigned => Element::Word(word),
+        ElementKind::Signed => printed_signed(word),
+        ElementKind::TruthValue => Element::Truth(word % 2 != 0),
+    }
+}
+
+/// What the elements of a data type are, as they are printed.
+pub fn printed_kind(element: DataType) -> ElementKind
+    ensures { result ≡ printed_kind element }
+{
+    match element {
+        DataType::Uint64 => ElementKind::Unsigned,
+        DataType::Int64 => ElementKind::Signed,
+        DataType::Bool => ElementKind::TruthValue,
     }
 }
 

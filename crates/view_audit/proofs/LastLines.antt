@@ -26,6 +26,12 @@ use Rattle.view_audit.proofs.Asked.{none_before, none_named, some_is_none, teste
 element_is : (x y : Element) → same_element x y ≡ true → x ≡ y
 element_is (elements.Word n) (elements.Word m) h = ap elements.Word (eqb-true n m h)
 element_is (elements.Word n) (elements.Truth b) h = absurd cc
+element_is (elements.Word n) (elements.Negative m) h = absurd cc
+element_is (elements.Negative n) (elements.Negative m) h = ap elements.Negative (eqb-true n m h)
+element_is (elements.Negative n) (elements.Word m) h = absurd cc
+element_is (elements.Negative n) (elements.Truth b) h = absurd cc
+element_is (elements.Truth true) (elements.Negative m) h = absurd cc
+element_is (elements.Truth false) (elements.Negative m) h = absurd cc
 element_is (elements.Truth true) (elements.Truth true) h = refl
 element_is (elements.Truth false) (elements.Truth false) h = refl
 element_is (elements.Truth true) (elements.Truth false) h = absurd cc
@@ -43,6 +49,7 @@ elements_are (x ∷ xs) (y ∷ ys) h =
 
 element_self : (x : Element) → same_element x x ≡ true
 element_self (elements.Word n) = eq-eqb n n refl
+element_self (elements.Negative n) = eq-eqb n n refl
 element_self (elements.Truth true) = refl
 element_self (elements.Truth false) = refl
 
@@ -130,7 +137,7 @@ lines_are (Open x ∷ es) end shown (o ∷ os) e =
     let rest = lines_are es end shown os (none_before (λ k. k + 1) (wrong_end_at es end shown os) t.1) in
     (ap (λ v. v ∷ openings es) (elements_are x o t.0) ∙ ap (λ l. o ∷ l) rest.0, rest.1)
 lines_are (Publish name x ∷ es) end shown opened e = lines_are es end shown opened e
-lines_are (Hand name x ∷ es) end shown opened e = lines_are es end shown opened e
+lines_are (Hand name kind x ∷ es) end shown opened e = lines_are es end shown opened e
 
 pub lines_pass : (events : List Event) (end : End) → wrong_end_at events end end (openings events) ≡ None
 lines_pass [] end =
@@ -139,4 +146,4 @@ lines_pass [] end =
 lines_pass (Open x ∷ es) end =
     ap (λ b. if b then one_later (wrong_end_at es end end (openings es)) else Some 0) (elements_self x) ∙ ap one_later (lines_pass es end)
 lines_pass (Publish name x ∷ es) end = lines_pass es end
-lines_pass (Hand name x ∷ es) end = lines_pass es end
+lines_pass (Hand name kind x ∷ es) end = lines_pass es end

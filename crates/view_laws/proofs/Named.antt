@@ -10,6 +10,7 @@ use Rattle.sc_text.specs.declared.event.Event.{Event}
 use Rattle.sc_text.specs.declared.event.Event.TheVariants as event
 use Rattle.sc_text.specs.Lists.{Among}
 use Rattle.sc_text.specs.Name.{IsName}
+use Rattle.program_trees.specs.declared.expression.DataType.{DataType}
 use Rattle.program_trees.specs.Shapes.{shape_of}
 use Rattle.program_trees.specs.TypedPrograms.{TypedProgramTree}
 use Rattle.reached_instances.specs.Instances.{Instance}
@@ -40,11 +41,11 @@ one_more : (events more : List Event) → AreNamed events → AreNamed more → 
 one_more [] more h m = m
 one_more (event.Open es ∷ events) more h m = one_more events more h m
 one_more (event.Publish name es ∷ events) more h m = (h.0, one_more events more h.1 m)
-one_more (event.Hand name es ∷ events) more h m = (h.0, one_more events more h.1 m)
+one_more (event.Hand name kind es ∷ events) more h m = (h.0, one_more events more h.1 m)
 
-publication_named : (secrecy : Secrecy) (name : List ℕ) (es : List Element) → IsName name → AreNamed (publication secrecy name es ∷ [])
-publication_named Plain name es h = (h, tt)
-publication_named (Private k) name es h = (h, tt)
+publication_named : (secrecy : Secrecy) (e : DataType) (name : List ℕ) (es : List Element) → IsName name → AreNamed (publication secrecy e name es ∷ [])
+publication_named Plain e name es h = (h, tt)
+publication_named (Private k) e name es h = (h, tt)
 
 same_events : (s u : Stage) → AreNamed s.events → TellsNothing s u → AreNamed u.events
 same_events s u h t = subst AreNamed (sym t.events) h
@@ -75,7 +76,7 @@ none_named place i e = absurd (none-some _ e)
 told_named : (i : Option Step) (m : Machine) (s u : Stage) → ((j : Step) → i ≡ Some j → Named j) → AreNamed s.events → ToldBy i m s u → AreNamed u.events
 told_named (Some (Declassify d r)) m s u says h t = opening_named (m.registers r) s u h t
 told_named (Some (Publish text r)) m s u says h t =
-    subst AreNamed (sym t.events) (one_more s.events _ h (publication_named (m.registers r).secrecy text _ (says _ refl text (inl refl))))
+    subst AreNamed (sym t.events) (one_more s.events _ h (publication_named (m.registers r).secrecy (m.registers r).shape.element text _ (says _ refl text (inl refl))))
 told_named i m s u says h t = same_events s u h t
 
 module _ (o : Offered) (c : List Function) (names : (f : Function) → IsIn c f → AllNamed f.steps) where

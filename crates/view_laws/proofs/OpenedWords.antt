@@ -20,7 +20,7 @@ use Rattle.program_trees.specs.declared.kinds.Shape.{Shape}
 use Rattle.program_trees.specs.TypedPrograms.{TypedProgramTree}
 use Rattle.language_model.specs.Effects.{Words, World, Stage, Ended, Short, Run, Effect, ◌>>=◌, carry, done, end, charge, test, fits, draw}
 use Rattle.language_model.specs.Effects.{emit, next_answers}
-use Rattle.language_model.specs.Values.{Secrecy, Plain, Private, Value, element_of, elements_of, plain}
+use Rattle.language_model.specs.Values.{Secrecy, Plain, Private, Value, element_of, elements_of, plain, printed_kind}
 use Rattle.language_model.specs.Operations.{read_answer, publication}
 use Rattle.language_model.specs.Evaluation.{Frame, Flow, turns, repeats}
 use Rattle.language_model.specs.Reports.{dealing, beginning, report_of, not_dealt, evaluated}
@@ -39,7 +39,7 @@ openings-more : (es : List Event) (e : Event) → openings (es ++ e ∷ []) ≡ 
 openings-more [] e = refl
 openings-more (event.Open elements ∷ es) e = ap (λ z. elements ∷ z) (openings-more es e)
 openings-more (event.Publish text elements ∷ es) e = openings-more es e
-openings-more (event.Hand text elements ∷ es) e = openings-more es e
+openings-more (event.Hand text kind elements ∷ es) e = openings-more es e
 
 told-more : (es : List Event) (e : Event) → told (es ++ e ∷ []) ≡ told es ++ told (e ∷ [])
 told-more es e = ap opened_words (openings-more es e) ∙ flat_map-append (map element_word) (openings es) (openings (e ∷ []))
@@ -129,9 +129,9 @@ tells_answers n = record {
   from = λ s h. alike_if (nat_le n (length s.answers)) (Ok (take n s.answers, record s { answers = drop n s.answers })) (Err (Short, s)) h h;
 }
 
-tells_publish : (x : Secrecy) (text : List ℕ) (elements : List Element) → Tells (emit (publication x text elements))
-tells_publish Plain text elements = record { from = λ s h. h ∙ sym (told-more s.events (event.Publish text elements) ∙ append-nil (told s.events)) }
-tells_publish (Private k) text elements = record { from = λ s h. h ∙ sym (told-more s.events (event.Hand text elements) ∙ append-nil (told s.events)) }
+tells_publish : (x : Secrecy) (e : DataType) (text : List ℕ) (elements : List Element) → Tells (emit (publication x e text elements))
+tells_publish Plain e text elements = record { from = λ s h. h ∙ sym (told-more s.events (event.Publish text elements) ∙ append-nil (told s.events)) }
+tells_publish (Private k) e text elements = record { from = λ s h. h ∙ sym (told-more s.events (event.Hand text (printed_kind e) elements) ∙ append-nil (told s.events)) }
 
 tells_told : (shape : Shape) (words : List ℕ) → Tells (told_open shape words)
 tells_told shape words = record {

@@ -11,7 +11,7 @@ abbrev pub AreNamed : List Event → Type 0
 AreNamed [] = Unit {0}
 AreNamed (Open elements ∷ events) = AreNamed events
 AreNamed (Publish name elements ∷ events) = IsName name × AreNamed events
-AreNamed (Hand name elements ∷ events) = IsName name × AreNamed events
+AreNamed (Hand name kind elements ∷ events) = IsName name × AreNamed events
 
 -- the evaluation of an accepted program, whatever it is offered
 abbrev pub EventsAreNamed : TypedProgramTree → Offered → (budget : ℕ) → Type 0

@@ -4,7 +4,7 @@ use Rattle.std.specs.Prelude.{option_map, option_and_then}
 use Rattle.std.specs.List.{flat_map}
 use Rattle.std.specs.Result.{result_map_both}
 use Rattle.sc_text.specs.declared.elements.Element.{Element}
-use Rattle.sc_text.specs.declared.event.Event.TheVariants.{Hand}
+use Rattle.sc_text.specs.declared.event.Event.TheVariants.{Publish}
 use Rattle.sc_text.specs.Elements.{element_word}
 use Rattle.sc_text.specs.Event.{event_line}
 use Rattle.view_text.specs.Reading.{all_in, element_in, name_in, lines_in}
@@ -16,9 +16,9 @@ pub record Publication : Type 0 where
 
 -- ---- THE TEXT
 
--- a line of the run's text
+-- a line of the run's text, which for what is handed over is that of a publication
 abbrev pub publication_line : Publication → List ℕ
-publication_line p = event_line (Hand p.name p.elements)
+publication_line p = event_line (Publish p.name p.elements)
 
 abbrev pub published_bytes : List Publication → List ℕ
 published_bytes publications = flat_map publication_line publications

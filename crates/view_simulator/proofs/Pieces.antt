@@ -37,7 +37,7 @@ pub openings_append : (es fs : List Event) → openings (es ++ fs) ≡ openings 
 openings_append [] fs = refl
 openings_append (Open elements ∷ es) fs = ap (λ (os : List (List Element)). elements ∷ os) (openings_append es fs)
 openings_append (Publish text elements ∷ es) fs = openings_append es fs
-openings_append (Hand text elements ∷ es) fs = openings_append es fs
+openings_append (Hand text kind elements ∷ es) fs = openings_append es fs
 
 -- ---- the words that the dealer needs
 

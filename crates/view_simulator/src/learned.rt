@@ -40,7 +40,7 @@ fn push_learned(alloc: Global, learned: &mut Vec<u64>, event: &Event) -> Result<
             learned.extend_from_slice(&words)?;
             Ok(())
         }
-        Event::Publish(_, _) | Event::Hand(_, _) => Ok(()),
+        Event::Publish(_, _) | Event::Hand(_, _, _) => Ok(()),
     }
 }
 

@@ -22,7 +22,7 @@ fn push_opening(alloc: Global, opened: &mut Vec<Elements>, event: &Event) -> Res
             opened.push(Elements::from_vec(elements))?;
             Ok(())
         }
-        Event::Publish(_, _) | Event::Hand(_, _) => Ok(()),
+        Event::Publish(_, _) | Event::Hand(_, _, _) => Ok(()),
     }
 }
 

@@ -3,7 +3,7 @@
 use Rattle.std.specs.Prelude.{codes, List, [], ◌∷◌}
 use Rattle.clap.specs.Words.{App, Text}
 use Rattle.command_words.specs.Shapes.{bare_app, run_app, deal_app, evaluation_app, check_app, compile_app, upgrade_app, map_app, simulate_app, twin_app}
-use Rattle.command_words.specs.Shapes.{load_app, gather_app, with_command}
+use Rattle.command_words.specs.Shapes.{client_map_app, client_simulate_app, client_twin_app, load_app, gather_app, with_command}
 
 unfoldable pub run_options : List Text
 run_options =
@@ -14,6 +14,12 @@ map_required = codes "input" ∷ codes "tape" ∷ codes "sim" ∷ codes "public"
 
 unfoldable pub simulate_options : List Text
 simulate_options = codes "schedule" ∷ codes "shuffle" ∷ codes "budget" ∷ []
+
+unfoldable pub client_map_required : List Text
+client_map_required = codes "input" ∷ codes "tape" ∷ codes "sim" ∷ codes "public" ∷ codes "opened" ∷ codes "published" ∷ []
+
+unfoldable pub client_simulate_required : List Text
+client_simulate_required = codes "public" ∷ codes "opened" ∷ codes "published" ∷ codes "sim" ∷ codes "view" ∷ []
 
 unfoldable pub gather_required : List Text
 gather_required = codes "me" ∷ codes "to" ∷ []
@@ -44,9 +50,13 @@ program_app = with_command (with_command checking_app compile_app) upgrade_app
 unfoldable pub viewing_app : App
 viewing_app = with_command (with_command (with_command program_app map_app) simulate_app) twin_app
 
+-- and those about the client's view
+unfoldable pub client_viewing_app : App
+client_viewing_app = with_command (with_command (with_command viewing_app client_map_app) client_simulate_app) client_twin_app
+
 -- and the one that runs a workload
 unfoldable pub loading_app : App
-loading_app = with_command viewing_app load_app
+loading_app = with_command client_viewing_app load_app
 
 -- and the one that puts share files end to end
 unfoldable pub gathering_app : App

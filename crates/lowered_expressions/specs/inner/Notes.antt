@@ -6,7 +6,7 @@ use Rattle.program_trees.specs.declared.expression.DataType.TheVariants.{Uint64}
 use Rattle.program_trees.specs.declared.expression.DataType.TheVariants as datatype
 use Rattle.program_trees.specs.declared.kinds.Shape.{Shape}
 use Rattle.program_trees.specs.Shapes.{shape_of}
-use Rattle.program_trees.specs.TypedTree.{TypedTree, TypedTrees, word_node, truth_node, slot_node, call_node, size_node, cat_node, sum_node, bits_node, lookup_node, element_node}
+use Rattle.program_trees.specs.TypedTree.{TypedTree, TypedTrees, word_node, truth_node, zero_node, slot_node, call_node, size_node, cat_node, sum_node, bits_node, lookup_node, element_node}
 use Rattle.program_trees.specs.TypedTree.{not_node, cast_node, binary_node, cut_node, declassify_node}
 use Rattle.program_trees.specs.TypedTree as Tree'
 use Rattle.reached_instances.specs.declared.instance.BoundDomain.{BoundDomain}
@@ -46,6 +46,7 @@ abbrev mutual
   pub operands_notes : Setting → TypedTree → List Note
   operands_notes here (word_node n) = []
   operands_notes here (truth_node b) = []
+  operands_notes here zero_node = []
   operands_notes here (slot_node k) = []
   operands_notes here (call_node line k es) = arguments_notes here es
   operands_notes here (size_node e) = noted (given_in here e) (operands_notes here e)

@@ -20,7 +20,7 @@ loop-place-preserved c =
           took_none events c.args.end c.args.shown opened c.loop-place.place p c.loop-place.invariant e _ (search rules) c.index-events-place.is _ _
           w.in-Publish.is c.match-events-place.taken w.taken-is
       | in-Hand w ↦
-          took_none_either events c.args.end c.args.shown opened c.loop-place.place p c.loop-place.invariant e _ (search rules) c.index-events-place.is _ _
+          took_none_either events c.args.end c.args.shown opened c.loop-place.place p c.loop-place.invariant e _ (search rules) c.index-events-place.is _ _ _
           w.in-Hand.is c.match-events-place.taken w.taken-is
     ]
 

@@ -70,6 +70,27 @@ returns-in-Twin-clause-planned g c =
     (planned _ _ _ _ (λ told. refl) c.plan_twin.ensures.files c.plan_twin.ensures.anyhow
     c.plan_twin.ensures.answer c.plan_twin.ensures.found c.plan_twin.ensures.names tt c.plan_twin.ensures.ends tt)
 
+pub returns-in-ClientMap-clause-planned : goal.returns-in-ClientMap-clause-planned
+unfolding answer_to question_of reads_of writes_of
+returns-in-ClientMap-clause-planned g c =
+    rw c.in-ClientMap.is
+    (planned _ _ _ _ (λ told. refl) c.plan_client_map.ensures.files c.plan_client_map.ensures.anyhow
+    c.plan_client_map.ensures.answer c.plan_client_map.ensures.found c.plan_client_map.ensures.names tt c.plan_client_map.ensures.ends tt)
+
+pub returns-in-ClientSimulate-clause-planned : goal.returns-in-ClientSimulate-clause-planned
+unfolding answer_to question_of reads_of writes_of
+returns-in-ClientSimulate-clause-planned g c =
+    rw c.in-ClientSimulate.is
+    (planned _ _ _ _ (λ told. refl) c.plan_client_simulate.ensures.files c.plan_client_simulate.ensures.anyhow
+    c.plan_client_simulate.ensures.answer c.plan_client_simulate.ensures.found c.plan_client_simulate.ensures.names tt c.plan_client_simulate.ensures.ends tt)
+
+pub returns-in-ClientTwin-clause-planned : goal.returns-in-ClientTwin-clause-planned
+unfolding answer_to question_of reads_of writes_of
+returns-in-ClientTwin-clause-planned g c =
+    rw c.in-ClientTwin.is
+    (planned _ _ _ _ (λ told. refl) c.plan_client_twin.ensures.files c.plan_client_twin.ensures.anyhow
+    c.plan_client_twin.ensures.answer c.plan_client_twin.ensures.found c.plan_client_twin.ensures.names tt c.plan_client_twin.ensures.ends tt)
+
 pub returns-in-Deal-clause-planned : goal.returns-in-Deal-clause-planned
 unfolding answer_to question_of reads_of writes_of
 returns-in-Deal-clause-planned g c =

@@ -1,5 +1,5 @@
 use Rattle.std.proofs.Common.{◌<◌, ◌≤◌, min, get_or, length, refl, arith}
-use Rattle.tape_twin.proofs.Differences.{words-differ, one-begins, past-shorter}
+use Rattle.tape_twin.proofs.Differences.{lists-differ, one-begins, past-shorter}
 use Rattle.tape_twin.proofs.alike.first_difference.Goals as goal
 
 pub returns-then-first-k-clause-some : goal.returns-then-first-k-clause-some
@@ -9,7 +9,7 @@ returns-then-first-k-clause-some c =
     let k = c.loop-k.k in
     let below : k < length first = omega arith in
     let other : k < length second = omega arith in
-    words-differ first second k (get_or first k 0) (get_or second k 0) below other refl refl c.if-first-k.true c.loop-k.invariant
+    lists-differ 0 first second k (get_or first k 0) (get_or second k 0) below other refl refl c.if-first-k.true c.loop-k.invariant
 
 pub returns-clause-none : goal.returns-clause-none
 returns-clause-none c =

@@ -3,6 +3,7 @@ use Rattle.proto_core.specs.declared.party.Number.{Number}
 use Rattle.joint_run.specs.Three.{values_of}
 use Rattle.input_share.specs.Dealing.{need_of}
 use Rattle.tape_twin.specs.declared.way.Way.TheVariants.{FromView}
+use Rattle.tape_twin.specs.declared.way.Looker.TheVariants.{Miner}
 use Rattle.tape_twin.specs.Maps.{run_map}
 use Rattle.tape_twin.proofs.Passing.{if-ok}
 use Rattle.view_model.specs.Dealing.{dealt_to, seen_dealer}
@@ -87,6 +88,6 @@ returns c =
     c.in_ok-dealt.ensures.shares in
     let dealt : (k : Number) → shares k ≡ dealt_to es dealer k =
     λ k. are k ∙ ap (λ (w : List ℕ). dealt_to es w k) c.deref.ensures.value in
-    if-ok (λ made. made ≡ four_of dealer (run_map (record { miner = i; way = FromView }) shares gates (miners_of t)))
+    if-ok (λ made. made ≡ four_of dealer (run_map (record { looker = Miner i; way = FromView }) shares gates (miners_of t)))
     (λ made. made ≡ from_simulated i es gates t) (λ made same. same ∙ from-is i es gates t shares dealer all dealt seen_is)
     c.mapped.result c.mapped.ensures

@@ -3,6 +3,7 @@ use Rattle.proto_core.specs.declared.party.Number.{Number}
 use Rattle.joint_run.specs.Three.{values_of}
 use Rattle.input_share.specs.Dealing.{need_of}
 use Rattle.tape_twin.specs.declared.way.Way.TheVariants.{ToView}
+use Rattle.tape_twin.specs.declared.way.Looker.TheVariants.{Miner}
 use Rattle.tape_twin.specs.Maps.{run_map}
 use Rattle.tape_twin.proofs.Passing.{if-ok}
 use Rattle.view_model.specs.Dealing.{dealt_to, seen_dealer}
@@ -62,5 +63,5 @@ returns c =
     let all : need_of es ≤ length t.dealer = subst (λ (w : List ℕ). need_of es ≤ length w) c.dealer.ensures enough in
     let dealt : (k : Number) → shares k ≡ dealt_to es t.dealer k = λ k. are k ∙ ap (λ (w : List ℕ). dealt_to es w k) c.dealer.ensures in
     let seen_is : seen ≡ seen_dealer i es t.dealer = c.in_ok-seen.ensures ∙ ap (λ (w : List ℕ). seen_dealer i es w) c.dealer-2.ensures in
-    if-ok (λ made. made ≡ four_of seen (run_map (record { miner = i; way = ToView }) shares gates (miners_of t))) (λ made. made ≡ to_simulated i es gates t)
+    if-ok (λ made. made ≡ four_of seen (run_map (record { looker = Miner i; way = ToView }) shares gates (miners_of t))) (λ made. made ≡ to_simulated i es gates t)
     (λ made same. same ∙ to-is i es gates t shares seen all dealt seen_is) c.mapped.result c.mapped.ensures

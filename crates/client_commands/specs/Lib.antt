@@ -1,0 +1,4 @@
+pub mod Map
+pub mod Simulate
+pub mod Difference
+pub mod Twin

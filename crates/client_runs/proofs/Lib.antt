@@ -1,0 +1,3 @@
+pub mod SightingSteps
+pub mod GivenShares
+pub mod AlikeRuns

@@ -1,0 +1,3 @@
+pub mod ToldEvents
+pub mod MakingSteps
+pub mod Answered
