@@ -107,11 +107,11 @@ made-of-slots ring r u s words k own said given fits is kind lt told so =
     } in
     let size : length own ≡ size_of (own_sizes s) u = ap length is ∙ size-value (s.shares One) u in
     ap (λ (g : Given). g ∷ []) (
-      so
-      ∙ ap (λ (count : ℕ). made r count (length own) said) (length-take-le (length own) (s.tapes One) (fits One))
-      ∙ ap (λ (x : Ring). made x (length own) (length own) said) kind
-      ∙ ap (λ (ws : List ℕ). made (ring_of ring) (length own) (length own) ws) told
-      ∙ ap (λ (n : ℕ). made (ring_of ring) n n (value words k)) size
+    so
+    ∙ ap (λ (count : ℕ). made r count (length own) said) (length-take-le (length own) (s.tapes One) (fits One))
+    ∙ ap (λ (x : Ring). made x (length own) (length own) said) kind
+    ∙ ap (λ (ws : List ℕ). made (ring_of ring) (length own) (length own) ws) told
+    ∙ ap (λ (n : ℕ). made (ring_of ring) n n (value words k)) size
     )
     ∙ sym (one-made ring u (own_sizes s) words s.tapes k lt)
 
