@@ -38,6 +38,7 @@ fn word(tree: &Expression) -> &str {
         Expression::Parentheses(_, _) => "()",
         Expression::Not(_, _) => "!",
         Expression::Cast(_, DataType::Uint64, _) => "uint64",
+        Expression::Cast(_, DataType::Int64, _) => "int64",
         Expression::Cast(_, DataType::Bool, _) => "bool",
         Expression::Binary(_, operator, _, _) => sign(*operator),
         Expression::Declassify(_, _) => "declassify",

@@ -24,6 +24,7 @@ fn tell_slot(lines: &mut Lines, slot: Slot) {
     }
     lines.add(match slot.shape.element {
         DataType::Uint64 => "uint64",
+        DataType::Int64 => "int64",
         DataType::Bool => "bool",
     });
     lines.add(if slot.shape.array { "[[1]]" } else { "" });
