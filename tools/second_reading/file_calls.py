@@ -81,11 +81,12 @@ WRONG = {
               faulty_files.whole(faulty_files.entry(value=faulty_files.long_value(65_537)))),
     "tape": (b"", bytes(31), bytes(33), b"\xff" * 32, GOOD_FILES["t"][:-1], GOOD_FILES["t"] + b"\x00"),
     "opened": (b"x\n", b"open 1", b"open 1\nopen 01\n", b"\n"),
+    "published": (b"x\n", b"publish a 1", b"publish a 1\npublish a 01\n", b"\n", b"publish\n", b"publish a-b 1\n", b"open 1\n"),
     "schedule": (b"x\n", b"12", b"12\n11\n", b"\n"),
 }
 WRONG["second"] = WRONG["public"] = WRONG["input"]
 WRONG["sim"] = WRONG["tape"]
-LATER = {"schedule": (b"", b"13\n", b"12\n12\n"), "opened": (b"", b"open\n"), "second": (GOOD_FILES["i.json"].replace(b":3}", b":4}"),)}
+LATER = {"schedule": (b"", b"13\n", b"12\n12\n"), "opened": (b"", b"open\n"), "published": (b"", b"publish a\n"), "second": (GOOD_FILES["i.json"].replace(b":3}", b":4}"),)}
 PROGRAM = "program"
 
 
@@ -213,7 +214,7 @@ def any_file(role: str, source: random.Random) -> bytes:
         return faulty_files.changed_entries(GOOD_FILES["public"], source)
     if role in ("tape", "sim"):
         return faulty_files.changed_tapes(GOOD_FILES["t"], source)
-    return faulty_files.changed_lines(GOOD_FILES["s" if role == "schedule" else "opened"], source)
+    return faulty_files.changed_lines(GOOD_FILES["s" if role == "schedule" else role], source)
 
 
 def changed(make: Callable[[bytes, random.Random], bytes], good: bytes) -> Callable[[random.Random, int], Iterator[bytes]]:
