@@ -289,7 +289,7 @@ def done_by(code: Code, function: Function) -> list[Did]:
             found.append((tag,))
         elif tag is Tag.ASSERT:
             found.append((tag, operands[1]))
-        elif tag in (Tag.FILL, Tag.AT, Tag.PUT, Tag.CAT, Tag.BITS):
+        elif tag in (Tag.FILL, Tag.AT, Tag.PUT, Tag.CAT, Tag.BITS, Tag.LOOKUP):
             found.append((tag, *(kinds[one] for one in operands[:-1]), operands[-1]))
         else:
             found.append((tag, *(kinds[one] for one in operands)))
