@@ -131,7 +131,7 @@ class FormMaker:
         wanted = kind_of(self.recorder.declared[node])
         if node.size is not None:
             self.value(node.size)
-            start = self.value(node.value) if node.value is not None else wanted & TRUTH
+            start = self.value(node.value) if node.value is not None else wanted & (TRUTH | SIGNED)
             start = self.stored(start, wanted)
             self.does(Tag.FILL, start | ARRAY, 0, start, self.line(node))
             return
