@@ -18,7 +18,7 @@ use Rattle.blind_evaluation.specs.Words.{truth_word}
 use Rattle.blind_evaluation.specs.Operations as row
 use Rattle.blind_evaluation.specs.Evaluation.{Frame, Calls, is_private, gives_private, slots_of, bound_at, next_is_private}
 use Rattle.blind_evaluation.specs.Evaluation.{truth_value, value, arguments}
-use Rattle.verified_code.specs.Steps.{Literal, Not, Cast, Size, Sum, Bits, Lookup, Declassify, Call, Function}
+use Rattle.verified_code.specs.Steps.{Literal, Not, Cast, Size, Sum, Bits, Declassify, Call, Function}
 use Rattle.code_model.specs.Machine.{Machine, next, received, values_at, limit}
 use Rattle.bytecode.specs.declared.kind.Kind.{Kind}
 use Rattle.code_model.specs.Kinds.{kind_in, private_kind_in, in_row}

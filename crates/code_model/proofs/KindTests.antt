@@ -12,7 +12,6 @@ use Rattle.program_trees.specs.declared.operators.Operands.TheVariants.{Scalars,
 use Rattle.program_trees.specs.declared.operators.BoolOperator.TheVariants as truth
 use Rattle.program_trees.specs.declared.operators.BinaryOperator.{BinaryOperator}
 use Rattle.program_trees.specs.declared.operators.BinaryOperator.TheVariants.{Words, Ints, Bools}
-use Rattle.program_trees.specs.declared.operators.OperatorSign.{OperatorSign}
 use Rattle.program_trees.specs.Operators.{on_ints, operands_of, cast_between}
 use Rattle.code_model.specs.Operations.{result_shape}
 use Rattle.bytecode.specs.declared.kind.Kind.{Kind}

@@ -9,7 +9,7 @@ use Rattle.program_trees.specs.declared.operators.OperatorSign.TheVariants as wo
 use Rattle.program_trees.specs.declared.operators.Operands.TheVariants.{Scalars}
 use Rattle.program_trees.specs.declared.operators.Connective.TheVariants.{AndAlso}
 use Rattle.program_trees.specs.Shapes.{shape_of}
-use Rattle.program_trees.specs.TypedTree.{word_node, truth_node, zero_node, slot_node, call_node, binary_node, cut_node, declassify_node, typed_trees_of}
+use Rattle.program_trees.specs.TypedTree.{word_node, truth_node, slot_node, call_node, binary_node, cut_node, declassify_node, typed_trees_of}
 use Rattle.program_trees.specs.TypedStatements.{block_statement, if_statement, loop_statement, do_statement, break_statement, return_statement, store_statement}
 use Rattle.program_trees.specs.TypedStatements.{default_statement, fill_statement, element_statement, publish_statement, empty_statement, evaluate_statement}
 use Rattle.program_trees.specs.TypedStatements.{TypedStatementTree, TypedStatementTrees, none, also, typed_statements_of}

@@ -16,7 +16,7 @@ use Rattle.reached_instances.specs.Domains.{domains}
 use Rattle.blind_evaluation.specs.Effects.{World, Stage, Effect, ◌>>=◌, carry, done}
 use Rattle.blind_evaluation.specs.Values.{Value, plain, size, default_words}
 use Rattle.blind_evaluation.specs.Operations as row
-use Rattle.blind_evaluation.specs.Operations.{charged, no_traps, wanted, tested}
+use Rattle.blind_evaluation.specs.Operations.{charged, no_traps, wanted}
 use Rattle.blind_evaluation.specs.Evaluation.{Frame, put, Calls, StatementContext, gives_private, slot_is_private, slot_shape, slots_of, bound_at}
 use Rattle.blind_evaluation.specs.Evaluation.{asked_for, input_named}
 use Rattle.blind_evaluation.specs.Evaluation.{either, value, Flow, goes, stops, skips, stored, execute, execute_all}
