@@ -21,7 +21,7 @@ _secrec_tools() {
     secrec-explain) options='--json --input --budget --opens --help' files='*.sc' ;;
     secrec-result) options='--by --as --digits --help' files='*' ;;
     csv_to_input)
-      options='--to --separator --decimal --encoding --missing --missing-words --scale --add --divide --bool --name --public --help' files='*.csv'
+      options='--to --separator --decimal --encoding --missing --missing-words --scale --add --divide --signed --bool --name --public --help' files='*.csv'
       ;;
     random_tape) options='--own --deal --to --help' files='' ;;
     random_input) options='--to --help' files='*.json' ;;

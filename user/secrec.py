@@ -7,7 +7,8 @@
     secrec.need("mean.sc", "mean.json").miners
 
 Inputs are the path of an input file, or a mapping from names to values: a number, a truth value or a list of either is public, and private within
-`private(..)`. A number below 0 is written as 2^64 less its distance from 0, as programs take it. Programs are paths.
+`private(..)`. Numbers within `Signed(..)` have a sign and are of the type int64, as in `private(Signed([-250, 1500]))`; another number below 0 is written as 2^64
+less its distance from 0, a uint64. Programs are paths.
 
 `run` draws a tape of the system's random words, of which no file has a name, and runs on shares by `secrec run`. What is refused raises `Refused`, and a
 run that ends early `Ended`, with the line that `secrec` tells. The command is `secrec` on the path, or what SECREC_PROGRAM names, or what `program=` says.
@@ -26,7 +27,9 @@ from collections.abc import Iterator, Mapping, Sequence
 from dataclasses import dataclass, field
 from typing import Union
 
-__all__ = ["Dealt", "Ended", "Need", "NoProgram", "Private", "Published", "Refused", "Run", "SecrecErr", "deal", "join", "need", "private", "run"]
+__all__ = [
+    "Dealt", "Ended", "Need", "NoProgram", "Private", "Published", "Refused", "Run", "SecrecErr", "Signed", "deal", "join", "need", "private", "run", "signed",
+]
 
 BUDGETS = (10**6, 10**8, 10**10)
 WORD_END, MOST_WORDS, PIECE = 1 << 64, 1 << 24, 1 << 20
@@ -141,7 +144,7 @@ class Dealt:
 
 
 def signed(word: int) -> int:
-    """The number with a sign for which a word stands."""
+    """The number with a sign for which a uint64 stands; what is published of the type int64 has its sign."""
     return word - WORD_END if word >= WORD_END // 2 else word
 
 
@@ -155,8 +158,8 @@ def entry(name: str, given: Value | Signed | Private) -> dict[str, object]:
     kinds = {isinstance(one, bool) for one in elements}
     if len(kinds) > 1:
         raise TypeError(f"{name}: numbers and truth values stand in one list")
-    if has_sign and (kinds == {True} or any(one >= WORD_END // 2 for one in elements)):
-        raise TypeError(f"{name}: numbers with a sign are from -2^63 to 2^63 - 1")
+    if has_sign and (True in kinds or any(one >= WORD_END // 2 for one in elements)):
+        raise TypeError(f"{name}: what is Signed are numbers from -2^63 to 2^63 - 1")
     words = [one if has_sign or isinstance(one, bool) else one % WORD_END for one in elements]
     made = words if isinstance(value, Sequence) else words[0]
     kind = "int64" if has_sign else "bool" if kinds == {True} else "uint64"

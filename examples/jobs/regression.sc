@@ -2,44 +2,53 @@ import stdlib;
 import shared3p;
 domain office shared3p;
 
-// A public number with a sign, divided and cut off towards zero.
-uint64 divided(uint64 x, uint64 by) {
-    if (x >= 0x8000000000000000) return 0 - (0 - x) / by;
-    return x / by;
-}
-
-// Gives the client a public number with a sign as two results: whether it is below zero, and how far it is from there.
-void publish_sign(uint64 x) {
-    publish("below_zero", x >= 0x8000000000000000);
-    if (x >= 0x8000000000000000) publish("amount", 0 - x); else publish("amount", x);
-}
-
 // Whether each of them is true; true of none.
 template <domain D : shared3p>
 D bool all(D bool[[1]] flags) { return sum((uint64) flags) == size(flags); }
 
-// The line that fits salaries by years best: slope, then where it begins, in hundredths of what the salaries are counted in. Nothing wraps where
-// years are at most 100, salaries at most 10,000,000, and people at most 500.
+// Whether no number is further from zero than `most`, which is below 2^62.
+template <domain D : shared3p>
+D bool within(D int64[[1]] xs, uint64 most) { return all((uint64) (xs + (int64) most) <= 2 * most); }
+
+// Hundredths of a public quotient, cut off towards zero, where a hundred divisors are below 2^63.
+int64 hundredths(int64 x, int64 by) {
+    int64 hundred = (int64) 100;
+    return hundred * (x / by) + hundred * (x % by) / by;
+}
+
+// The line that fits y by x best: its slope, and its height at a public middle, both in hundredths. Squares and products are of differences from the middles,
+// so they stay small where the numbers are large.
 void main() {
-    office uint64[[1]] years = argument("years");
-    office uint64[[1]] salary = argument("salary");
+    office int64[[1]] x = argument("x");
+    office int64[[1]] y = argument("y");
+    uint64 most_x = argument("most_x");
+    uint64 most_y = argument("most_y");
 
-    uint64 n = size(years);
-    assert(0 < n && n <= 500);
-    assert(declassify(all(years <= 100) & all(salary <= 10000000)));
+    // within these bounds nothing wraps; what the miners learn of this is that they hold
+    uint64 n = size(x);
+    assert(n > 0 && size(y) == n);
+    assert(most_x <= 300000000 / n && most_y <= 10000000000 / n);
+    assert(declassify(within(x, most_x) & within(y, most_y)));
 
-    uint64 x = declassify(sum(years));
-    uint64 y = declassify(sum(salary));
-    uint64 xx = declassify(sum(years * years));
-    uint64 xy = declassify(sum(years * salary));
+    // the middles are the means, cut off; what that leaves is what the differences add up to
+    int64 people = (int64) n;
+    int64 sum_x = declassify(sum(x));
+    int64 sum_y = declassify(sum(y));
+    int64 middle_x = sum_x / people;
+    int64 middle_y = sum_y / people;
+    int64 rest_x = sum_x % people;
+    int64 rest_y = sum_y % people;
+    office int64[[1]] far_x = x - middle_x;
+    office int64[[1]] far_y = y - middle_y;
+    int64 xx = declassify(sum(far_x * far_x));
+    int64 xy = declassify(sum(far_x * far_y));
     publish("people", n);
-    publish("years", x);
-    publish("salaries", y);
-    publish("years_squared", xx);
-    publish("years_by_salaries", xy);
+    publish("middle_x", middle_x);
+    publish("middle_y", middle_y);
 
-    uint64 spread = n * xx - x * x;
-    assert(spread > 0);
-    publish_sign(divided(100 * (n * xy - x * y), spread));
-    publish_sign(divided(100 * (y * xx - x * xy), spread));
+    int64 zero;
+    int64 spread = people * xx - rest_x * rest_x;
+    assert(spread > zero);
+    publish("slope", hundredths(people * xy - rest_x * rest_y, spread));
+    publish("height", (int64) 100 * middle_y + hundredths(rest_y * xx - rest_x * xy, spread));
 }

@@ -4,9 +4,9 @@ import shared3p;
 
 // Each number without its sign.
 template <domain D>
-D uint64[[1]] absolute(D uint64[[1]] xs) {
-    D uint64[[1]] below = (uint64) negative(xs);
-    return xs - 2 * below * xs;
+D int64[[1]] absolute(D int64[[1]] xs) {
+    int64 zero;
+    return xs - (xs + xs) * (int64) (xs < zero);
 }
 
 // Whether each of them is true; true of none.
@@ -30,6 +30,14 @@ uint64 at_place(D uint64[[1]] xs, uint64 wanted, uint64 bits) {
         if (further) found += step;
         step = step / 2;
     }
+    return found;
+}
+
+// For each of the codes 0, 1, .. up to `codes` the values of the rows that have it, added up. Rows with another code are left out.
+template <domain D : shared3p>
+D uint64[[1]] by_code(D uint64[[1]] xs, D uint64[[1]] values, uint64 codes) {
+    D uint64[[1]] found (codes);
+    for (uint64 code = 0; code < codes; code++) found[code] = sum(values * (uint64) (xs == code));
     return found;
 }
 
@@ -65,12 +73,6 @@ D uint64[[1]] count_codes(D uint64[[1]] xs, uint64 codes) {
     D uint64[[1]] counts (codes);
     for (uint64 code = 0; code < codes; code++) counts[code] = sum((uint64) (xs == code));
     return counts;
-}
-
-// A public number with a sign, divided and cut off towards zero.
-uint64 divided(uint64 x, uint64 by) {
-    if (x >= 0x8000000000000000) return 0 - (0 - x) / by;
-    return x / by;
 }
 
 // The element at a private place, or 0 where there is no such place.
@@ -182,12 +184,6 @@ D uint64 least(D uint64[[1]] xs) {
     return most - greatest(most - xs);
 }
 
-// Whether each number of the first array is less than that of the second, with signs.
-template <domain D>
-D bool[[1]] less(D uint64[[1]] xs, D uint64[[1]] ys) {
-    return xs + 0x8000000000000000 < ys + 0x8000000000000000;
-}
-
 // At place i * size(ys) + j a 1 where xs[i] is ys[j], else 0.
 template <domain D : shared3p>
 D uint64[[1]] matches(D uint64[[1]] xs, D uint64[[1]] ys) {
@@ -199,10 +195,6 @@ D uint64[[1]] matches(D uint64[[1]] xs, D uint64[[1]] ys) {
     }
     return (uint64) (first == second);
 }
-
-// Whether each number is below zero.
-template <domain D>
-D bool[[1]] negative(D uint64[[1]] xs) { return xs >= 0x8000000000000000; }
 
 // The number at this place of the order that the ranks tell.
 template <domain D : shared3p>
@@ -242,12 +234,6 @@ uint64 power_of_two(uint64 n) {
     uint64 power = 1;
     while (power < n) power = power * 2;
     return power;
-}
-
-// Gives the client a public number with a sign as two results: whether it is below zero, and how far it is from there.
-void publish_sign(uint64 x) {
-    publish("below_zero", x >= 0x8000000000000000);
-    if (x >= 0x8000000000000000) publish("amount", 0 - x); else publish("amount", x);
 }
 
 // The least element of a sorted array that is not below `percent` of a hundred of all elements.
@@ -314,6 +300,14 @@ template <domain D : shared3p>
 D uint64[[1]] stored(D uint64[[1]] xs, D uint64 place, D uint64 x) {
     D uint64[[1]] here = (uint64) (indices(size(xs)) == place);
     return xs + here * (x - xs);
+}
+
+// At each place the sum of what stands before it.
+template <domain D>
+D uint64[[1]] sums_before(D uint64[[1]] xs) {
+    D uint64[[1]] found (size(xs));
+    for (uint64 i = 1; i < size(xs); i++) found[i] = found[i - 1] + xs[i - 1];
+    return found;
 }
 
 // The k greatest in ascending order; zeros come first where there are fewer. Blocks of the least power of two that holds k are sorted, then of

@@ -217,6 +217,10 @@ def python_calls(tools: Tools) -> int:
     same("what was opened", [(True,)], found.opened)
     same("the end", True, found.end.startswith("end done cost "))
     same("secrec.need", 8, need.dealer)
+    signs = work / tools.put("least.sc", 'import shared3p; domain p shared3p;\nvoid main() {\np int64[[1]] xs = argument("xs"); int64 least = argument("least");\n'
+        'publish("rest", xs - least); publish("below", declassify(xs < least)); }\n')
+    told = secrec.run(signs, {"xs": secrec.private(secrec.Signed([5, -(2**63)])), "least": secrec.Signed(-7)}, **how).results
+    same("numbers with a sign", ([12, 7 - 2**63], [False, True]), (told["rest"], told["below"]))
     dealt = secrec.deal(inputs, need, work / "dealt", **how)
     same("secrec.deal", [0o600] * 6, [os.stat(path).st_mode & 0o777 for path in dealt.shares + dealt.tapes])
     wrong = work / tools.put("not.sc", "void main() {\n x = ; }\n")
@@ -229,11 +233,11 @@ def python_calls(tools: Tools) -> int:
     end = raised(lambda: secrec.need(sums, inputs, budget=5, **how))
     same("a budget", ("budget", 7, True), (end.kind, end.status, end.line.startswith("end budget cost ")))
     same("one element of three", LookupError, type(raised(lambda: found["each"])))
-    for value in (0.5, "5", 1 << 64, -(1 << 64), [1, True], [[1]]):
+    for value in (0.5, "5", 1 << 64, -(1 << 64), [1, True], [[1]], secrec.Signed(1 << 63), secrec.Signed([True])):
         same(f"an input {value}", TypeError, type(raised(lambda: secrec.run(sums, {"n": value}, **how))))
     same("no program", secrec.NoProgram, type(raised(lambda: secrec.run(sums, inputs, program="/none"))))
     same("a command of another name", None, secrec.run(sums, inputs, program=TOP / "user" / "secrec").results.get("none"))
-    return 20
+    return 23
 
 
 def page_program_runs(tools: Tools) -> int:

@@ -35,10 +35,6 @@ def lines(name: str, value: object) -> list[str]:
     return ["publish " + " ".join([name, *(str(one).lower() if isinstance(one, bool) else str(one) for one in elements)])]
 
 
-def with_sign(number: int) -> list[str]:
-    return lines("below_zero", number < 0) + lines("amount", abs(number))
-
-
 def median(tables: Tables) -> list[str]:
     return lines("low_median", statistics.median_low(tables.cents())) + lines("high_median", statistics.median_high(tables.cents()))
 
@@ -57,19 +53,39 @@ def histogram(tables: Tables) -> list[str]:
     return lines("regions", [regions[name] for name in ("north", "south", "east", "west")]) + lines("pay", [between[place] for place in range(5)])
 
 
-def regression(tables: Tables) -> list[str]:
-    years, cents = [int(row["years"]) for row in tables.rows("people.csv")], tables.cents()
-    mean_years, mean_cents = Fraction(sum(years), len(years)), Fraction(sum(cents), len(cents))
-    together = sum((one - mean_years) * (other - mean_cents) for one, other in zip(years, cents, strict=True))
-    slope = together / sum((one - mean_years) ** 2 for one in years)
-    near = statistics.linear_regression(years, cents)
-    begins = mean_cents - slope * mean_years
-    assert abs(near.slope - slope) < 1e-6 and abs(near.intercept - begins) < 1e-4
+def fitted(x: list[int], y: list[int]) -> list[str]:
+    """The line that fits best: its slope, and its height where x is its own mean, cut off."""
+    mean_x, mean_y = Fraction(sum(x), len(x)), Fraction(sum(y), len(y))
+    together = sum((one - mean_x) * (other - mean_y) for one, other in zip(x, y, strict=True))
+    slope = together / sum((one - mean_x) ** 2 for one in x)
+    middle_x, middle_y = cut(mean_x), cut(mean_y)
+    height = mean_y + slope * (middle_x - mean_x)
+    near = statistics.linear_regression(x, y)
+    assert abs(near.slope - slope) < 1e-6 and abs(near.intercept + near.slope * middle_x - height) < 1e-4
     return [
-        *lines("people", len(years)), *lines("years", sum(years)), *lines("salaries", sum(cents)), *lines("years_squared", sum(one**2 for one in years)),
-        *lines("years_by_salaries", sum(one * other for one, other in zip(years, cents, strict=True))),
-        *with_sign(cut(100 * slope)), *with_sign(cut(100 * begins)),
+        *lines("people", len(x)), *lines("middle_x", middle_x), *lines("middle_y", middle_y), *lines("slope", cut(100 * slope)),
+        *lines("height", 100 * middle_y + cut(100 * (height - middle_y))),
     ]
+
+
+def regression(tables: Tables) -> list[str]:
+    return fitted([int(row["years"]) for row in tables.rows("people.csv")], tables.cents())
+
+
+def firms(tables: Tables) -> list[str]:
+    rows = tables.rows("firms.csv")
+    return fitted([int(row["sales"]) for row in rows], [int(row["profit"]) for row in rows])
+
+
+def income_change(tables: Tables) -> list[str]:
+    """People, those who earn less, and the changes of all and of these, in cents, of each branch of ten people or more."""
+    columns = []
+    for branch in ("farming", "trade", "crafts", "care"):
+        here = [row for row in tables.rows("incomes.csv") if row["branch"] == branch]
+        changes = [int(100 * (Fraction(row["after"]) - Fraction(row["before"]))) for row in here if len(here) >= 10]
+        falls = [one for one in changes if one < 0]
+        columns.append((len(changes), len(falls), sum(changes), sum(falls)))
+    return [line for name, values in zip(("people", "poorer", "change", "lost"), zip(*columns)) for line in lines(name, list(values))]
 
 
 def chi_square(tables: Tables) -> list[str]:
@@ -119,7 +135,7 @@ def urgent_waits(tables: Tables) -> list[str]:
 
 
 RESULTS: dict[str, Callable[[Tables], list[str]]] = {
-    "Median by ranks": median, "Bitonic sort": bids, "Top k": top, "Histogram": histogram, "Regression sums": regression, "Chi-square": chi_square,
+    "Median by ranks": median, "Bitonic sort": bids, "Top k": top, "Histogram": histogram, "Regression": regression, "Chi-square": chi_square,
     "Intersection of two registers": intersection, "Quartiles": quartiles, "Variance": variance, "Signs and decimals": temperatures,
-    "A private condition": long_waits, "A column of another type": urgent_waits,
+    "Change of income": income_change, "A private condition": long_waits, "A column of another type": urgent_waits, "Products that overflow": firms,
 }

@@ -7,7 +7,11 @@ from fractions import Fraction
 from math import ceil, floor
 
 from published_cases import PUBLISHED
-from recipe_parts import WORDS, Entry, Given, Recipe, Told, Value, pay, private, public, region_inputs, with_signs
+from recipe_parts import WORDS, Entry, Given, Recipe, Told, Value, pay, private, public, region_inputs, with_sign
+
+
+# How many different codes there are where the words go by them.
+CODES = 16
 
 
 def cut(number: Fraction) -> int:
@@ -60,6 +64,36 @@ def join_told(given: Given) -> Told:
     return [("in_both", len(found)), ("pay_of_insured", sum(found))]
 
 
+def price_inputs(chance: random.Random, n: int) -> list[Entry]:
+    """Some articles are not in the list."""
+    return [
+        private("prices", [chance.randrange(1000) for _ in range(CODES)]), private("article", [chance.randrange(CODES + 2) for _ in range(n)]),
+        private("amount", [chance.randrange(10) for _ in range(n)]),
+    ]
+
+
+def price_told(given: Given) -> Told:
+    prices = dict(enumerate(given.prices))
+    return [("paid", sum(prices.get(article, 0) * amount for article, amount in zip(given.article, given.amount, strict=True)))]
+
+
+def rent_inputs(chance: random.Random, n: int) -> list[Entry]:
+    """Some codes stand in several rows of the other register, some in none."""
+    codes = [chance.randrange(CODES) for _ in range(2 * n)]
+    return [
+        private("region", codes[:n]), private("rent_region", codes[n:]), private("rent", [chance.randrange(900) for _ in range(n)]), public("codes", CODES),
+    ]
+
+
+def rent_told(given: Given) -> Told:
+    rents = list(zip(given.rent_region, given.rent, strict=True))
+    return [("rent", [sum(rent for code, rent in rents if code == region) for region in given.region])]
+
+
+def mark_told(given: Given) -> Told:
+    return [("below", [sum(one < mark for one in given.mark) for mark in given.mark])]
+
+
 def mean_told(given: Given) -> Told:
     there = [one for one, place in zip(given.pay, given.region, strict=True) if place == given.wanted]
     told: Told = [("mean", floor(statistics.mean(map(Fraction, given.pay)))), ("enough", len(there) >= given.fewest)]
@@ -82,7 +116,7 @@ def quantiles_told(given: Given) -> Told:
 
 def signs_inputs(chance: random.Random, n: int) -> list[Entry]:
     change = [chance.randrange(-40_000, 40_000) for _ in range(n)]
-    return [with_signs("change", change), private("weight", [chance.randrange(3_000) for _ in range(n)]), public("bound", 15_000)]
+    return [with_sign(private("change", change)), private("weight", [chance.randrange(3_000) for _ in range(n)]), public("bound", 15_000)]
 
 
 def signs_told(given: Given) -> Told:
@@ -123,6 +157,11 @@ RECIPES = {
         lambda chance, n: [*region_inputs(chance, n), public("regions", 4), public("edges", [900, 900 + n, 900 + 2 * n])], histogram_told
     ),
     "join": Recipe(join_inputs, join_told),
+    "price_list": Recipe(price_inputs, price_told),
+    "join_by_code": Recipe(rent_inputs, rent_told),
+    "rank_by_code": Recipe(
+        lambda chance, n: [private("mark", [chance.randrange(CODES) for _ in range(n)]), public("codes", CODES)], mark_told
+    ),
     "mean": Recipe(lambda chance, n: [*region_inputs(chance, n), public("wanted", 2), public("fewest", 1)], mean_told),
     "variance": Recipe(lambda chance, n: [pay(chance, n), public("most", 1_000_000)], variance_told),
     "top": Recipe(lambda chance, n: [pay(chance, n), public("k", 3)], top_told),

@@ -5,7 +5,7 @@ import random
 import statistics
 from math import log
 
-from recipe_parts import WORDS, Entry, Given, Recipe, Told, number_of, pay, private, public, region_inputs, signed
+from recipe_parts import Entry, Given, Recipe, Told, pay, private, public, region_inputs, with_sign
 
 MOST = 1_000_000
 
@@ -91,7 +91,7 @@ def stairs(count: int) -> list[int]:
 def doses_inputs(chance: random.Random, n: int) -> list[Entry]:
     return [
         private("dose", [chance.randrange(12) for _ in range(n)]), private("answer", truths(chance, n)),
-        public("start", signed(-1500)), public("slope", 300), public("stairs", stairs(4)),
+        with_sign(public("start", -1500)), with_sign(public("slope", 300)), public("stairs", stairs(4)),
     ]
 
 
@@ -99,10 +99,10 @@ def logistic_told(given: Given) -> Told:
     edges = [*given.stairs, *(-one for one in given.stairs)]
     rests = []
     for dose, answer in zip(given.dose, given.answer, strict=True):
-        height = number_of(given.start) + number_of(given.slope) * dose
+        height = given.start + given.slope * dose
         rests.append(len(edges) * answer - sum(height >= edge for edge in edges))
     by_dose = sum(rest * dose for rest, dose in zip(rests, given.dose, strict=True))
-    return [("people", len(rests)), ("steps", len(edges)), ("rest", signed(sum(rests))), ("rest_by_dose", signed(by_dose))]
+    return [("people", len(rests)), ("steps", len(edges)), ("rest", sum(rests)), ("rest_by_dose", by_dose)]
 
 
 def watched_inputs(chance: random.Random, n: int) -> list[Entry]:

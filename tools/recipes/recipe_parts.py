@@ -3,7 +3,7 @@ from __future__ import annotations
 
 import random
 from collections.abc import Callable
-from dataclasses import dataclass
+from dataclasses import dataclass, replace
 
 WORDS = 1 << 64
 Value = int | bool | list[int] | list[bool]
@@ -42,23 +42,14 @@ def public(name: str, value: Value) -> Entry:
     return Entry(name, False, value)
 
 
-def with_signs(name: str, value: list[int]) -> Entry:
-    """A private array of numbers with a sign."""
-    return Entry(name, True, value, True)
+def with_sign(entry: Entry) -> Entry:
+    """The same as numbers with a sign."""
+    return replace(entry, has_sign=True)
 
 
 def pay(chance: random.Random, n: int) -> Entry:
     """With some that are equal."""
     return private("pay", [chance.randrange(900, 900 + 3 * n + 5) for _ in range(n)])
-
-
-def signed(number: int) -> int:
-    """A word for a number with a sign."""
-    return number % WORDS
-
-
-def number_of(word: int) -> int:
-    return word - WORDS if word >= WORDS // 2 else word
 
 
 @dataclass(frozen=True)

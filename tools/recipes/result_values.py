@@ -6,7 +6,7 @@ import statistics
 from collections.abc import Callable
 from fractions import Fraction
 
-from recipe_parts import Given, number_of
+from recipe_parts import Given
 
 Number = Fraction | float | int | bool | None
 Wanted = dict[str, Number | list[Number] | dict[str, Number]]
@@ -73,7 +73,7 @@ def logistic_values(given: Given) -> Wanted:
     """Of each person the chance that stairs tell is taken from the answer."""
     rests = []
     for dose, answer in zip(given.dose, given.answer, strict=True):
-        height = number_of(given.start) + number_of(given.slope) * dose
+        height = given.start + given.slope * dose
         steps = sum((height >= edge) + (height >= -edge) for edge in given.stairs)
         rests.append(answer - Fraction(steps, 2 * len(given.stairs)))
     by_dose = [rest * dose for rest, dose in zip(rests, given.dose, strict=True)]

@@ -170,7 +170,7 @@ FETCHED = (
         "--name survival=time --name censors=event --name age=first"
     ), transplants),
     Case(f"{STATSMODELS}spector/spector.csv", by(
-        "logistic", "\"'GPA'\" \"'GRADE'\" start:18446744073709542616 slope:28 stairs:251,788,1466,2708 --separator ' ' "
+        "logistic", "\"'GPA'\" \"'GRADE'\" start:-9000 slope:28 stairs:251,788,1466,2708 --signed slope --separator ' ' "
         "--scale \"'GPA'=100\" --bool \"'GRADE'\" --name \"'GPA'=dose\" --name \"'GRADE'=answer\""
     ), grades, " "),
     Case(f"{STATSMODELS}engel/engel.csv", (

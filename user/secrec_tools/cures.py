@@ -20,13 +20,15 @@ TITLE = "When the words end"
 LINK = re.compile(r"\[([^\]]*)\]\([^)]*\)")
 PATIENCE = 10.0
 IN_PIECES = ("all pairs of long arrays are made piece by piece: in a loop, some rows of the one against all of the other, with what is wanted added up",)
+IN_PARTS = ("some of the indices at a time, in a loop or in several runs, each against the whole array",)
 MANY = 16
 ORDERS, EQUALITIES = ("<", "<=", ">", ">="), ("==", "!=")
 SORTS, COUNTS = "comparisons, many for each element", "comparisons, few for each element"
 QUESTIONS = "comparisons in questions, one after another, each opened"
 PAIRS, CODES = "tests of equality of all pairs", "tests of equality, of each element"
+LOOKUPS = "look-ups, each index in the whole array"
 PRODUCTS, INPUTS, OTHERS = "products", "the dealer", "something else"
-ROWS = (SORTS, COUNTS, QUESTIONS, PAIRS, CODES, PRODUCTS, INPUTS, OTHERS)
+ROWS = (SORTS, COUNTS, QUESTIONS, PAIRS, CODES, LOOKUPS, PRODUCTS, INPUTS, OTHERS)
 
 
 @dataclass(frozen=True)
@@ -96,6 +98,8 @@ def row_of(node: tree.Node, text: bytes, words: float, size: float) -> str:
         return QUESTIONS if asked else SORTS if words > MANY * 119 else COUNTS
     if operator in EQUALITIES or isinstance(node, tree.Cast):
         return PAIRS if size > 2 else CODES
+    if isinstance(node, tree.Call) and node.name == "lookup":
+        return LOOKUPS
     return PRODUCTS if operator in ("*", "&", "|", "&&", "||") else OTHERS
 
 

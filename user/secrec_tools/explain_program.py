@@ -29,6 +29,8 @@ FOREIGN_TYPES = frozenset(
     "int8 int16 int32 uint8 uint16 uint32 float float32 float64 double string char xor_uint8 xor_uint16 xor_uint32 xor_uint64 "
     "fix32 fix64 size_t unsigned long short struct const auto var let def function".split()
 )
+ELEMENT_TYPES = "its element types are `uint64` (numbers from 0 to 2^64 - 1), `int64` (from -2^63 to 2^63 - 1) and `bool`"
+TWO_KINDS = "numbers with a sign and without don't meet: `(int64)` and `(uint64)` cast one to the other's type, and literals are `uint64`"
 NO_SIGNS = {"'": "strings stand in `\"`", "#": "there is no preprocessor, and comments begin with `//`", "?": "there is no conditional expression"}
 
 
@@ -122,8 +124,7 @@ def of_tree(finding: Finding, path: str, text: bytes, at: int):
         finding.note(f"is a `;` missing at the end of line {line_before}?", spot_at(path, text, end))
     for token in (before, met):
         if token and token.kind is lexer.Kind.NAME and token.text in FOREIGN_TYPES:
-            finding.note(f"`{token.text}` isn't in this profile of SecreC: its element types are `uint64` (numbers from 0 to 2^64 - 1), `int64` (from -2^63 to 2^63 - 1) and "
-                         "`bool`")
+            finding.note(f"`{token.text}` isn't in this profile of SecreC: {ELEMENT_TYPES}")
             break
     if met.text in ("break", "continue"):
         finding.note(f"`{met.text}` stands in no loop here")
@@ -185,6 +186,11 @@ class Tracer(checker.BodyChecker):
                 rest.extend(part.children())
         return found
 
+    def meeting(self, place, one, other):
+        """Numbers of two types, where one is wanted."""
+        if one.data is not other.data and one.data.is_number and other.data.is_number:
+            self.add(3, place, TWO_KINDS)
+
     def why_private(self, number, node):
         for name, (type_, at) in self.private_parts(node).items():
             self.add(number, node.place, f"`{name}` is private: it has the type {type_text(type_)}", at)
@@ -200,6 +206,7 @@ class Tracer(checker.BodyChecker):
         if not good:
             for number in (3, 7, 10):
                 self.add(number, value.place, f"this is {type_text(found)}, and {type_text(wanted)} is wanted")
+            self.meeting(value.place, found, wanted)
             self.why_private(7, value)
         return good
 
@@ -261,6 +268,7 @@ class Tracer(checker.BodyChecker):
             if left is not None and right is not None:
                 for number in checker.operator_faults(expression.operator, left, right):
                     self.add(number, expression.place, f"`{expression.operator}` has {type_text(left)} on its left and {type_text(right)} on its right")
+                self.meeting(expression.place, left, right)
         return found
 
     def quiet(self, expression):

@@ -25,7 +25,7 @@ ENDS = {
     "trap Argument": "no input has the name that is asked for, or it has another domain, type or dimension",
     "trap Depth": "calls in one another may be 64 deep, main among them",
     "trap Assert": "an assertion is false",
-    "trap Large": "an array may have 1,048,576 elements",
+    "trap Large": "an array may have 1,048,576 elements, and a look-up as many elements times indices",
 }
 TAPES = ("the dealer's tape", "miner 1's tape", "miner 2's tape", "miner 3's tape")
 
@@ -104,6 +104,8 @@ class Traced(clear.Evaluation):
         if isinstance(node, tree.Declare):
             return [f"{self.expression(node.size, frame).words[0]} elements are asked for", *cures.IN_PIECES]
         sizes = [len(self.expression(part, frame).words) for part in node.arguments]
+        if node.name == "lookup":
+            return [f"`lookup` of {sizes[0]} elements and {sizes[1]} indices, {sizes[0] * sizes[1]} in all", *cures.IN_PARTS]
         return [f"`cat` of {sizes[0]} and {sizes[1]} elements" if node.name == "cat" else f"64 bits of each of {sizes[0]} elements", *cures.IN_PIECES]
 
     def assertion_facts(self, node, frame):
@@ -153,7 +155,8 @@ def disagreement(entry, wanted) -> list[str]:
         else:
             found.append("the file has it public: declare it without a domain, or write `\"domain\":\"private\"` in the file")
     if have.data is not wanted.data:
-        found.append(f"the file has {have.data.value}: write `{have.data.value}` in the declaration")
+        other = f", or `\"type\":\"{wanted.data.value}\"` in the file" if have.data.is_number and wanted.data.is_number else ""
+        found.append(f"the file has {have.data.value}: write `{have.data.value}` in the declaration{other}")
     if have.array != wanted.array:
         found.append("the file has an array: write `[[1]]`" if have.array else "the file has a single value: leave `[[1]]` away, or put the value in brackets in the file")
     return found

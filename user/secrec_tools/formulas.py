@@ -69,7 +69,7 @@ def of_decimal(function: Callable, x: Fraction) -> Fraction:
 def signed(x: Fraction) -> Fraction:
     """A word as a number with a sign: from 2^63 on it stands for 2^64 less."""
     if x.denominator != 1 or not 0 <= x < WORD_END:
-        raise FormulaErr("`signed` takes a word, a whole number from 0 to 2^64 - 1")
+        raise FormulaErr("`signed` takes a word, a whole number from 0 to 2^64 - 1; what is published of the type int64 has its sign")
     return x if x < SIGN_BIT else x - WORD_END
 
 

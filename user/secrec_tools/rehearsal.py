@@ -11,8 +11,9 @@ from .program import TOP, call
 from .reading import clear, entries
 from .tapes import open_private
 
-# Made-up numbers are below this, so that sums and products of many don't wrap.
-NUMBER_END = 100
+WORD_END = 1 << 64
+# From where to where made-up elements are drawn: numbers are small, so that sums and products of many don't wrap.
+DRAWN = {entries.Data.NUMBER: (0, 100), entries.Data.SIGNED: (-100, 100), entries.Data.TRUTH: (0, 2)}
 # Ends before the end of the program, to which made-up values may lead.
 EARLY = (1, 7, 8)
 
@@ -48,8 +49,8 @@ def made_up(inputs: list) -> str:
     """The text of an input file with the same public values, and drawn ones in place of the private, of which it tells the shapes alone."""
     found = []
     for one in inputs:
-        end = NUMBER_END if one.type.data.is_number else 2
-        found.append(entry_of(one, [secrets.randbelow(end) for _ in one.words] if one.type.private else one.words))
+        first, end = DRAWN[one.type.data]
+        found.append(entry_of(one, [(first + secrets.randbelow(end - first)) % WORD_END for _ in one.words] if one.type.private else one.words))
     return json.dumps({"inputs": found}, separators=(",", ":")) + "\n"
 
 

@@ -86,7 +86,7 @@ def read_ended(text: str) -> RunText:
 
 
 def json_of(text: str, lengths: list[int], budget: int) -> str:
-    """The text of a run as one object of JSON, with the words of the four tapes and the budget; numbers go up to 2^64 - 1."""
+    """The text of a run as one object of JSON, with the words of the four tapes and the budget; numbers are from -2^63 to 2^64 - 1."""
     found = read_run(text)
     published = [{"name": one.name, "values": one.elements} for one in found.published]
     made = {"published": published, "opened": found.opened, "end": found.end.removeprefix("end "), "words": lengths, "budget": budget}

@@ -15,12 +15,13 @@ ROUND = f"numbers are whole: count in hundredths or thousandths (signs and thous
 COUNT = f"truth values are counted by `sum((uint64) flags)` (any and all in {RECIPES}); how many elements an array has is `size`, which is public"
 PRIVATE = "what is private belongs to a domain: `domain p shared3p;` after `import shared3p;`, and then `p uint64 x`; what has no domain is public"
 EXTREME = f"`greatest` and `least` in {RECIPES}"
-SIGN = f"numbers with a sign have the type `int64`; `absolute` and `negative` stand in {RECIPES} (signs and thousandths)"
+SIGN = f"numbers with a sign have the type `int64`, and are compared with a public zero, `int64 zero;`; `absolute` in {RECIPES} takes the sign away"
 POWER = "there is no power: products make it, as `x * x`; `^` is exclusive or"
 LINE = f"`line` in {RESULTS}: publish the sums, and the reader computes line and correlation"
 CHI = f"`four_counts` in {RESULTS}; the job `chi_square` in examples/jobs opens the counts"
 EXPONENT = f"numbers are whole: publish the exponent, and `exp` in a result file computes it ({RESULTS})"
 LOGARITHM = f"numbers are whole: publish the number, and `log` in a result file computes it ({RESULTS})"
+LOOKUP = f"`lookup(xs, places)` takes elements at private places (look up in {RECIPES}); by a key that is no place it is `join` or `join_by_code` in {RECIPES}"
 LENGTH = "the size of an array is `size(xs)`, which is public"
 
 WORDS = {
@@ -33,7 +34,7 @@ WORDS = {
     "lm": LINE, "regression": LINE, "chisq": CHI, "chi_square": CHI, "length": LENGTH, "len": LENGTH, "nrow": LENGTH,
     "log": LOGARITHM, "weighted_mean": f"`weighted_mean` in {RESULTS}",
     "sort": f"`sort` and `sort_any` in {RECIPES}", "rank": f"`rank` in {RECIPES}", "survdiff": f"`log_rank` in {RESULTS}", "kmeans": f"`k_means` in {RESULTS}",
-    "glm": f"`logistic` in {RESULTS}", "table": f"`histogram` in {RECIPES}", "tabulate": f"`histogram` in {RECIPES}", "merge": f"`join` in {RECIPES}",
+    "glm": f"`logistic` in {RESULTS}", "table": f"`histogram` in {RECIPES}", "tabulate": f"`histogram` in {RECIPES}", "merge": f"`join` in {RECIPES}, or `join_by_code` where the key is a code", "vlookup": LOOKUP, "xlookup": LOOKUP, "match": LOOKUP,
 }
 
 

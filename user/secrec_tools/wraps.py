@@ -1,7 +1,7 @@
 """Which lines of a program had results that are not what they stand for: that wrapped modulo 2^64, told by the second reading on test data.
 
-A word that follows from a name that is said to have signs is read with its sign: from 2^63 on it stands for itself less 2^64. What follows from a result that
-was lost isn't told again.
+A word of the type int64, or one that follows from a name that is said to have signs, is read with its sign: from 2^63 on it stands for itself less 2^64. What
+follows from a result that was lost isn't told again.
 """
 from __future__ import annotations
 
@@ -110,14 +110,26 @@ def result_of(operator: str, u: int, v: int) -> Result:
     return Result((u, v), function(int(u), int(v)), function(with_sign(u), with_sign(v)), placed)
 
 
+def awaits_signs(node: tree.Node, names) -> bool:
+    """Whether what stands in this part is stored in a variable with signs, or cast to the type with signs."""
+    match node:
+        case tree.Declare():
+            return node.name.text in names
+        case tree.Assign():
+            return node.target.name in names
+        case tree.Cast():
+            return node.data is clear.Data.SIGNED
+    return False
+
+
 def awaited(program: clear.Runnable, names) -> set[tree.Node]:
-    """The operators and calls whose results go straight to variables with signs."""
+    """The operators and calls whose results go straight to variables with signs, or to casts to the type with signs."""
     found, rest = set(), [function.body for function in program.functions.values()]
     while rest:
         node = rest.pop()
         rest.extend(node.children())
-        if isinstance(node, tree.Declare) and node.name.text in names or isinstance(node, tree.Assign) and node.target.name in names:
-            value = node.value
+        if awaits_signs(node, names):
+            value = node.inner if isinstance(node, tree.Cast) else node.value
             while isinstance(value, (tree.Parentheses, tree.Declassify)):
                 value = value.inner
             found.add(value)
@@ -169,6 +181,10 @@ class Watched(clear.Evaluation):
     def asked(self, name, wanted, node):
         return self.marked(name, super().asked(name, wanted, node))
 
+    def cast(self, data, value):
+        """A number with a sign keeps it as a word of the other type."""
+        return super().cast(data, with_signs(value))
+
     # Results
 
     def operate(self, operator, left, right, node):
@@ -189,10 +205,13 @@ class Watched(clear.Evaluation):
         return result
 
     def signed_words(self, operator, pairs, words, node) -> tuple[int, ...]:
-        """The words of a quotient, a rest or a comparison of numbers of a type with a sign: of quotients that of -2^63 by -1 alone wraps."""
-        wrong = [f"{-HALF} / -1 is {HALF}" for u, v in pairs if operator == "/" and (u, v) == (HALF, clear.MASK)]
-        self.add(Sort.OVERFLOW, node, len(pairs), wrong)
-        return words
+        """The words of a quotient, a rest or a comparison of numbers of the type with a sign: of quotients that of -2^63 by -1 alone wraps."""
+        if operator not in DIVISIONS:
+            return words
+        lost = [isinstance(u, Lost) or isinstance(v, Lost) for u, v in pairs]
+        wraps = [operator == "/" and (u, v) == (HALF, clear.MASK) and not known for (u, v), known in zip(pairs, lost)]
+        self.add(Sort.OVERFLOW, node, len(pairs), [f"{-HALF} / -1 is {HALF}"] * sum(wraps))
+        return tuple(Lost(word) if either or wrapped else word for word, either, wrapped in zip(words, lost, wraps))
 
     def computed(self, operator, pairs, node) -> tuple[int, ...]:
         """The words of a sum, a difference or a product."""
@@ -274,7 +293,7 @@ def names_of(program: tree.Program, inputs) -> set[str]:
     return found
 
 
-HINT = "where numbers have signs, --signed NAME says so of an input or a variable, and of what follows from it"
+HINT = "where numbers have signs, their type is int64; else --signed NAME says so of an input or a variable, and of what follows from it"
 
 
 def told_wraps(path: str, text: bytes, inputs, budget: int, signed=()) -> tuple[str, list[str], str]:

@@ -7,7 +7,7 @@ use Rattle.program_trees.specs.TypedPrograms.{TypedProgramTree}
 use Rattle.reached_instances.specs.Instances.{Instance}
 use Rattle.reached_instances.specs.Reached.{IsReachedList}
 use Rattle.bytecode.specs.Raw.{RawFunction}
-use Rattle.verified_code.specs.Steps.{Step, Function, Literal, Move, Store, Binary, Not, Cast, Classify, Fill, At, Put, Size, Cat, Sum, Bits, Declassify}
+use Rattle.verified_code.specs.Steps.{Step, Function, Literal, Move, Store, Binary, Not, Cast, Classify, Fill, At, Put, Size, Cat, Sum, Bits, Lookup, Declassify}
 use Rattle.verified_code.specs.Steps.{Argument, Publish, Assert, Branch, Jump, Call, Return, ReturnNone}
 use Rattle.code_model.specs.Kinded.{IsIn}
 use Rattle.code_model.specs.Programs.{code_of}
@@ -47,6 +47,7 @@ literal_word names (Size d r) h = tt
 literal_word names (Cat line d a b) h = tt
 literal_word names (Sum d r) h = tt
 literal_word names (Bits line d r) h = tt
+literal_word names (Lookup line d a i) h = tt
 literal_word names (Declassify d r) h = tt
 literal_word names (Argument line k text d) h = tt
 literal_word names (Publish text r) h = tt

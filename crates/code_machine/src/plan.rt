@@ -166,10 +166,7 @@ pub(crate) fn change_of(
             to,
             array,
             index,
-        } => into_register(
-            to,
-            found(alloc, world, machine, stage, line, array, index),
-        ),
+        } => into_register(to, found(alloc, world, machine, stage, line, array, index)),
         Step::Declassify { to, source } => {
             into_register(to, opened(alloc, world, machine, stage, source))
         }

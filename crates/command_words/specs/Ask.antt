@@ -28,8 +28,6 @@ pub record RunAsk : Type 0 where
   pub recorded : Option Text
   -- what the paths begin with to which the three views are written
   pub views : Option Text
-  -- where the client's view is written
-  pub client : Option Text
 
 pub record DealAsk : Type 0 where
   pub input : Text
@@ -127,8 +125,6 @@ pub record JoinAsk : Type 0 where
   pub first : Text
   pub second : Text
   pub third : Text
-  -- where the client's view is written
-  pub client : Option Text
 
 pub record MinerAsk : Type 0 where
   pub code : Text
@@ -151,8 +147,6 @@ pub record TrioAsk : Type 0 where
   -- the first of the three ports at which the miners join
   pub port : ℕ
   pub budget : ℕ
-  -- where the client's view is written
-  pub client : Option Text
 
 -- a command, without where its words lie in memory
 pub data Ask : Type 0 where
@@ -234,7 +228,6 @@ run_of rows = do
     order = order;
     recorded = first_of (codes "record") rows;
     views = first_of (codes "views") rows;
-    client = first_of (codes "client") rows;
   })
 
 unfoldable pub deal_of : List Row → Option DealAsk
@@ -341,13 +334,7 @@ gather_of rows = do
   Some (record { miner = number; first = required_of (codes "share") rows; more = others_of (codes "share") rows; to = required_of (codes "to") rows })
 
 unfoldable pub join_of : List Row → Option JoinAsk
-join_of rows =
-    Some (record {
-      first = required_of (codes "first") rows;
-      second = required_of (codes "second") rows;
-      third = required_of (codes "third") rows;
-      client = first_of (codes "client") rows;
-    })
+join_of rows = Some (record { first = required_of (codes "first") rows; second = required_of (codes "second") rows; third = required_of (codes "third") rows })
 
 unfoldable pub miner_ask_of : List Row → Option MinerAsk
 miner_ask_of rows = do
@@ -375,7 +362,6 @@ trio_of rows = do
     to = required_of (codes "to") rows;
     port = port;
     budget = budget;
-    client = first_of (codes "client") rows;
   })
 
 -- the command of this name, with what `clap` matched after its name

@@ -30,7 +30,7 @@ command_app name words required optional =
 -- run PROGRAM --input F, and the options
 unfoldable pub run_app : App
 run_app = command_app (codes "run") (codes "program" ∷ []) (codes "input" ∷ [])
-    (codes "tape" ∷ codes "seed" ∷ codes "words" ∷ codes "schedule" ∷ codes "shuffle" ∷ codes "record" ∷ codes "budget" ∷ codes "views" ∷ codes "client" ∷ [])
+    (codes "tape" ∷ codes "seed" ∷ codes "words" ∷ codes "schedule" ∷ codes "shuffle" ∷ codes "record" ∷ codes "budget" ∷ codes "views" ∷ [])
 
 -- deal --input F --tape F --to PREFIX
 unfoldable pub deal_app : App
@@ -99,19 +99,18 @@ load_app = command_app (codes "load") [] (codes "number" ∷ []) []
 unfoldable pub gather_app : App
 gather_app = with_rule (command_app (codes "gather") [] (codes "me" ∷ codes "to" ∷ []) []) (words_rule (codes "share"))
 
--- join T1 T2 T3, and where the client's view is written
+-- join T1 T2 T3
 unfoldable pub join_app : App
-join_app = command_app (codes "join") (codes "first" ∷ codes "second" ∷ codes "third" ∷ []) [] (codes "client" ∷ [])
+join_app = command_app (codes "join") (codes "first" ∷ codes "second" ∷ codes "third" ∷ []) [] []
 
 -- miner CODE --me I --share F --tape F --port P --out F, and the budget
 unfoldable pub miner_app : App
 miner_app = command_app (codes "miner") (codes "code" ∷ [])
     (codes "me" ∷ codes "share" ∷ codes "tape" ∷ codes "port" ∷ codes "out" ∷ []) eval_options
 
--- trio PROGRAM --input F --tape F --to PREFIX --port P, and the options
+-- trio PROGRAM --input F --tape F --to PREFIX --port P, and the budget
 unfoldable pub trio_app : App
-trio_app = command_app (codes "trio") (codes "program" ∷ []) (codes "input" ∷ codes "tape" ∷ codes "to" ∷ codes "port" ∷ [])
-    (codes "budget" ∷ codes "client" ∷ [])
+trio_app = command_app (codes "trio") (codes "program" ∷ []) (codes "input" ∷ codes "tape" ∷ codes "to" ∷ codes "port" ∷ []) eval_options
 
 -- no command yet: the words begin after the program's name, and `help` is no command
 unfoldable pub bare_app : App

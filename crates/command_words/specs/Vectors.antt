@@ -43,7 +43,6 @@ in_turn_from source budget = Some (run (record {
   order = in_turn;
   recorded = None;
   views = None;
-  client = None;
 }))
 
 run_with_tape : run_with (codes "--tape" ∷ codes "t" ∷ [])
@@ -83,8 +82,7 @@ both_sources : run_with (codes "--tape" ∷ codes "t" ∷ codes "--seed" ∷ rep
 unfolding words_on_literals
 both_sources = refl
 
-run_as_scheduled : run_with (codes "--tape" ∷ codes "t" ∷ codes "--schedule" ∷ codes "s" ∷ codes "--record" ∷ codes "r" ∷ codes "--views" ∷ codes "v"
-    ∷ codes "--client" ∷ codes "c" ∷ [])
+run_as_scheduled : run_with (codes "--tape" ∷ codes "t" ∷ codes "--schedule" ∷ codes "s" ∷ codes "--record" ∷ codes "r" ∷ codes "--views" ∷ codes "v" ∷ [])
     ≡ Some (run (record {
       program = codes "p.sc";
       input = codes "i";
@@ -93,7 +91,6 @@ run_as_scheduled : run_with (codes "--tape" ∷ codes "t" ∷ codes "--schedule"
       order = scheduled (codes "s");
       recorded = Some (codes "r");
       views = Some (codes "v");
-      client = Some (codes "c");
     }))
 unfolding words_on_literals
 run_as_scheduled = refl
@@ -107,7 +104,6 @@ run_as_shuffled : run_with (codes "--tape" ∷ codes "t" ∷ codes "--shuffle" �
       order = shuffled (replicate 32 119);
       recorded = None;
       views = None;
-      client = None;
     }))
 unfolding words_on_literals
 run_as_shuffled = refl
@@ -179,7 +175,6 @@ after_dashes : words_of (codes "run" ∷ codes "--input=i" ∷ codes "--tape=t" 
       order = in_turn;
       recorded = None;
       views = None;
-      client = None;
     }))
 unfolding words_on_literals
 after_dashes = refl
@@ -372,14 +367,9 @@ unfolding words_on_literals
 gather_for_nobody = refl
 
 join_words : words_of (codes "join" ∷ codes "a" ∷ codes "b" ∷ codes "c" ∷ [])
-    ≡ Some (join (record { first = codes "a"; second = codes "b"; third = codes "c"; client = None }))
+    ≡ Some (join (record { first = codes "a"; second = codes "b"; third = codes "c" }))
 unfolding words_on_literals
 join_words = refl
-
-join_for_client : words_of (codes "join" ∷ codes "a" ∷ codes "--client=v" ∷ codes "b" ∷ codes "c" ∷ [])
-    ≡ Some (join (record { first = codes "a"; second = codes "b"; third = codes "c"; client = Some (codes "v") }))
-unfolding words_on_literals
-join_for_client = refl
 
 join_of_two : words_of (codes "join" ∷ codes "a" ∷ codes "b" ∷ []) ≡ None
 unfolding words_on_literals
@@ -446,23 +436,9 @@ trio_words : trio_with (codes "--port" ∷ codes "47310" ∷ [])
       to = codes "x";
       port = 47310;
       budget = 1000000;
-      client = None;
     }))
 unfolding words_on_literals
 trio_words = refl
-
-trio_for_client : trio_with (codes "--port=7" ∷ codes "--client" ∷ codes "v" ∷ codes "--budget=9" ∷ [])
-    ≡ Some (trio (record {
-      program = codes "p.sc";
-      input = codes "i";
-      tape = codes "t";
-      to = codes "x";
-      port = 7;
-      budget = 9;
-      client = Some (codes "v");
-    }))
-unfolding words_on_literals
-trio_for_client = refl
 
 trio_port_too_large : trio_with (codes "--port=65534" ∷ []) ≡ None
 unfolding words_on_literals

@@ -51,7 +51,6 @@ run_ask w = record {
   order = order_ask w.order;
   recorded = option_map string_bytes w.recorded;
   views = option_map string_bytes w.views;
-  client = option_map string_bytes w.client;
 }
 
 abbrev pub deal_ask : DealWords → DealAsk
@@ -143,12 +142,7 @@ gather_ask w = record {
 }
 
 abbrev pub join_ask : JoinWords → JoinAsk
-join_ask w = record {
-  first = string_bytes w.first;
-  second = string_bytes w.second;
-  third = string_bytes w.third;
-  client = option_map string_bytes w.client;
-}
+join_ask w = record { first = string_bytes w.first; second = string_bytes w.second; third = string_bytes w.third }
 
 abbrev pub miner_ask : MinerWords → MinerAsk
 miner_ask w = record {
@@ -169,7 +163,6 @@ trio_ask w = record {
   to = string_bytes w.to;
   port = w.port;
   budget = w.budget;
-  client = option_map string_bytes w.client;
 }
 
 abbrev pub ask_of : Command → Ask

@@ -3,7 +3,7 @@ ghost use Rattle.std.specs.Prelude.{◌≡◌, IfOk, map};
 ghost use Rattle.command_words.specs.Shapes.{gather_app, words_rule, join_app, miner_app, trio_app, word_rule, option_rule, run_app, deal_app};
 ghost use Rattle.command_words.specs.Shapes.{check_app, compile_app, eval_options, evaluation_app, view_app, map_app, simulate_app, twin_app};
 ghost use Rattle.command_words.specs.Shapes.{load_app, upgrade_app, with_options, bare_app, secrec_app};
-ghost use Rattle.command_words.specs.inner.Parts.{gather_required, map_required, miner_required, run_options, simulate_options, trio_options, trio_required};
+ghost use Rattle.command_words.specs.inner.Parts.{gather_required, map_required, miner_required, run_options, simulate_options, trio_required};
 ghost use Rattle.command_words.specs.Shapes.{client_app, client_map_app, client_simulate_app, client_twin_app};
 ghost use Rattle.command_words.specs.inner.Parts.{client_map_required, client_simulate_required, client_viewing_app};
 ghost use Rattle.command_words.specs.inner.Parts.{input_app, clear_app, checking_app, program_app, viewing_app, loading_app, gathering_app};
@@ -78,8 +78,8 @@ fn with_options<'a>(
 
 static RUN_REQUIRED: [&str; 1] = ["input"];
 
-static RUN_OPTIONS: [&str; 9] = [
-    "tape", "seed", "words", "schedule", "shuffle", "record", "budget", "views", "client",
+static RUN_OPTIONS: [&str; 8] = [
+    "tape", "seed", "words", "schedule", "shuffle", "record", "budget", "views",
 ];
 
 static DEAL_REQUIRED: [&str; 3] = ["input", "tape", "to"];
@@ -286,8 +286,6 @@ fn load_command<'a>(alloc: Global) -> Result<Command<'a>, AllocError>
     )
 }
 
-static JOIN_OPTIONS: [&str; 1] = ["client"];
-
 static GATHER_REQUIRED: [&str; 2] = ["me", "to"];
 
 // The options of `gather`.
@@ -315,8 +313,7 @@ fn join_command<'a>(alloc: Global) -> Result<Command<'a>, AllocError>
 {
     let command = with_word(alloc, Ok(Command::new(alloc, "join")), "first");
     let command = with_word(alloc, command, "second");
-    let command = with_word(alloc, command, "third");
-    with_options(alloc, command, false, JOIN_OPTIONS.as_slice())
+    with_word(alloc, command, "third")
 }
 
 static MINER_REQUIRED: [&str; 5] = ["me", "share", "tape", "port", "out"];
@@ -347,22 +344,12 @@ fn trio_required() -> &'static [&'static str]
     TRIO_REQUIRED.as_slice()
 }
 
-static TRIO_OPTIONS: [&str; 2] = ["budget", "client"];
-
-// The options of `trio` that may be left out.
-#[tactic(auto, unfolding(crate::specs::inner::Parts::trio_options))]
-fn trio_options() -> &'static [&'static str]
-    ensures { map (λ s. s.now) result.now ≡ trio_options }
-{
-    TRIO_OPTIONS.as_slice()
-}
-
 fn trio_command<'a>(alloc: Global) -> Result<Command<'a>, AllocError>
     ensures { IfOk result (λ c. Builds trio_app c) }
 {
     let command = with_word(alloc, Ok(Command::new(alloc, "trio")), "program");
     let command = with_options(alloc, command, true, trio_required());
-    with_options(alloc, command, false, trio_options())
+    with_options(alloc, command, false, eval_options())
 }
 
 // The command with one more command after it; without memory for either there is none.

@@ -43,8 +43,7 @@ impl Drop for DeliveryOrder {
 }
 
 /// The words of `run`: the paths of the program and the input file, the tapes, the most that the run may cost, the order of deliveries,
-/// the path to which the links that were delivered are written, the start of the paths to which the three views are, and the path of the client's
-/// view.
+/// the path to which the links that were delivered are written, and the start of the paths to which the three views are.
 pub struct RunWords {
     pub program: String,
     pub input: String,
@@ -53,7 +52,6 @@ pub struct RunWords {
     pub order: DeliveryOrder,
     pub recorded: Option<String>,
     pub views: Option<String>,
-    pub client: Option<String>,
 }
 
 // Written out, so that an early exit calls this once.
@@ -67,7 +65,6 @@ impl Drop for RunWords {
             order: _,
             recorded: _,
             views: _,
-            client: _,
         } = self;
     }
 }
@@ -204,13 +201,12 @@ pub struct GatherWords {
     pub to: String,
 }
 
-/// The words of `join`: the paths of the texts of miners 1, 2 and 3, and the path to which the client's view is written.
+/// The words of `join`: the paths of the texts of miners 1, 2 and 3.
 #[derive(Drop)]
 pub struct JoinWords {
     pub first: String,
     pub second: String,
     pub third: String,
-    pub client: Option<String>,
 }
 
 /// The words of `miner`: the path of the code, whose part of the run it is, the paths of the miner's share file and of its own tape, the first
@@ -229,7 +225,7 @@ pub struct MinerWords {
 }
 
 /// The words of `trio`: the paths of the program, the input file and the tape file, the start of the paths that are written, the first of the
-/// three ports at which the miners join, the most that the run may cost, and the path to which the client's view is written.
+/// three ports at which the miners join, and the most that the run may cost.
 #[derive(Drop)]
 pub struct TrioWords {
     pub program: String,
@@ -238,7 +234,6 @@ pub struct TrioWords {
     pub to: String,
     pub port: u16,
     pub budget: u64,
-    pub client: Option<String>,
 }
 
 /// A command, with its words.

@@ -192,7 +192,6 @@ fn read_run(alloc: Global, matches: &ArgMatches) -> Result<Command, WordsErr>
     let order = order(alloc, value(matches, "schedule"), value(matches, "shuffle"))?;
     let recorded = own_text(alloc, value(matches, "record"))?;
     let views = own_text(alloc, value(matches, "views"))?;
-    let client = own_text(alloc, value(matches, "client"))?;
     let paths = paths_of(alloc, matches)?;
     Ok(Command::Run(RunWords {
         program: paths.program,
@@ -202,7 +201,6 @@ fn read_run(alloc: Global, matches: &ArgMatches) -> Result<Command, WordsErr>
         order,
         recorded,
         views,
-        client,
     }))
 }
 
@@ -477,7 +475,6 @@ fn read_join(alloc: Global, matches: &ArgMatches) -> Result<Command, WordsErr>
         first: required(alloc, matches, "first")?,
         second: required(alloc, matches, "second")?,
         third: required(alloc, matches, "third")?,
-        client: own_text(alloc, value(matches, "client"))?,
     }))
 }
 
@@ -532,7 +529,6 @@ fn read_trio(alloc: Global, matches: &ArgMatches) -> Result<Command, WordsErr>
     };
     let tape = required(alloc, matches, "tape")?;
     let to = required(alloc, matches, "to")?;
-    let client = own_text(alloc, value(matches, "client"))?;
     let paths = paths_of(alloc, matches)?;
     Ok(Command::Trio(TrioWords {
         program: paths.program,
@@ -541,7 +537,6 @@ fn read_trio(alloc: Global, matches: &ArgMatches) -> Result<Command, WordsErr>
         to,
         port,
         budget,
-        client,
     }))
 }
 

@@ -25,7 +25,7 @@ use Rattle.language_model.specs.Operations.{is_product, result_shape, cast_shape
 use Rattle.language_model.specs.Evaluation.{is_private, shape_at}
 use Rattle.verified_code.specs.Fitting as fitting
 use Rattle.code_model.specs.Fit.{MayStand}
-use Rattle.code_model.specs.Kinds.{kind_of, returned_shape, called_shape, shape_in}
+use Rattle.code_model.specs.Kinds.{returned_shape, called_shape, shape_in}
 use Rattle.code_model.specs.Kinded.{left_array, right_array}
 use Rattle.code_model.specs.Expressions.{lacks, mixes}
 use Rattle.code_model.specs.Right.{operand_element, has_operator}

@@ -25,7 +25,7 @@ use Rattle.program_trees.specs.declared.operators.BinaryOperator.TheVariants as 
 use Rattle.program_trees.specs.declared.operators.Operands.{Operands}
 use Rattle.program_trees.specs.declared.operators.Cast.{Cast}
 use Rattle.program_trees.specs.Shapes.{shape_of}
-use Rattle.language_model.specs.Effects.{World, GivenInput, Effect, ◌>>=◌, done, test, words_each, gate, planned}
+use Rattle.language_model.specs.Effects.{World, GivenInput, Effect, ◌>>=◌, done, test, words_each, gate}
 use Rattle.language_model.specs.Values.{Secrecy, Plain, Private, Value, plain, hidden, never_stored, size, visible_words, is_true, elements_of}
 use Rattle.language_model.specs.Values.{ring_for, gate_words, gate_size}
 use Rattle.language_model.specs.Words as W

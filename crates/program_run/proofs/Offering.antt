@@ -8,7 +8,7 @@ use Rattle.value_file.specs.declared.value.DataType.TheVariants as data_type
 use Rattle.value_file.specs.declared.value.Domain.{Domain}
 use Rattle.value_file.specs.declared.value.Domain.TheVariants.{Public, Private}
 use Rattle.value_file.specs.declared.value.Value.{Value}
-use Rattle.value_file.specs.declared.value.Value.TheVariants.{Number, Truth, Numbers, Truths}
+use Rattle.value_file.specs.declared.value.Value.TheVariants.{Number, Integer, Truth, Numbers, Integers, Truths}
 use Rattle.value_file.specs.Values.{count_of, type_of}
 use Rattle.input_share.specs.Dealing.{draws_for, draws_of, need_of}
 use Rattle.input_share.specs.Values.{bit_word, elements_of, shared_size}
@@ -26,8 +26,10 @@ use Rattle.code_inputs.specs.Inputs as dealt
 
 shape_same : (v : Value) → shape_given v ≡ shape_of (element_given (type_of v)) (is_array v)
 shape_same (Number n) = refl
+shape_same (Integer x) = refl
 shape_same (Truth b) = refl
 shape_same (Numbers ns) = refl
+shape_same (Integers xs) = refl
 shape_same (Truths bs) = refl
 
 bit_same : (b : Bool) → truth_word b ≡ bit_word b
@@ -40,8 +42,10 @@ bits_same (b ∷ bs) = ap₂ (λ x xs. x ∷ xs) (bit_same b) (bits_same bs)
 
 words_same : (v : Value) → words_given v ≡ elements_of v
 words_same (Number n) = refl
+words_same (Integer x) = refl
 words_same (Truth b) = ap (λ x. x ∷ []) (bit_same b)
 words_same (Numbers ns) = refl
+words_same (Integers xs) = refl
 words_same (Truths bs) = bits_same bs
 
 secret_same : (d : Domain) → is_private d ≡ dealt.is_private d
@@ -59,14 +63,18 @@ are_given (e ∷ es) = (is_given e, are_given es)
 
 count_same : (v : Value) → length (words_given v) ≡ count_of v
 count_same (Number n) = refl
+count_same (Integer x) = refl
 count_same (Truth b) = refl
 count_same (Numbers ns) = refl
+count_same (Integers xs) = refl
 count_same (Truths bs) = length-map bs truth_word
 
 size_same : (v : Value) → gate_size (shape_given v).element (length (words_given v)) ≡ shared_size (type_of v) (count_of v)
 size_same (Number n) = refl
+size_same (Integer x) = refl
 size_same (Truth b) = refl
 size_same (Numbers ns) = refl
+size_same (Integers xs) = refl
 size_same (Truths bs) = ap (shared_size data_type.Bool) (count_same (Truths bs))
 
 draws_same : (e : Entry) → words_dealt (input_given e) ≡ draws_of e

@@ -17,7 +17,7 @@ use Rattle.value_file.specs.declared.value.DataType.TheVariants as kind
 use Rattle.value_file.specs.declared.value.Shape as form
 use Rattle.value_file.specs.declared.value.Shape.TheVariants.{Scalar, Array}
 use Rattle.value_file.specs.declared.value.Value.{Value}
-use Rattle.value_file.specs.declared.value.Value.TheVariants.{Number, Truth, Numbers, Truths}
+use Rattle.value_file.specs.declared.value.Value.TheVariants.{Number, Integer, Truth, Numbers, Integers, Truths}
 use Rattle.value_file.specs.declared.public.PublicValue.{PublicValue}
 use Rattle.value_file.specs.declared.public.PublicValue.TheVariants.{Known, Hidden}
 use Rattle.value_file.specs.declared.public.PublicEntry.{PublicEntry}
@@ -39,6 +39,7 @@ truth-itself false = refl
 
 type-itself : (t : DataType) → same_type t t ≡ true
 type-itself datatype.Uint64 = refl
+type-itself datatype.Int64 = refl
 type-itself datatype.Bool = refl
 
 bytes-itself : (xs : List ℕ) → bytes_eq xs xs ≡ true
@@ -60,8 +61,13 @@ truth-same false false h = refl
 
 type-same : (t u : DataType) → same_type t u ≡ true → t ≡ u
 type-same datatype.Uint64 datatype.Uint64 h = refl
+type-same datatype.Uint64 datatype.Int64 h = absurd (false≢true h)
 type-same datatype.Uint64 datatype.Bool h = absurd (false≢true h)
+type-same datatype.Int64 datatype.Uint64 h = absurd (false≢true h)
+type-same datatype.Int64 datatype.Int64 h = refl
+type-same datatype.Int64 datatype.Bool h = absurd (false≢true h)
 type-same datatype.Bool datatype.Uint64 h = absurd (false≢true h)
+type-same datatype.Bool datatype.Int64 h = absurd (false≢true h)
 type-same datatype.Bool datatype.Bool h = refl
 
 shape-same : (s t : Shape) → same_shape s t ≡ true → s ≡ t
@@ -88,11 +94,14 @@ input-same x y h =
 abbrev known-back : DataType → (array : Bool) → (words : List ℕ) → Value
 known-back datatype.Uint64 false words = Number (get_or words 0 0)
 known-back datatype.Uint64 true words = Numbers words
+known-back datatype.Int64 false words = Integer (get_or words 0 0)
+known-back datatype.Int64 true words = Integers words
 known-back datatype.Bool false words = Truth (get_or words 0 0 == 1)
 known-back datatype.Bool true words = Truths (map (λ w. w == 1) words)
 
 abbrev type-back : DataType → told.DataType
 type-back datatype.Uint64 = kind.Uint64
+type-back datatype.Int64 = kind.Int64
 type-back datatype.Bool = kind.Bool
 
 abbrev shape-back : (array : Bool) → (count : ℕ) → form.Shape
@@ -113,10 +122,14 @@ shown-back : (name : List ℕ) (v : PublicValue)
 shown-back name (Known (Number n)) = refl
 shown-back name (Known (Truth true)) = refl
 shown-back name (Known (Truth false)) = refl
+shown-back name (Known (Integer n)) = refl
 shown-back name (Known (Numbers ns)) = refl
+shown-back name (Known (Integers ns)) = refl
 shown-back name (Known (Truths bs)) = ap (λ (cs : List Bool). Known (Truths cs)) (truths-back bs)
 shown-back name (Hidden kind.Uint64 Scalar) = refl
 shown-back name (Hidden kind.Uint64 (Array n)) = ap (λ (k : ℕ). Hidden kind.Uint64 (Array k)) (length-replicate n 0)
+shown-back name (Hidden kind.Int64 Scalar) = refl
+shown-back name (Hidden kind.Int64 (Array n)) = ap (λ (k : ℕ). Hidden kind.Int64 (Array k)) (length-replicate n 0)
 shown-back name (Hidden kind.Bool Scalar) = refl
 shown-back name (Hidden kind.Bool (Array n)) = ap (λ (k : ℕ). Hidden kind.Bool (Array k)) (length-replicate n 0)
 

@@ -13,8 +13,10 @@ fn same_value(x: &Value, y: &Value) -> bool
 {
     match (x, y) {
         (Value::Number(a), Value::Number(b)) => *a == *b,
+        (Value::Integer(a), Value::Integer(b)) => *a == *b,
         (Value::Truth(a), Value::Truth(b)) => *a == *b,
         (Value::Numbers(a), Value::Numbers(b)) => a.as_slice() == b.as_slice(),
+        (Value::Integers(a), Value::Integers(b)) => a.as_slice() == b.as_slice(),
         (Value::Truths(a), Value::Truths(b)) => a.as_slice() == b.as_slice(),
         _ => false,
     }

@@ -6,7 +6,7 @@ use Rattle.std.proofs.lemmas.Option.{none-some, same_Some}
 use Rattle.bytecode.specs.Raw.{RawCode}
 use Rattle.bytecode.specs.Written.{Number, short, opening_numbers, name_numbers, head_numbers, body_numbers, instruction_numbers, code_numbers}
 use Rattle.bytecode.specs.Writable.{Fits, IsWritable}
-use Rattle.verified_code.specs.Steps.{Step, Literal, Move, Store, Binary, Not, Cast, Classify, Fill, At, Put, Size, Cat, Sum, Bits, Declassify}
+use Rattle.verified_code.specs.Steps.{Step, Literal, Move, Store, Binary, Not, Cast, Classify, Fill, At, Put, Size, Cat, Sum, Bits, Lookup, Declassify}
 use Rattle.verified_code.specs.Steps.{Argument, Publish, Assert, Branch, Jump, Call, Return, ReturnNone, Function}
 use Rattle.lowered_code.specs.Instructions.{instruction, raw_function, names_of, raw_code_of}
 use Rattle.lowered_code.proofs.Passing.{mapped}
@@ -52,6 +52,7 @@ says names (Size d r) h = tt
 says names (Cat line d a b) h = line_fits line h.1.1.1.1.0
 says names (Sum d r) h = tt
 says names (Bits line d r) h = line_fits line h.1.1.1.0
+says names (Lookup line d a i) h = line_fits line h.1.1.1.1.0
 says names (Declassify d r) h = tt
 says names (Argument line k text d) h = (line_fits line h.1.1.1.0, refl)
 says names (Publish text r) h = refl

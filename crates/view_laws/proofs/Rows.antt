@@ -22,6 +22,7 @@ use Rattle.program_trees.specs.declared.operators.BinaryOperator.{BinaryOperator
 use Rattle.program_trees.specs.declared.operators.BinaryOperator.TheVariants as binary
 use Rattle.program_trees.specs.declared.operators.Operands.{Operands}
 use Rattle.program_trees.specs.declared.operators.Cast.{Cast}
+use Rattle.language_model.specs.Lookup.{looked, lookup_plan}
 use Rattle.language_model.specs.Effects.{World, GivenInput, Source, Clear, Answers, Effect, planned, answer, words_each}
 use Rattle.language_model.specs.Values.{Secrecy, Plain, Private, Value, plain, hidden, size, visible_words, gate_words, gate_size, elements_of}
 use Rattle.language_model.specs.Words.{flipped, result_size, are_alike, may_divide}
@@ -305,7 +306,9 @@ module _ (w : World) (budget : ℕ) (room : HasRoom w budget) where
       charged_then w budget room (not_too_large line (size a * size i)) (size a * size i) _ (on_test w budget room _ trap.Large line h)
       (λ few. bind w budget room (on_draw w budget room (words_for_lookup (size a * size i)) (lookup_few (size a * size i) few))
       (λ _. bind w budget room (number_ends a)
-      (λ u. bind w budget room (number_ends i) (λ v. bind w budget room (planned_ends _) (λ r. on_done w budget room _)))))
+      (λ u. bind w budget room (number_ends i)
+      (λ v. bind w budget room (planned_ends (λ first. lookup_plan first u v (size a) (size i)))
+      (λ r. made_ends (shape_of a.shape.element i.shape.array) (looked a.words i.words) r)))))
 
   pub element_ends : (line : ℕ) (v i : Value) → line < 2 ^ 32 → Ends w budget room (element_of_array line v i)
   element_ends line v i h =

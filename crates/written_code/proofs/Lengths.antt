@@ -359,6 +359,6 @@ pub function_short : (number : Numbers) (fs : List TypedFunctionTree) (f : Typed
     → IsShort (two (statements_width f.body) + two (counts f.body) + 1) (counts f.body) (function_code number fs f b).steps
 function_short number fs f b =
     let end = body_end number fs f b in
-    let r = first_free f.slots + 8 * statements_depth f.body in
+    let r = first_free f.slots + 12 * statements_depth f.body in
     fewer (two (statements_width f.body) + two (counts f.body) + 1) (counts f.body) (omega arith) (omega arith)
     (both (statements_short number (place_in fs f b) f.body (first_free f.slots) end end 0) (one (last_step f.given r) (last_plain f.given r)))

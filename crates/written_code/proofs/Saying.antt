@@ -329,7 +329,7 @@ module _ (is_word is_line : ℕ → Bool) (is_text : List ℕ → Bool) where
         → StatementsSay is_word is_line is_text f.body → AllSay (function_code number fs f b).steps
     function_says number fs f b h =
         let end = body_end number fs f b in
-        let r = first_free f.slots + 8 * statements_depth f.body in
+        let r = first_free f.slots + 12 * statements_depth f.body in
         both (statements_say number (place_in fs f b) f.body (first_free f.slots) end end 0 h) (one (last_step f.given r) (last_says f.given r))
 
     -- ---- PROGRAMS

@@ -7,7 +7,7 @@ use Rattle.command_words.specs.Shapes.{client_map_app, client_simulate_app, clie
 
 unfoldable pub run_options : List Text
 run_options =
-    codes "tape" ∷ codes "seed" ∷ codes "words" ∷ codes "schedule" ∷ codes "shuffle" ∷ codes "record" ∷ codes "budget" ∷ codes "views" ∷ codes "client" ∷ []
+    codes "tape" ∷ codes "seed" ∷ codes "words" ∷ codes "schedule" ∷ codes "shuffle" ∷ codes "record" ∷ codes "budget" ∷ codes "views" ∷ []
 
 unfoldable pub map_required : List Text
 map_required = codes "input" ∷ codes "tape" ∷ codes "sim" ∷ codes "public" ∷ codes "opened" ∷ []
@@ -29,9 +29,6 @@ miner_required = codes "me" ∷ codes "share" ∷ codes "tape" ∷ codes "port" 
 
 unfoldable pub trio_required : List Text
 trio_required = codes "input" ∷ codes "tape" ∷ codes "to" ∷ codes "port" ∷ []
-
-unfoldable pub trio_options : List Text
-trio_options = codes "budget" ∷ codes "client" ∷ []
 
 -- the commands that take inputs
 unfoldable pub input_app : App

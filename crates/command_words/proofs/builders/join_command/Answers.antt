@@ -7,5 +7,4 @@ pub returns : goal.returns
 unfolding join_app command_app with_options
 returns c =
     let one = c.with_word-command.ensures (new_app (codes "join")) (record { shape = c.new.ensures.app; local = c.new.ensures.local }) in
-    let three = c.with_word-command-3.ensures _ (c.with_word-command-2.ensures _ one) in
-    rw c.as_slice.ensures at (c.with_options.ensures _ three)
+    c.with_word.ensures _ (c.with_word-command-2.ensures _ one)
