@@ -4,7 +4,6 @@ use Rattle.std.specs.Prelude.{slice_get, nat_le, IfOk, Result}
 use Rattle.language_model.specs.Effects.{Words, World, Stage, RunStop, Run}
 use Rattle.language_model.specs.Reports.{Report, beginning, dealing, not_dealt}
 use Rattle.language_model.specs.Tapes.{lacks_words}
-use Rattle.language_model.proofs.Enough.{lacks}
 use Rattle.bytecode.specs.Raw.{RawCode}
 use Rattle.verified_code.specs.Settled.{settled}
 use Rattle.verified_code.specs.Steps.{Function}
@@ -12,7 +11,7 @@ use Rattle.code_model.specs.Machine.{Machine, step, exec, further, start}
 use Rattle.code_model.specs.Meaning.{fuel, stopped_or, report_at, mean_in}
 use Rattle.first_version.specs.Meaning.{step_v1, exec_v1, dealing_v1, not_dealt_v1, report_v1, mean_v1_in}
 use Rattle.first_version.specs.Laws.{MeanAlike, KeepsMeaning}
-use Rattle.first_version.proofs.Beside.{Same, Unless}
+use Rattle.first_version.proofs.Beside.{Unless}
 use Rattle.first_version.proofs.Steps.{step_beside}
 
 apart : {P : Type 0} → true ≡ false → P
