@@ -15,8 +15,8 @@ use program_trees::TypedExpression;
 use std::alloc::AllocError;
 
 /// Puts the code of an expression after a body, with registers from a row on; the register where its value stands. That is one of this
-/// row, but a variable's is its slot, and it has no code. An error comes where memory runs short. The time grows with the size of the
-/// expression, here and in what follows.
+/// row, but a variable's is its slot and a zero's one that nothing writes, and these have no code. An error comes where memory runs
+/// short. The time grows with the size of the expression, here and in what follows.
 pub fn expression(
     body: &mut Body<'_>,
     around: &Around<'_>,

@@ -1,6 +1,7 @@
 // The code of expressions. They call one another, so they stand together. A node has the row where its code begins for its value and for
-// its first operand, and the rows after it for the others, but a variable's value stands in its slot. Kinds are read off the notes of the
-// tree, of which each function takes those of its own expressions: the time grows with the size of a tree.
+// its first operand, and the rows after it for the others, but a variable's value stands in its slot, and a zero's where nothing writes.
+// Kinds are read off the notes of the tree, of which each function takes those of its own expressions: the time grows with the size of a
+// tree.
 ghost use Rattle.std.specs.Prelude.{◌≡◌, ◌∷◌, [], IfOk, OnOk, false, length, map};
 ghost use Rattle.program_trees.specs.TypedTree.{binary_node, call_node, cat_node, cut_node, element_node, lookup_node, typed_tree, typed_trees_of};
 ghost use Rattle.reached_instances.specs.Views.{setting};
@@ -31,7 +32,8 @@ use reached_instances::{BoundDomain, Setting, next_is_private};
 use std::alloc::AllocError;
 
 /// Puts the code of an expression, of which these are the notes, after a body, with registers from a row on; the register where its value
-/// stands. That is one of this row, but a variable's is its slot, and it has no code. An error comes where memory runs short.
+/// stands. That is one of this row, but a variable's is its slot and a zero's one that nothing writes, and these have no code. An error
+/// comes where memory runs short.
 #[cycle(expressions)]
 pub fn expression(
     body: &mut Body<'_>,
