@@ -252,8 +252,8 @@ class Expressions:
         return Text(f"bitExtract ( {self.words(Type(kind.domain, NUMBER, int(self.often(0.4))), min(depth, 1))} )")
 
     def looked_up(self, kind: Type, depth: int, usual: bool) -> Text:
-        """Elements of an array at places, of which one is private at least."""
-        if not self.plan.knows("lookup"):
+        """Elements of an array at places, of which one is private at least, whatever a domain variable stands for."""
+        if not self.plan.knows("lookup") or kind.domain not in (*self.plan.domains, *self.head.constrained):
             raise NoWay
         array, index = self.source.choice(((kind.domain, kind.domain), (kind.domain, PUBLIC), (PUBLIC, kind.domain)))
         elements = self.words(Type(array, kind.data, 1), min(depth, 1), self.often(0.5))

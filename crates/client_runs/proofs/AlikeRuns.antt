@@ -1,6 +1,8 @@
 -- What two runs hand over, and that inputs which are alike to the client have twins.
 use Rattle.std.proofs.Common.{◌≡◌, ℕ, ◌+◌, ◌<◌, ◌≤◌, List, [], ◌∷◌, ◌++◌, length, map, take, get_or, refl, sym, ◌∙◌, ap, subst, inl, inr, arith, ◌⊎◌, All}
 use Rattle.std.proofs.Common.{append_assoc, length-append}
+use Rattle.std.specs.Prelude.{IfErr, Result, Ok, Err}
+use Rattle.std.specs.Result.{IsErrAnd}
 use Rattle.std.proofs.lemmas.List.{length-map, map-append, take_more}
 use Rattle.proto_core.proofs.Beginnings.{append-none}
 use Rattle.sc_text.specs.declared.elements.Element.{Element}
@@ -185,3 +187,8 @@ module _ (p : TypedProgramTree) (lengths : List ℕ) (budget : ℕ) (first secon
         published = on-both (λ (xs ys : List ℕ). WordsDiffer xs ys place x y) _ _ _ _ published-one published-other h.published;
       }
   reports-refuse error.Memory h = tt
+
+-- an error that is handed on
+pub err-is : {X E : Type 0} (P : E → Type 0) (r : Result X E) (e : E) → IsErrAnd r (λ given. given ≡ e) → P e → IfErr r P
+err-is P (Ok x) e is h = absurd is
+err-is P (Err given) e is h = subst P (sym is) h

@@ -12,7 +12,8 @@ use Rattle.program_views.specs.Views.{lengths_of}
 use Rattle.tape_twin.proofs.Runs.{runs-on-same}
 use Rattle.tape_twin.proofs.Whole.{none-says}
 use Rattle.client_view.specs.TapeMaps.{to_seen, from_seen}
-use Rattle.client_runs.proofs.AlikeRuns.{kept-so, reports-agree, twin-is}
+use Rattle.client_runs.specs.Alike.{RefusesClientTwin}
+use Rattle.client_runs.proofs.AlikeRuns.{err-is, kept-so, reports-agree, reports-refuse, twin-is}
 use Rattle.client_runs.proofs.twinning.twin.Goals as goal
 
 pub returns-clause-alike : goal.returns-clause-alike
@@ -23,6 +24,21 @@ returns-clause-alike c =
     ∙ ap part_of c.entries-2.ensures in
     reports-agree (typed_program_tree c.args.program.now) (lengths_of c.args.tapes.now) c.args.budget c.args.inputs.first.now c.args.inputs.second.now
     c.in_ok-one.one c.in_ok-other.other c.in_ok-one.ensures.report c.in_ok-other.ensures.report known c.in_ok-run_difference.ensures.same
+
+pub returns-in_err-run_difference-clause-differ : goal.returns-in_err-run_difference-clause-differ
+returns-in_err-run_difference-clause-differ c =
+    let p = typed_program_tree c.args.program.now in
+    let first = c.args.inputs.first.now in
+    let second = c.args.inputs.second.now in
+    let ls = lengths_of c.args.tapes.now in
+    let known : part_of first ≡ part_of second =
+    sym (ap part_of c.entries.ensures)
+    ∙ none-says (part_of c.entries.result.now ≡ part_of c.entries-2.result.now) c.in_ok-name.field-0 c.in-None.is c.in_ok-name.ensures.none
+    ∙ ap part_of c.entries-2.ensures in
+    err-is (RefusesClientTwin p first second ls c.args.budget) c.from_residual-in_err-run_difference.result c.in_err-run_difference.field-0.0
+    c.from_residual-in_err-run_difference.ensures.1
+    (reports-refuse p ls c.args.budget first second c.in_ok-one.one c.in_ok-other.other c.in_ok-one.ensures.report c.in_ok-other.ensures.report known
+    c.in_err-run_difference.field-0.0 c.in_err-run_difference.ensures.differ)
 
 pub from_client-requires-clause-can : goal.from_client-requires-clause-can
 from_client-requires-clause-can c =
