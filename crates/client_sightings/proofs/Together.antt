@@ -63,7 +63,7 @@ unfolding first_elements
 words_added text form words s range are = ap first_elements (told_together_are_the_events _ _ (handed text form words s range are none))
 
 -- what miners that tell these events hand over
-abbrev given_by_all : (Number → List Notice) → List Given
+abbrev pub given_by_all : (Number → List Notice) → List Given
 given_by_all tell = beside (handed_in (tell One)) (handed_in (tell Two)) (handed_in (tell Three))
 
 tell_sightings : {events : List Event} {tell : Number → List Notice} → Tells events tell → seen_together tell ≡ sightings events (given_by_all tell)
@@ -82,6 +82,21 @@ all_kept own [] next = refl
 all_kept own (Result ring u ∷ gates) next = ap (λ (vs : Values). value own next ∷ vs) (all_kept own gates (next + 1))
 all_kept own (gate ∷ gates) next = all_kept own gates (next + made_by gate)
 
+-- what miners hand over that give their own shares of what the gates make for that are the shares that the client's view has
+pub given_is_handed_over :
+    (entries : List Entry) (t : FourTapes) (r : Report) (tell : Number → List Notice)
+    → ((i : Number) → handed_in (tell i) ≡ handing.kept_from 0 (shares (dealt_of entries t.dealer) r (miners_of t) i) r.gates)
+    → given_by_all tell ≡ given_in entries r.gates t
+given_is_handed_over entries t r tell gave =
+    let own : Number → Values = shares (dealt_of entries t.dealer) r (miners_of t) in
+    let kept : (i : Number) → handed_in (tell i) ≡ kept_from all_of 0 (own i) r.gates = λ i. gave i ∙ all_kept (own i) r.gates 0 in
+    ap (λ (vs : Values). beside vs (handed_in (tell Two)) (handed_in (tell Three))) (kept One)
+    ∙ ap (λ (vs : Values). beside (kept_from all_of 0 (own One) r.gates) vs (handed_in (tell Three))) (kept Two)
+    ∙ ap (λ (vs : Values). beside (kept_from all_of 0 (own One) r.gates) (kept_from all_of 0 (own Two) r.gates) vs) (kept Three)
+    ∙ given-kept all_of own r.gates 0
+    ∙ ap (λ (ds : List ℕ). given_from all_of 0 (run_values (run_gates (dealt_to entries t.dealer) ds [] r.gates) (λ i. []) (miners_of t)) r.gates)
+    (sizes_values entries)
+
 -- ---- OF A PROGRAM
 
 module _ (p : TypedProgramTree) (entries : List Entry) (t : FourTapes) (budget : ℕ) (runs : RunsOnShares p entries t budget) where
@@ -97,17 +112,8 @@ module _ (p : TypedProgramTree) (entries : List Entry) (t : FourTapes) (budget :
   abbrev told : Number → List Notice
   told i = told_in (run_of nodes full i).acts
 
-  -- what is handed over are the shares that the client's view has
   same_given : given_by_all told ≡ given_in entries r.gates t
-  same_given =
-      let own : Number → Values = shares (dealt_of entries t.dealer) r (miners_of t) in
-      let kept : (i : Number) → handed_in (told i) ≡ kept_from all_of 0 (own i) r.gates = λ i. runs.run.gave i ∙ all_kept (own i) r.gates 0 in
-      ap (λ (vs : Values). beside vs (handed_in (told Two)) (handed_in (told Three))) (kept One)
-      ∙ ap (λ (vs : Values). beside (kept_from all_of 0 (own One) r.gates) vs (handed_in (told Three))) (kept Two)
-      ∙ ap (λ (vs : Values). beside (kept_from all_of 0 (own One) r.gates) (kept_from all_of 0 (own Two) r.gates) vs) (kept Three)
-      ∙ given-kept all_of own r.gates 0
-      ∙ ap (λ (ds : List ℕ). given_from all_of 0 (run_values (run_gates (dealt_to entries t.dealer) ds [] r.gates) (λ i. []) (miners_of t)) r.gates)
-      (sizes_values entries)
+  same_given = given_is_handed_over entries t r told (λ i. runs.run.gave i)
 
   -- after a complete order all has come
   same_told : (order : List Link) → walked nodes 0 nothing order ≡ Accepted → (i : Number) → told_after nodes order i ≡ told i

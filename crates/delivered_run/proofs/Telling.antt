@@ -31,7 +31,7 @@ behind_drop [] (suc place) = refl
 behind_drop (n ∷ ns) zero = refl
 behind_drop (n ∷ ns) (suc place) = behind_drop ns place
 
-next_behind : (ns : List strand.Notice) (place : ℕ) → behind_first (drop place ns) ≡ drop (place + 1) ns
+pub next_behind : (ns : List strand.Notice) (place : ℕ) → behind_first (drop place ns) ≡ drop (place + 1) ns
 next_behind ns place = behind_drop ns place ∙ ap (λ k. drop k ns) (sym (add-one place))
 
 -- what is told after so many notices is one event, and what is told after it

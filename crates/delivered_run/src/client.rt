@@ -82,7 +82,7 @@ fn words_of(notice: &Notice) -> &[u64]
 
 /// The words of the notice at this place; none where there is none.
 #[tactic(auto, using(crate::proofs::Telling::words_there, crate::proofs::Telling::none_there))]
-fn words_at(notices: &[Notice], place: usize) -> &[u64]
+pub fn words_at(notices: &[Notice], place: usize) -> &[u64]
     ensures { result.now ≡ first_words (drop place (map notice_seen notices.now)) }
 {
     if place < notices.len() {

@@ -9,6 +9,7 @@ mod laws;
 mod net;
 mod running;
 
+pub use client::words_at;
 pub use counted_net::{Delivery, DeliveryErr};
 pub use course::{Course, run_delivered, run_in_net};
 pub use errors::CourseErr;

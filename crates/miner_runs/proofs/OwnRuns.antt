@@ -2,7 +2,7 @@
 use Rattle.std.proofs.Common.{◌≡◌, ℕ, List, [], length, refl, sym, ◌∙◌, ap, subst}
 use Rattle.proto_core.specs.declared.party.Number.{Number}
 use Rattle.proto_core.specs.declared.link.Link.{Link}
-use Rattle.proto_core.specs.Strand.{Mail, Strand, run, opened_in, told_in}
+use Rattle.proto_core.specs.Strand.{Act, Mail, Strand, run, opened_in, told_in}
 use Rattle.proto_core.specs.Net.{nothing, into, run_of, opened_by, MailBegins, Finishes}
 use Rattle.proto_core.proofs.Beginnings.{begins-self}
 use Rattle.protocol_model.specs.Along.{MovesAlong}
@@ -32,6 +32,7 @@ use Rattle.code_places.specs.Laws.{in_the_clear}
 use Rattle.code_places.specs.Twins.{GoAlike, EndAlike}
 use Rattle.code_places.proofs.Turns.{code_has_twins, begins_alike}
 use Rattle.code_runs.specs.Telling.{Tells}
+use Rattle.code_runs.specs.Handing.{handed_in, kept_from}
 use Rattle.code_runs.specs.Runs.{next, start, miners, gates_to_run, messages, shares, scripts, RunAsReported}
 use Rattle.code_runs.specs.Laws.{MayRunShared}
 use Rattle.code_runs.proofs.Miners as driven
@@ -140,6 +141,10 @@ module _ (o : Offered) (d : Dealt) (c : List Function) (budget : ℕ) (tapes : T
   tell_the_events : Tells (report).events (λ i. told_in (run_of own (messages d report tapes) i).acts)
   tell_the_events = retold (λ i. ap told_in (sym (same_acts i))) (reported).told
 
+  give_their_shares :
+      (i : Number) → handed_in (told_in (run_of own (messages d report tapes) i).acts) ≡ kept_from 0 (shares d report tapes i) (report).gates
+  give_their_shares i = ap (λ (acts : List Act). handed_in (told_in acts)) (same_acts i) ∙ (reported).gave i
+
   orders_are_counted :
       (order : List Link) (entry : ℕ) (mail : Mail) → MailBegins mail (messages d report tapes)
       → walked own entry mail order ≡ counted (scripts d report) entry (counts mail) order
@@ -157,6 +162,7 @@ module _ (o : Offered) (d : Dealt) (c : List Function) (budget : ℕ) (tapes : T
         finishes = finish;
         opened = open_the_words;
         told = tell_the_events;
+        gave = give_their_shares;
         counted_from = orders_are_counted;
         in_order = deliveries_are_counted Default ∙ made-order_accepted gates none tapes sound ready (λ k. 0);
         shuffled = λ words. deliveries_are_counted (Shuffled words) ∙ made-order_accepted gates none tapes sound ready words;

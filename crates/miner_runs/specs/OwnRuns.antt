@@ -18,6 +18,7 @@ use Rattle.code_places.specs.Dealt.{Dealt}
 use Rattle.driven_nodes.specs.Steps.{Stopped}
 use Rattle.code_places.specs.Places.{Place, first_place}
 use Rattle.code_runs.specs.Telling.{Tells}
+use Rattle.code_runs.specs.Handing.{handed_in, kept_from}
 use Rattle.code_runs.specs.Runs.{messages, shares, scripts, TurnsComeTo}
 use Rattle.miner_core.specs.OwnCode.{Ended, Reached, own_code}
 
@@ -42,6 +43,10 @@ module _ (o : Offered) (d : Dealt) (c : List Function) (budget : ℕ) (tapes : T
     pub finishes : Finishes (own_nodes o d c budget tapes) (messages d r tapes) (own_end d tapes r turns.last)
     pub opened : (i : Number) → opened_by (own_nodes o d c budget tapes) (messages d r tapes) i ≡ learned_of r.events
     pub told : Tells r.events (λ i. told_in (run_of (own_nodes o d c budget tapes) (messages d r tapes) i).acts)
+    -- what each hands over are its own shares of the values that the gates make for that
+    pub gave :
+        (i : Number)
+        → handed_in (told_in (run_of (own_nodes o d c budget tapes) (messages d r tapes) i).acts) ≡ kept_from 0 (shares d r tapes i) r.gates
     pub counted_from :
         (order : List Link) (entry : ℕ) (mail : Mail) → MailBegins mail (messages d r tapes)
         → walked (own_nodes o d c budget tapes) entry mail order ≡ counted (scripts d r) entry (counts mail) order

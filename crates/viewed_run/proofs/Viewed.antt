@@ -1,5 +1,5 @@
--- A run, and what each miner saw of it.
-use Rattle.std.proofs.Common.{◌≡◌, ℕ, true, false, List, Option, Some, None, Err, refl, sym, ◌∙◌, ap, subst}
+-- What each miner saw of a run.
+use Rattle.std.proofs.Common.{◌≡◌, ℕ, true, false, List, Option, Some, None, refl, sym, ◌∙◌, ap, subst}
 use Rattle.proto_core.specs.declared.party.Number.{Number}
 use Rattle.proto_core.specs.declared.party.Number.TheVariants.{One, Two, Three}
 use Rattle.protocol_model.specs.Network.{Delivery}
@@ -16,18 +16,14 @@ use Rattle.miner_core.specs.Streams.{has_lost}
 use Rattle.link_schedule.specs.Streams.{StreamNet, MayHave, with_tapes}
 use Rattle.delivered_run.specs.declared.course.Course.TheVariants as kept
 use Rattle.delivered_run.specs.declared.running.NetRun.{NetRun}
-use Rattle.delivered_run.specs.States.{CourseState, IsCourseIn, run_told}
+use Rattle.delivered_run.specs.States.{CourseState, IsCourseIn}
 use Rattle.link_schedule.specs.Miners.{IsNetOf}
 use Rattle.delivered_run.specs.States as course
-use Rattle.delivered_run.specs.declared.errors.CourseErr.{CourseErr}
-use Rattle.delivered_run.specs.declared.errors.CourseErr.TheVariants as fault
-use Rattle.delivered_run.specs.Courses.{HasCourse, IsCourseOf, file_of}
-use Rattle.delivered_run.proofs.Going.{run_so}
-use Rattle.viewed_run.specs.declared.seen.SeenRun.{SeenRun}
+use Rattle.delivered_run.specs.Courses.{HasCourse, file_of}
 use Rattle.viewed_run.specs.declared.seen.Views.{Views}
 use Rattle.view_text.specs.View.{View}
 use Rattle.viewed_run.specs.Seats.{SeesIn}
-use Rattle.viewed_run.specs.Seen.{HasSeenRun, IsSeenRunOf, SeeIn, SeeOf, view_in}
+use Rattle.viewed_run.specs.Seen.{SeeIn, SeeOf, view_in}
 use Rattle.viewed_run.proofs.Ended.{is_its_view}
 use Rattle.viewed_run.proofs.Undealt.{sees_the_end}
 
@@ -56,27 +52,15 @@ see_dealt files end views see (course.Undealt run) is = absurd is
 
 -- ---- of a program
 
-not_lost : (lost : Option Lost) → has_lost lost ≡ false → lost ≡ None
+pub not_lost : (lost : Option Lost) → has_lost lost ≡ false → lost ≡ None
 not_lost None h = refl
 not_lost (Some why) h = let wrong : true ≡ false = h in absurd cc
 
--- an error is the same, whatever was to come
-pub refused_so : (p : TypedProgramTree) (entries : List Entry) (t : FourTapes) (budget : ℕ) (given : Delivery) (e : CourseErr)
-    → IsCourseOf p entries t budget given (Err e) → IsSeenRunOf p entries t budget given (Err e)
-refused_so p entries t budget given (fault.Delivery e) h = h
-refused_so p entries t budget given fault.TapeFault h = tt
-
 module _ (p : TypedProgramTree) (entries : List Entry) (t : FourTapes) (budget : ℕ) (given : Delivery) (a : IsAccepted p) where
-  views_so :
+  pub views_so :
       (went : CourseState) → HasCourse p entries t budget given went → (views : Views) → SeeOf went views
       → (i : Number) → view_of i p entries t budget given ≡ Some (view_in views i)
   views_so (course.Dealt files end) h views see i =
       is_its_view p entries t budget given a files end h i (view_in views i)
       (see (not_lost end.net.lost h.ran.net.going) (miners_of t) h.ran.may i)
   views_so (course.Undealt run) h views see i = sees_the_end p entries t budget given run h i ∙ ap Some (sym (see i))
-
-  pub seen_so :
-      (went : CourseState) → HasCourse p entries t budget given went → (seen : SeenRun) → seen.run ≡ run_told went → SeeOf went seen.views
-      → HasSeenRun p entries t budget given seen
-  seen_so went h seen run see =
-      record { run = run_so p entries t budget given went h seen.run run; views = views_so went h seen.views see }

@@ -1,5 +1,5 @@
-//! The run of a program by three miners, each by itself, whose messages are delivered in any order, and what each of them saw of it: its
-//! shares of the private inputs, the words that it drew, the messages that came, in order of arrival, what was opened, and how it ended.
+//! What each of three miners saw of the run of a program, whose messages are delivered in any order: its shares of the private inputs, the words
+//! that it drew, the messages that came, in order of arrival, what was opened, and how it ended.
 #![tactic(auto)]
 
 mod code_laws;
@@ -11,4 +11,4 @@ mod seen;
 pub use code_laws::code_views_are_views;
 pub use delivered_run::{CourseErr, DeliveredRun, Delivery, DeliveryErr, run_delivered};
 pub use laws::nets_agree;
-pub use seen::{SeenRun, Views, run_seen};
+pub use seen::{Views, all_views};
