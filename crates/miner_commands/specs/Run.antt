@@ -1,6 +1,6 @@
 -- The command `run`: three miners run the program on shares, their messages delivered in an order that is asked for; what they open and
 -- publish is what evaluation in the clear does with tapes of these lengths.
-use Rattle.std.specs.Prelude.{◌≡◌, ℕ, List, [], ◌∷◌, ◌++◌, Option, Some, None, Result, Ok, Err}
+use Rattle.std.specs.Prelude.{◌≡◌, ℕ, List, [], ◌∷◌, ◌++◌, Option, Some, None, is_some, Result, Ok, Err}
 use Rattle.outside.specs.Files.{Contents}
 use Rattle.command_frame.specs.Answer.{Answer, Effect, Written, effect_of, ◌>>=◌}
 use Rattle.command_words.specs.Ask.{RunAsk}
@@ -20,6 +20,10 @@ use Rattle.counted_net.specs.declared.delivery.DeliveryErr.{DeliveryErr}
 use Rattle.viewed_run.specs.CourseErr.{CourseErr}
 use Rattle.viewed_run.specs.Views.{view_of}
 use Rattle.view_text.specs.View.{View}
+use Rattle.client_text.specs.Text.{client_bytes}
+use Rattle.client_view.specs.Views.{ClientView, client_view_of}
+use Rattle.watched_run.specs.declared.looks.Looks.{Looks}
+use Rattle.viewed_run.specs.declared.seen.Views.{Views}
 use Rattle.command_frame.specs.declared.plan.Plan.{Plan}
 use Rattle.viewed_run.specs.DeliveredRun.{DeliveredRun}
 use Rattle.program_commands.specs.Ends.{ending_status}
@@ -28,7 +32,7 @@ use Rattle.program_commands.specs.Judging.{Finding}
 use Rattle.program_commands.specs.Programs.{program_at}
 use Rattle.program_commands.specs.Reading.{delivery_at, inputs_at, order_paths, source_paths, tapes_at}
 use Rattle.program_commands.specs.Schedules.{by_net}
-use Rattle.miner_commands.specs.Views.{view_files, view_paths}
+use Rattle.miner_commands.specs.Views.{seen_in, view_files, view_paths}
 
 -- ---- the run
 
@@ -37,16 +41,25 @@ abbrev pub recorded_links : Option (List ℕ) → List Link → List Written
 recorded_links None links = []
 recorded_links (Some path) links = record { path = path; bytes = schedule_bytes links } ∷ []
 
--- the views come before the links
-abbrev pub run_effect : RunAsk → (Number → Option View) → Report → List Link → Effect
-run_effect ask views report links =
-    record { writes = view_files ask.views views ++ recorded_links ask.recorded links; text = eval_text report; status = end_status report }
+-- the client's view, where it is asked for; a run that ended has one
+abbrev pub client_files : Option (List ℕ) → Option ClientView → List Written
+client_files None view = []
+client_files (Some path) None = []
+client_files (Some path) (Some view) = record { path = path; bytes = client_bytes view } ∷ []
 
--- the same of a run in memory, with the files of its views
-abbrev pub ran_effect : RunAsk → (files : List Written) → DeliveredRun → Effect
-ran_effect ask files run =
+-- the miners' views come before the links, and these before the client's view
+abbrev pub run_writes : RunAsk → (Number → Option View) → List Link → Option ClientView → List Written
+run_writes ask views links client = (view_files ask.views views ++ recorded_links ask.recorded links) ++ client_files ask.client client
+
+abbrev pub run_effect : RunAsk → (Number → Option View) → Option ClientView → Report → List Link → Effect
+run_effect ask views client report links =
+    record { writes = run_writes ask views links client; text = eval_text report; status = end_status report }
+
+-- the same of a run in memory, with the views that were made
+abbrev pub ran_effect : RunAsk → Option Views → Option ClientView → DeliveredRun → Effect
+ran_effect ask views client run =
     record {
-      writes = files ++ recorded_links ask.recorded run.delivered.items;
+      writes = run_writes ask (seen_in views) run.delivered.items client;
       text = run_text run.report.events.items run.report.end;
       status = ending_status run.report.end.how;
     }
@@ -54,8 +67,12 @@ ran_effect ask files run =
 -- what is written and printed of a run, whose views, text and links are those that the definitions say
 abbrev pub run_told : RunAsk → TypedProgramTree → List Entry → FourTapes → Delivery → Effect
 run_told ask program entries tapes delivery =
-    run_effect ask (λ i. view_of i program entries tapes ask.budget delivery) (eval_with program entries tapes ask.budget)
-    (delivered_of program entries tapes ask.budget delivery)
+    run_effect ask (λ i. view_of i program entries tapes ask.budget delivery) (client_view_of program entries tapes ask.budget)
+    (eval_with program entries tapes ask.budget) (delivered_of program entries tapes ask.budget delivery)
+
+-- those look whose views are asked for
+abbrev pub looks_of : RunAsk → Looks
+looks_of ask = record { miners = is_some ask.views; client = is_some ask.client }
 
 -- so a run with tapes in memory comes out, or its schedule is refused
 abbrev pub IsHeldRun : {A : Type 0} → TypedProgramTree → List Entry → FourTapes → (budget : ℕ) → Delivery → (A → Type 0) → Result A DeliveryErr → Type 0
@@ -101,4 +118,4 @@ path_in None = []
 path_in (Some path) = path ∷ []
 
 unfoldable pub ran_paths : RunAsk → List (List ℕ)
-ran_paths ask = view_paths ask.views ++ path_in ask.recorded
+ran_paths ask = (view_paths ask.views ++ path_in ask.recorded) ++ path_in ask.client

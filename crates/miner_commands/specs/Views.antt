@@ -6,6 +6,8 @@ use Rattle.proto_core.specs.declared.party.Number.TheVariants.{One, Two, Three}
 use Rattle.view_text.specs.Text.{view_bytes}
 use Rattle.view_text.specs.View.{View}
 use Rattle.program_commands.specs.Paths.{file_of, path_to}
+use Rattle.viewed_run.specs.Seen.{view_in}
+use Rattle.viewed_run.specs.declared.seen.Views.{Views}
 
 -- a run that ended has a view
 abbrev pub view_file : (prefix suffix : List ℕ) → Option View → List Written
@@ -17,6 +19,11 @@ abbrev pub view_files : (prefix : Option (List ℕ)) → (Number → Option View
 view_files None views = []
 view_files (Some prefix) views =
     view_file prefix (codes ".1") (views One) ++ (view_file prefix (codes ".2") (views Two) ++ view_file prefix (codes ".3") (views Three))
+
+-- those of miners that were seen
+abbrev pub seen_in : Option Views → Number → Option View
+seen_in None i = None
+seen_in (Some views) i = Some (view_in views i)
 
 -- their paths
 abbrev pub view_paths : (prefix : Option (List ℕ)) → List (List ℕ)

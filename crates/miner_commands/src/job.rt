@@ -10,9 +10,10 @@ ghost use Rattle.viewed_run.specs.Deliveries.{delivery_seen};
 ghost use Rattle.program_run.specs.Accepted.{IsAccepted};
 ghost use Rattle.program_trees.specs.TypedPrograms.{typed_program_tree};
 ghost use Rattle.value_file.specs.Input.{AreInputs};
-ghost use Rattle.miner_commands.specs.Run.{ran_effect, ran_paths, recorded_links, IsRanOrNot};
+ghost use Rattle.miner_commands.specs.Run.{client_files, looks_of, ran_effect, ran_paths, recorded_links, IsRanOrNot};
 
-use crate::views::view_writes;
+use crate::views::views_written;
+use client_text::ClientView;
 use command_frame::{Content, Plan, PlannedWrite};
 use command_words::RunWords;
 use outside::TapeSource;
@@ -22,7 +23,8 @@ use proto_core::Link;
 use sc_text::run_text;
 use std::alloc::{AllocError, Global};
 use value_file::Inputs;
-use viewed_run::{CourseErr, DeliveredRun, Delivery, run_delivered, run_seen};
+use viewed_run::{CourseErr, DeliveredRun, Delivery, Views};
+use watched_run::{Looks, run_watched};
 
 // Adds the links that were delivered to what is to be written, where they are asked for.
 fn record_links(
@@ -41,18 +43,40 @@ fn record_links(
     Ok(())
 }
 
-// What is to be written and printed of a run: these files, the links that were delivered, where they are asked for, and its text.
+// Adds the client's view to what is to be written, where it is asked for and there.
+fn add_client(
+    alloc: Global,
+    writes: &mut Vec<PlannedWrite>,
+    path: &Option<String>,
+    view: &Option<ClientView>,
+) -> Result<(), AllocError>
+    ensures { OnOk result (writes_of writes.new.items ≡ writes_of writes.old.items ++ client_files (option_map string_bytes path.now) view.now) }
+{
+    if let Some(path) = path {
+        if let Some(view) = view {
+            let path = path.clone()?;
+            let content = Content::Bytes(client_text::write(alloc, view)?);
+            writes.push(PlannedWrite { path, content })?;
+        }
+    }
+    Ok(())
+}
+
+// What is to be written and printed of a run: the miners' views, the links that were delivered, and the client's view, where they are asked for, and
+// its text.
 fn ran_plan(
     alloc: Global,
-    run: &DeliveredRun,
-    files: Vec<PlannedWrite>,
     words: &RunWords,
+    run: &DeliveredRun,
+    views: Option<Views>,
+    client: &Option<ClientView>,
 ) -> Result<Plan, AllocError>
-    ensures { IfOk result (λ plan. effect_of plan ≡ ran_effect (run_ask words.now) (writes_of files.items) run.now) }
+    ensures { IfOk result (λ plan. effect_of plan ≡ ran_effect (run_ask words.now) views client.now run.now) }
 {
     let text = run_text(alloc, &run.report.events, &run.report.end)?;
-    let mut writes = files;
+    let mut writes = views_written(alloc, &words.views, views)?;
     record_links(alloc, &mut writes, &run.delivered, &words.recorded)?;
+    add_client(alloc, &mut writes, &words.client, client)?;
     Ok(Plan {
         writes,
         text,
@@ -68,7 +92,17 @@ pub(crate) struct Job<'a> {
     pub delivery: &'a Delivery,
 }
 
-// The run, and what is to be written and printed of it; the miners' views are made where they are asked for.
+// Who looks at a run: those whose views are asked for.
+fn looks(words: &RunWords) -> Looks
+    ensures { result ≡ looks_of (run_ask words.now) }
+{
+    Looks {
+        miners: words.views.is_some(),
+        client: words.client.is_some(),
+    }
+}
+
+// The run, and what is to be written and printed of it; views are made where they are asked for.
 pub(crate) fn run_job<T: TapeSource>(
     alloc: Global,
     job: &Job<'_>,
@@ -82,18 +116,8 @@ pub(crate) fn run_job<T: TapeSource>(
         (delivery_seen job.now.delivery.now) result) }
     ensures names { IfOk result (PlanNames (ran_paths (run_ask words.now))) }
 {
-    let (program, inputs) = (job.program, job.inputs);
-    let budget = words.budget;
-    match &words.views {
-        Some(prefix) => {
-            let seen = run_seen(alloc, program, inputs, tapes, budget, job.delivery)?;
-            let (run, views) = seen.into_parts();
-            let files = view_writes(alloc, prefix, views)?;
-            Ok(ran_plan(alloc, &run, files, words)?)
-        }
-        None => {
-            let run = run_delivered(alloc, program, inputs, tapes, budget, job.delivery)?;
-            Ok(ran_plan(alloc, &run, Vec::new(alloc), words)?)
-        }
-    }
+    let (program, inputs, looks) = (job.program, job.inputs, looks(words));
+    let ran = run_watched(alloc, program, inputs, tapes, words.budget, job.delivery, looks)?;
+    let (run, views, client) = ran.into_parts();
+    Ok(ran_plan(alloc, words, &run, views, &client)?)
 }

@@ -1,9 +1,9 @@
 // The files of the miners' views.
-ghost use Rattle.std.specs.Prelude.{◌≡◌, ◌∷◌, ◌++◌, [], Some, IfOk, OnOk};
+ghost use Rattle.std.specs.Prelude.{◌≡◌, ◌∷◌, ◌++◌, [], Some, option_map, string_bytes, IfOk, OnOk};
 ghost use Rattle.command_frame.specs.Answer.{writes_of};
 ghost use Rattle.view_text.specs.Text.{view_bytes};
 ghost use Rattle.program_commands.specs.Paths.{file_of};
-ghost use Rattle.miner_commands.specs.Views.{view_files};
+ghost use Rattle.miner_commands.specs.Views.{seen_in, view_files};
 ghost use Rattle.viewed_run.specs.Seen.{view_in};
 
 use command_frame::{Content, PlannedWrite};
@@ -25,8 +25,8 @@ fn add_view(
     add_write(alloc, writes, prefix, suffix, Content::View(view))
 }
 
-/// The files of the views of miners 1, 2 and 3.
-pub fn view_writes(
+// The files of the views of miners 1, 2 and 3.
+fn view_writes(
     alloc: Global,
     prefix: &str,
     views: Views,
@@ -39,4 +39,21 @@ pub fn view_writes(
     add_view(alloc, &mut writes, prefix, ".2", two)?;
     add_view(alloc, &mut writes, prefix, ".3", three)?;
     Ok(writes)
+}
+
+/// The files of the views of miners 1, 2 and 3, where they are asked for and there.
+pub fn views_written(
+    alloc: Global,
+    prefix: &Option<String>,
+    views: Option<Views>,
+) -> Result<Vec<PlannedWrite>, AllocError>
+    ensures { IfOk result (λ writes. writes_of writes.items ≡ view_files (option_map string_bytes prefix.now) (seen_in views)) }
+{
+    match prefix {
+        Some(prefix) => match views {
+            Some(views) => view_writes(alloc, prefix, views),
+            None => Ok(Vec::new(alloc)),
+        },
+        None => Ok(Vec::new(alloc)),
+    }
 }
