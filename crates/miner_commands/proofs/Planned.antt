@@ -1,5 +1,5 @@
 -- What is planned of a run is what the definitions say.
-use Rattle.std.proofs.Common.{◌≡◌, ℕ, List, ◌++◌, Option, Some, None, refl, sym, ◌∙◌, ap}
+use Rattle.std.proofs.Common.{◌≡◌, ℕ, List, [], ◌++◌, Option, Some, None, refl, sym, ◌∙◌, ap}
 use Rattle.std.specs.Prelude.{is_some}
 use Rattle.command_frame.specs.Answer.{Effect, Written, effect_of}
 use Rattle.command_frame.specs.declared.plan.Plan.{Plan}
@@ -28,7 +28,7 @@ use Rattle.program_commands.specs.Eval.{end_of, ending_of}
 use Rattle.client_view.specs.Views.{ClientView, client_view_of}
 use Rattle.watched_run.specs.Watched.{HasWatchedRun, IfAsked}
 use Rattle.watched_run.specs.declared.watching.WatchedRun.{WatchedRun}
-use Rattle.miner_commands.specs.Run.{client_files, looks_of, HasRan, ran_effect, recorded_links, run_effect, run_writes}
+use Rattle.miner_commands.specs.Run.{client_seen, looks_of, HasRan, ran_effect, recorded_links, run_effect, run_writes}
 use Rattle.miner_commands.specs.Views.{seen_in, view_files}
 
 -- ---- the run of a program that was read
@@ -65,9 +65,13 @@ files_so (Some prefix) wanted None h = absurd h
 
 client_so :
     (asked : Option (List ℕ)) (wanted : Option ClientView) (client : Option ClientView)
-    → IfAsked (is_some asked) (λ view. wanted ≡ Some view) client → client_files asked client ≡ client_files asked wanted
-client_so None wanted client h = refl
-client_so (Some path) wanted (Some view) h = ap (client_files (Some path)) (sym h)
+    → IfAsked (is_some asked) (λ view. wanted ≡ Some view) client → client_seen asked client ≡ client_seen asked wanted
+client_so None wanted client h = none_asked client ∙ sym (none_asked wanted)
+  where
+    none_asked : (view : Option ClientView) → client_seen None view ≡ []
+    none_asked None = refl
+    none_asked (Some view) = refl
+client_so (Some path) wanted (Some view) h = ap (client_seen (Some path)) (sym h)
 client_so (Some path) wanted None h = absurd h
 
 -- what is planned of a run is what the definitions say
@@ -95,7 +99,7 @@ module _ (ask : RunAsk) (p : TypedProgramTree) (entries : List Entry) (tapes : F
         ∙ ap (λ (x : DeliveredRun). ran_effect ask views client x) same_run
         ∙ ap (λ (x : Option Views). ran_effect ask x client ran.run) same_views
         ∙ ap (λ (x : Option ClientView). ran_effect ask ran.views x ran.run) same_client
-        ∙ ap (λ (files : List Written). of_writes ran.run ((files ++ recorded_links ask.recorded ran.run.delivered.items) ++ client_files ask.client ran.client))
+        ∙ ap (λ (files : List Written). of_writes ran.run ((files ++ recorded_links ask.recorded ran.run.delivered.items) ++ client_seen ask.client ran.client))
         (files_so ask.views views_wanted ran.views h.views)
         ∙ ap (λ (files : List Written). of_writes ran.run ((view_files ask.views views_wanted ++ recorded_links ask.recorded ran.run.delivered.items) ++ files))
         (client_so ask.client client_wanted ran.client h.client)

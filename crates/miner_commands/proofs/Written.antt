@@ -12,7 +12,8 @@ use Rattle.viewed_run.specs.declared.seen.Views.{Views}
 use Rattle.client_view.specs.Views.{ClientView}
 use Rattle.watched_run.specs.Watched.{HasAsked, IfAsked}
 use Rattle.watched_run.specs.declared.watching.WatchedRun.{WatchedRun}
-use Rattle.miner_commands.specs.Run.{client_files, looks_of, path_in, ran_effect, ran_paths, recorded_links}
+use Rattle.program_commands.specs.Client.{client_paths}
+use Rattle.miner_commands.specs.Run.{client_seen, looks_of, path_in, ran_effect, ran_paths, recorded_links}
 use Rattle.miner_commands.specs.Views.{seen_in, view_files, view_paths}
 
 path_of_links : (path : Option (List ℕ)) (links : List Link) → paths_in (recorded_links path links) ≡ path_in path
@@ -21,8 +22,9 @@ path_of_links (Some path) links = refl
 
 path_of_client :
     (path : Option (List ℕ)) (client : Option ClientView) → IfAsked (is_some path) (λ view. Unit {0}) client
-    → paths_in (client_files path client) ≡ path_in path
-path_of_client None client h = refl
+    → paths_in (client_seen path client) ≡ client_paths path
+path_of_client None (Some view) h = absurd h
+path_of_client None None h = refl
 path_of_client (Some path) (Some view) h = refl
 path_of_client (Some path) None h = absurd h
 
@@ -45,8 +47,8 @@ paths_written ask views client run ran same_views same_client asked =
     let links = recorded_links ask.recorded run.delivered.items in
     ap (λ (x : Option Views). paths_in (ran_effect ask x client run).writes) same_views
     ∙ ap (λ (x : Option ClientView). paths_in (ran_effect ask ran.views x run).writes) same_client
-    ∙ map-append path_of (files ++ links) (client_files ask.client ran.client)
-    ∙ ap (λ (paths : List (List ℕ)). paths ++ paths_in (client_files ask.client ran.client)) (
+    ∙ map-append path_of (files ++ links) (client_seen ask.client ran.client)
+    ∙ ap (λ (paths : List (List ℕ)). paths ++ paths_in (client_seen ask.client ran.client)) (
       map-append path_of files links
       ∙ ap (λ (paths : List (List ℕ)). paths ++ paths_in links) (paths_of_views ask.views ran.views asked.views)
       ∙ ap (λ (paths : List (List ℕ)). view_paths ask.views ++ paths) (path_of_links ask.recorded run.delivered.items)

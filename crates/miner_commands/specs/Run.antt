@@ -20,12 +20,12 @@ use Rattle.counted_net.specs.declared.delivery.DeliveryErr.{DeliveryErr}
 use Rattle.viewed_run.specs.CourseErr.{CourseErr}
 use Rattle.viewed_run.specs.Views.{view_of}
 use Rattle.view_text.specs.View.{View}
-use Rattle.client_text.specs.Text.{client_bytes}
 use Rattle.client_view.specs.Views.{ClientView, client_view_of}
 use Rattle.watched_run.specs.declared.looks.Looks.{Looks}
 use Rattle.viewed_run.specs.declared.seen.Views.{Views}
 use Rattle.command_frame.specs.declared.plan.Plan.{Plan}
 use Rattle.viewed_run.specs.DeliveredRun.{DeliveredRun}
+use Rattle.program_commands.specs.Client.{client_files, client_paths}
 use Rattle.program_commands.specs.Ends.{ending_status}
 use Rattle.program_commands.specs.Eval.{end_status, eval_text}
 use Rattle.program_commands.specs.Judging.{Finding}
@@ -42,14 +42,13 @@ recorded_links None links = []
 recorded_links (Some path) links = record { path = path; bytes = schedule_bytes links } ∷ []
 
 -- the client's view, where it is asked for; a run that ended has one
-abbrev pub client_files : Option (List ℕ) → Option ClientView → List Written
-client_files None view = []
-client_files (Some path) None = []
-client_files (Some path) (Some view) = record { path = path; bytes = client_bytes view } ∷ []
+abbrev pub client_seen : Option (List ℕ) → Option ClientView → List Written
+client_seen path None = []
+client_seen path (Some view) = client_files path view
 
 -- the miners' views come before the links, and these before the client's view
 abbrev pub run_writes : RunAsk → (Number → Option View) → List Link → Option ClientView → List Written
-run_writes ask views links client = (view_files ask.views views ++ recorded_links ask.recorded links) ++ client_files ask.client client
+run_writes ask views links client = (view_files ask.views views ++ recorded_links ask.recorded links) ++ client_seen ask.client client
 
 abbrev pub run_effect : RunAsk → (Number → Option View) → Option ClientView → Report → List Link → Effect
 run_effect ask views client report links =
@@ -118,4 +117,4 @@ path_in None = []
 path_in (Some path) = path ∷ []
 
 unfoldable pub ran_paths : RunAsk → List (List ℕ)
-ran_paths ask = (view_paths ask.views ++ path_in ask.recorded) ++ path_in ask.client
+ran_paths ask = (view_paths ask.views ++ path_in ask.recorded) ++ client_paths ask.client

@@ -10,14 +10,14 @@ ghost use Rattle.viewed_run.specs.Deliveries.{delivery_seen};
 ghost use Rattle.program_run.specs.Accepted.{IsAccepted};
 ghost use Rattle.program_trees.specs.TypedPrograms.{typed_program_tree};
 ghost use Rattle.value_file.specs.Input.{AreInputs};
-ghost use Rattle.miner_commands.specs.Run.{client_files, looks_of, ran_effect, ran_paths, recorded_links, IsRanOrNot};
+ghost use Rattle.miner_commands.specs.Run.{client_seen, looks_of, ran_effect, ran_paths, recorded_links, IsRanOrNot};
 
 use crate::views::views_written;
 use client_text::ClientView;
 use command_frame::{Content, Plan, PlannedWrite};
 use command_words::RunWords;
 use outside::TapeSource;
-use program_commands::ending_status;
+use program_commands::{add_client, ending_status};
 use program_trees::TypedProgram;
 use proto_core::Link;
 use sc_text::run_text;
@@ -44,22 +44,18 @@ fn record_links(
 }
 
 // Adds the client's view to what is to be written, where it is asked for and there.
-fn add_client(
+fn add_seen(
     alloc: Global,
     writes: &mut Vec<PlannedWrite>,
     path: &Option<String>,
     view: &Option<ClientView>,
 ) -> Result<(), AllocError>
-    ensures { OnOk result (writes_of writes.new.items ≡ writes_of writes.old.items ++ client_files (option_map string_bytes path.now) view.now) }
+    ensures { OnOk result (writes_of writes.new.items ≡ writes_of writes.old.items ++ client_seen (option_map string_bytes path.now) view.now) }
 {
-    if let Some(path) = path {
-        if let Some(view) = view {
-            let path = path.clone()?;
-            let content = Content::Bytes(client_text::write(alloc, view)?);
-            writes.push(PlannedWrite { path, content })?;
-        }
+    match view {
+        Some(view) => add_client(alloc, writes, path, view),
+        None => Ok(()),
     }
-    Ok(())
 }
 
 // What is to be written and printed of a run: the miners' views, the links that were delivered, and the client's view, where they are asked for, and
@@ -76,7 +72,7 @@ fn ran_plan(
     let text = run_text(alloc, &run.report.events, &run.report.end)?;
     let mut writes = views_written(alloc, &words.views, views)?;
     record_links(alloc, &mut writes, &run.delivered, &words.recorded)?;
-    add_client(alloc, &mut writes, &words.client, client)?;
+    add_seen(alloc, &mut writes, &words.client, client)?;
     Ok(Plan {
         writes,
         text,

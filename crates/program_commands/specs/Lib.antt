@@ -1,5 +1,6 @@
 pub mod PlacedText
 pub mod Check
+pub mod Client
 pub mod Codes
 pub mod Compile
 pub mod Deal

@@ -3,6 +3,7 @@
 #![tactic(auto)]
 
 mod check;
+mod client_files;
 mod code_stops;
 mod compile;
 mod deal;
@@ -18,6 +19,7 @@ mod upgrade;
 mod writes;
 
 pub use check::plan_check;
+pub use client_files::add_client;
 pub use code_stops::{byte_stop, step_stop};
 pub use compile::plan_compile;
 pub use deal::{deal_writes, plan_deal};

@@ -40,7 +40,7 @@ module _ (words : List (List ℕ)) (outside : Outside) where
       subst (IsEndingAnswer words outside) (sym is)
       (record {
         answer =
-            subst (AnswersAtOnce words outside) (texts_agree (text_path ask) outside.files lines held joined together) (join_answered ask asks);
+            subst (AnswersAtOnce words outside) (texts_agree ask.client (text_path ask) outside.files lines held joined together) (join_answered ask asks);
         ends = end_is joined.end.how;
       })
 
@@ -57,12 +57,12 @@ module _ (words : List (List ℕ)) (outside : Outside) where
   unfolding answer_to question_of join_of
   join_only ask asks answer a refusal unended =
       let (found, at, is) = command_answers words (join ask) outside answer asks a in
-      as_join ask (status_in_answer answer) (texts_refused_by (text_path ask) outside.files answer refusal unended is)
+      as_join ask (status_in_answer answer) (texts_refused_by ask.client (text_path ask) outside.files answer refusal unended is)
 
   join_so : (ask : JoinAsk) (s : Status) → words_of words ≡ Some (join ask) → JoinRefused ask outside.files s → HasAnswerOf words outside s
   unfolding join_of
   join_so ask s asks refused =
-      (join_of ask outside.files, join_answered ask asks, texts_refused (text_path ask) outside.files s (as_texts ask s refused))
+      (join_of ask outside.files, join_answered ask asks, texts_refused ask.client (text_path ask) outside.files s (as_texts ask s refused))
 
   -- ---- `miner`
 

@@ -28,7 +28,7 @@ Texts = Result (List MinerLine) JoinErr
 abbrev Whole : Type 0
 Whole = Result Joined JoinErr
 
-module _ (path : Number → List ℕ) (files : Contents) where
+module _ (client : Option (List ℕ)) (path : Number → List ℕ) (files : Contents) where
   abbrev found : Number → Option (List ℕ)
   found i = file_at files (path i)
 
@@ -37,10 +37,10 @@ module _ (path : Number → List ℕ) (files : Contents) where
 
   -- what is printed of what comes of the texts
   abbrev printed : Whole → Answer
-  printed (Ok joined) = Ok (joined_effect joined)
+  printed (Ok joined) = Ok (joined_effect client joined)
   printed (Err err) = Err (join_cause path err)
 
-  joined_as : (w : Whole) → join_of found ≡ w → texts_joined path files ≡ printed w
+  joined_as : (w : Whole) → join_of found ≡ w → texts_joined client path files ≡ printed w
   joined_as (Ok joined) is = rw is refl
   joined_as (Err err) is = rw is refl
 
@@ -54,10 +54,10 @@ module _ (path : Number → List ℕ) (files : Contents) where
     all_there w is =
         rw (has_text One (lines One) (held One), has_text Two (lines Two) (held Two), has_text Three (lines Three) (held Three), is) refl
 
-    pub texts_agree : (joined : Joined) → TogetherAre lines joined → texts_joined path files ≡ Ok (joined_effect joined)
+    pub texts_agree : (joined : Joined) → TogetherAre lines joined → texts_joined client path files ≡ Ok (joined_effect client joined)
     texts_agree joined together = joined_as (Ok joined) (all_there (Ok joined) together)
 
-    texts_disagree : (d : Difference) → joined_of (lines One) (lines Two) (lines Three) ≡ Err d → texts_joined path files ≡ Err (texts_differ d.line)
+    texts_disagree : (d : Difference) → joined_of (lines One) (lines Two) (lines Three) ≡ Err d → texts_joined client path files ≡ Err (texts_differ d.line)
     texts_disagree d differ = joined_as (Err (join_err.Disagree d)) (all_there (Err d) differ)
 
   -- ---- a text that is none
@@ -73,7 +73,7 @@ module _ (path : Number → List ℕ) (files : Contents) where
   first_bad Three line before earlier bad =
       rw (has_text One (before One) (earlier One (omega arith)), has_text Two (before Two) (earlier Two (omega arith)), bad) refl
 
-  pub texts_refused : (s : Status) → TextsRefused path files s → status_in_answer (texts_joined path files) ≡ s
+  pub texts_refused : (s : Status) → TextsRefused path files s → status_in_answer (texts_joined client path files) ≡ s
   unfolding bad_text texts_differ
   texts_refused s (no_text is h) =
       ap status_in_answer (joined_as (Err (join_err.BadText h.miner h.line))
@@ -167,5 +167,5 @@ module _ (path : Number → List ℕ) (files : Contents) where
     at_one (Err e) no_file is = missed One is
     at_one (Err e) (wrong_text bytes line there bad) is = at_bad One bytes line (λ j. []) (before_one (λ j. [])) there bad is
 
-    pub texts_refused_by : texts_joined path files ≡ r → Why
+    pub texts_refused_by : texts_joined client path files ≡ r → Why
     texts_refused_by is = at_one (text One) (text_case One) (sym (joined_as (join_of found) refl) ∙ is)

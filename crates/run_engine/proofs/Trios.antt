@@ -50,7 +50,7 @@ use Rattle.trio_command.specs.Deciding.{IsCourse, TrioPlanned}
 use Rattle.trio_command.specs.Launching.{AreStatuses}
 use Rattle.trio_command.specs.Trio.{Prepared, answer_of_miners, bad_status, children_ended, code_writes, compile_part, course_of, dealt}
 use Rattle.trio_command.specs.Trio.{preparation}
-use Rattle.trio_command.specs.Trio.{prepared_of, prepared_paths, trio_of, undealt, undealt_effect, words_for}
+use Rattle.trio_command.specs.Trio.{prepared_of, trio_of, undealt, undealt_effect, words_for}
 use Rattle.program_trees.specs.TypedPrograms.{TypedProgramTree}
 use Rattle.value_file.specs.declared.inputs.Entry.{Entry}
 use Rattle.value_file.specs.Input.{read_of as inputs_read_of}
@@ -94,12 +94,9 @@ module _ (ask : TrioAsk) (l : LinksState) (f f' : FilesState) (c c' : SpawnerSta
     is = sym is;
   }
 
-  no_paths : (plan : Plan) (ps : List (List ℕ)) → PlanNames [] plan → PlanNames ps plan
-  no_paths plan ps names = record { written = λ path is. let (k, lt, at) = names.written path is in absurd (omega (arith, lt)) }
-
   names_so : (r : Result Plan Stop) → TrioPlanned ask f f' c c' r → Names (trio ask) s s' r
   unfolding reads_of writes_of later_of
-  names_so (Ok plan) p = no_paths plan (prepared_paths ask) p.written
+  names_so (Ok plan) p = p.written
   names_so (Err stop) p = record {
     named = λ line is. elim ((p.names l).named line is) [
       | inl read ↦ inl read
@@ -244,7 +241,7 @@ module _ (ask : TrioAsk) (files : Contents) (status : Number → ℤ) where
 
   joined_course : (writes : List Written) → AllEnded status
       → course_of ask files status (Ok (dealt writes))
-      ≡ record { first = writes; answer = texts_joined (out_path ask.to) (after_writes writes files) }
+      ≡ record { first = writes; answer = texts_joined ask.client (out_path ask.to) (after_writes writes files) }
   unfolding answer_of_miners
   joined_course writes all = rw (all_ended all) refl
 
@@ -257,17 +254,17 @@ module _ (ask : TrioAsk) (files : Contents) (status : Number → ℤ) where
 
   pub trio_effect : (effect : Effect) → TrioEffect ask files status effect → EndingCourse effect
   trio_effect effect (run_undealt need have u is) = record {
-    course = at_once (Ok (undealt_effect need have));
+    course = at_once (Ok (undealt_effect ask.client need have));
     has = course_so (Ok (undealt need have)) (is_undealt need have u);
     whole = ap (λ (e : Effect). Ok e) (sym is);
     ends = ap (λ (e : Effect). is_end e.status) is;
   }
   trio_effect effect (run_joined writes d all lines joined held together is) = record {
-    course = record { first = writes; answer = Ok (joined_effect joined) };
+    course = record { first = writes; answer = Ok (joined_effect ask.client joined) };
     has =
         subst HasCourse
         (joined_course writes all
-        ∙ ap (λ (a : Answer). record { first = writes; answer = a }) (texts_agree (out_path ask.to) (after_writes writes files) lines held joined together))
+        ∙ ap (λ (a : Answer). record { first = writes; answer = a }) (texts_agree ask.client (out_path ask.to) (after_writes writes files) lines held joined together))
         (course_so (Ok (dealt writes)) (is_dealt writes d));
     whole = ap (λ (e : Effect). Ok e) (sym is);
     ends = ap (λ (e : Effect). is_end e.status) is ∙ end_is joined.end.how;
@@ -367,9 +364,9 @@ module _ (ask : TrioAsk) (files : Contents) (status : Number → ℤ) where
         status_is = child ∙ sym is;
       }
   trio_refused given (for_texts writes d all refused) = record {
-    course = record { first = writes; answer = texts_joined (out_path ask.to) (after_writes writes files) };
+    course = record { first = writes; answer = texts_joined ask.client (out_path ask.to) (after_writes writes files) };
     has = subst HasCourse (joined_course writes all) (course_so (Ok (dealt writes)) (is_dealt writes d));
-    status_is = texts_refused (out_path ask.to) (after_writes writes files) given refused;
+    status_is = texts_refused ask.client (out_path ask.to) (after_writes writes files) given refused;
   }
 
   -- ---- and only so
@@ -487,7 +484,7 @@ module _ (ask : TrioAsk) (files : Contents) (status : Number → ℤ) where
 
       -- the miners have run
       by_children : (writes : List Written) → IsDealt ask files writes
-          → given ≡ status_in_answer (answer_of_miners ask.to (after_writes writes files) status) → Why
+          → given ≡ status_in_answer (answer_of_miners ask.client ask.to (after_writes writes files) status) → Why
       unfolding answer_of_miners bad_status
       by_children writes d is = at_one (is_end_status (status One)) refl (is_end_status (status Two)) refl (is_end_status (status Three)) refl
         where
@@ -502,10 +499,10 @@ module _ (ask : TrioAsk) (files : Contents) (status : Number → ℤ) where
           at_one true e1 false e2 c e3 = for_child (is ∙ rw (e1, e2) refl) writes d Two e2
           at_one true e1 true e2 false e3 = for_child (is ∙ rw (e1, e2, e3) refl) writes d Three e3
           at_one true e1 true e2 true e3 =
-              let same : given ≡ status_in_answer (texts_joined (out_path ask.to) (after_writes writes files)) = is ∙ rw (e1, e2, e3) refl in
+              let same : given ≡ status_in_answer (texts_joined ask.client (out_path ask.to) (after_writes writes files)) = is ∙ rw (e1, e2, e3) refl in
               for_texts writes d (all e1 e2 e3)
               (subst (TextsRefused (out_path ask.to) (after_writes writes files)) (sym same)
-              (texts_refused_by (out_path ask.to) (after_writes writes files) (texts_joined (out_path ask.to) (after_writes writes files))
+              (texts_refused_by ask.client (out_path ask.to) (after_writes writes files) (texts_joined ask.client (out_path ask.to) (after_writes writes files))
               (ap is_refusal (sym same) ∙ refusal) (ap is_end (sym same) ∙ unended) refl))
 
       by_dealing : (p : TypedProgramTree) (entries : List Entry) (tapes : FourTapes) → HoldsTrio ask files p found.reached entries tapes
@@ -576,18 +573,18 @@ module _ (ask : TrioAsk) (files : Contents) (status : Number → ℤ) where
     text_cause (join_err.Disagree d) = refl
     text_cause join_err.Memory = refl
 
-    texts_end : (held : Contents) (c : Cause) → texts_joined (out_path ask.to) held ≡ Err c → is_end c.status ≡ false
+    texts_end : (held : Contents) (c : Cause) → texts_joined ask.client (out_path ask.to) held ≡ Err c → is_end c.status ≡ false
     texts_end held c is = at_texts (all_joined (λ i. file_at held (out_path ask.to i))) is
       where
-        at_texts : (w : Result Joined JoinErr) → (read_or (join_cause (out_path ask.to)) w >>= λ joined. Ok (joined_effect joined)) ≡ refused_with c
+        at_texts : (w : Result Joined JoinErr) → (read_or (join_cause (out_path ask.to)) w >>= λ joined. Ok (joined_effect ask.client joined)) ≡ refused_with c
             → is_end c.status ≡ false
         at_texts (Ok joined) is = absurd cc
         at_texts (Err err) is = ap (λ (x : Answer). is_end (status_in_answer x)) (sym is) ∙ text_cause err
 
-    children_end : (held : Contents) (c : Cause) → answer_of_miners ask.to held status ≡ Err c → is_end c.status ≡ false
+    children_end : (held : Contents) (c : Cause) → answer_of_miners ask.client ask.to held status ≡ Err c → is_end c.status ≡ false
     unfolding answer_of_miners
     children_end held c is =
-        elim (steps (children_ended status) (λ done. texts_joined (out_path ask.to) held) (Err c) is) [
+        elim (steps (children_ended status) (λ done. texts_joined ask.client (out_path ask.to) held) (Err c) is) [
           | inl (c2, e, same) ↦ let here : c2 ≡ c = cc in ended_cause c (e ∙ ap failed_children here)
           | inr (done, e, rest) ↦ texts_end held c rest
         ]

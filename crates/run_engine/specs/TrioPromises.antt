@@ -82,10 +82,10 @@ module _ (ask : TrioAsk) (files : Contents) (status : Number → ℤ) where
   -- over such files, by the statuses that the children of miners 1, 2 and 3 end with: the files are written, and the texts that the miners wrote are
   -- printed as one, with the status of their end; or the text says that nothing could be dealt
   pub data TrioEffect (effect : Effect) : Type 0 where
-    run_undealt : (need have : ℕ) → IsUndealt ask files need have → effect ≡ undealt_effect need have → TrioEffect effect
+    run_undealt : (need have : ℕ) → IsUndealt ask files need have → effect ≡ undealt_effect ask.client need have → TrioEffect effect
     run_joined : (writes : List Written) → IsDealt ask files writes → AllEnded status
         → (lines : Number → List MinerLine) (joined : Joined) → HoldTexts (out_path ask.to) (after_writes writes files) lines
-        → TogetherAre lines joined → effect ≡ behind writes (joined_effect joined) → TrioEffect effect
+        → TogetherAre lines joined → effect ≡ behind writes (joined_effect ask.client joined) → TrioEffect effect
 
   -- why `trio` is refused with this status: the first file that is there and not as it must be; a miner that ended as no run does; a miner's text
   -- that is none; or two that differ

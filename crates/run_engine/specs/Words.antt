@@ -16,11 +16,11 @@ use Rattle.program_commands.specs.Eval.{evaluation_of, eval_paths, eval_text, ne
 use Rattle.program_commands.specs.Upgrade.{upgrade_of, upgrade_paths, upgraded_paths}
 use Rattle.program_commands.specs.Judging.{Finding, FoundAt, Question, nothing, its_program}
 use Rattle.gather_command.specs.Gather.{gather_of, gather_paths, gathered_paths}
-use Rattle.trio_command.specs.Join.{join_of, join_paths}
+use Rattle.trio_command.specs.Join.{join_of, join_paths, joined_paths}
 use Rattle.miner_command.specs.Files.{miner_paths, text_paths}
 use Rattle.miner_command.specs.Miner.{miner_of}
 use Rattle.trio_command.specs.Deciding.{trio_reach}
-use Rattle.trio_command.specs.Trio.{prepared_paths, text_paths as texts_later, trio_of, trio_paths}
+use Rattle.trio_command.specs.Trio.{launched_paths, text_paths as texts_later, trio_of, trio_paths}
 use Rattle.run_engine.specs.Told.{Outside, Told, place_of, told_of}
 use Rattle.tape_commands.specs.Map.{map_of, map_paths, mapped_paths}
 use Rattle.miner_commands.specs.Load.{load_of}
@@ -90,14 +90,14 @@ conduct_of (client_twin ask) =
     deciding (its_program ask.program) (client_twin_paths ask) (twinned_paths ask.to) is_done (λ told. client_twin_of told.found ask told.outside.files)
 conduct_of (load number) = deciding nothing [] [] is_end (λ told. load_of number)
 conduct_of (gather ask) = deciding nothing (gather_paths ask) (gathered_paths ask.to) is_done (λ told. gather_of ask told.outside.files)
-conduct_of (join ask) = record (deciding nothing (join_paths ask) [] is_end (λ told. join_of ask told.outside.files)) { reach = texts_alone }
+conduct_of (join ask) = record (deciding nothing (join_paths ask) (joined_paths ask) is_end (λ told. join_of ask told.outside.files)) { reach = texts_alone }
 conduct_of (miner ask) = record (deciding nothing (miner_paths ask) (text_paths ask) is_end
     (λ told. miner_of ask told.outside.files told.outside.coming)) { reach = files_and_links }
 conduct_of (trio ask) = record {
   answer = λ told. trio_of told.found ask told.outside.files (λ i. told.outside.status (place_of i));
   question = its_program ask.program;
   reads = trio_paths ask;
-  writes = prepared_paths ask;
+  writes = launched_paths ask;
   later = texts_later ask;
   reach = trio_reach;
   ends = is_end;

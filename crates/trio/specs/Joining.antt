@@ -1,21 +1,25 @@
--- Three texts that are put together: their common lines, and of shares what they add up to.
+-- Three texts that are put together: their common lines, and of shares what they add up to; and what the client sees by them.
 use Rattle.std.specs.Prelude.{ℕ, ◌+◌, Bool, false, ◌==◌, ◌&&◌, if◌then◌else◌, List, [], ◌∷◌, ◌++◌, length, map, drop, bytes_eq}
 use Rattle.std.specs.Option.{option_or}
 use Rattle.std.specs.Prelude.{Option, Some, None, Result, Ok, Err}
 use Rattle.sc_text.specs.declared.elements.Element.{Element}
 use Rattle.sc_text.specs.declared.end.End.{End}
-use Rattle.sc_text.specs.declared.event.Event.TheVariants.{Hand}
+use Rattle.sc_text.specs.declared.event.Event.{Event}
+use Rattle.sc_text.specs.declared.event.Event.TheVariants.{Open, Publish, Hand}
 use Rattle.sc_text.specs.Event.{event_line}
 use Rattle.language_model.specs.Values.{element_of, printed_kind}
 use Rattle.code_runs.specs.Places.{element_type_of}
 use Rattle.code_runs.specs.ClientTold.{all_added_up}
+use Rattle.client_text.specs.Seen.{Sighting, Opened, Said, Got}
 use Rattle.miner_text.specs.Shares.{ResultShare}
 use Rattle.miner_text.specs.Lines.{type_word, line_text}
 use Rattle.miner_text.specs.declared.line.MinerLine.{MinerLine}
 use Rattle.miner_text.specs.declared.line.MinerLine.TheVariants as lines
 
+-- the text of the run, and what the client sees of it: what was told, and how the run ended
 pub record Joined : Type 0 where
   pub text : List ℕ
+  pub sightings : List Sighting
   pub end : End
 
 -- the number of a line, and that line in two texts
@@ -66,6 +70,19 @@ abbrev pub joined_line : MinerLine → (second third : List ℕ) → List ℕ
 joined_line (lines.Share s) second third = event_line (Hand s.name (printed_kind s.element) (elements_added s second third))
 joined_line l second third = line_text l
 
+-- what the client sees of an event that all three tell
+abbrev pub seen_event : Event → Sighting
+seen_event (Open elements) = Opened elements
+seen_event (Publish text elements) = Said text elements
+seen_event (Hand text kind elements) = Said text elements
+
+-- and of three lines: of shares all three, and the value; of an end nothing
+abbrev pub seen_line : MinerLine → (second third : List ℕ) → List Sighting
+seen_line (lines.Share s) second third =
+    Got s.name (record { first = s.words; second = second; third = third }) (elements_added s second third) ∷ []
+seen_line (lines.Told event) second third = seen_event event ∷ []
+seen_line (lines.Ended end) second third = []
+
 -- the words of a share; of another line, or of none, there are none
 abbrev pub words_in : Option MinerLine → List ℕ
 words_in (Some (lines.Share s)) = s.words
@@ -80,14 +97,14 @@ abbrev pub end_of : MinerLine → Option End
 end_of (lines.Ended end) = Some end
 end_of l = None
 
-abbrev pub longer : List ℕ → Result Joined Difference → Result Joined Difference
-longer bytes (Ok j) = Ok (record { text = bytes ++ j.text; end = j.end })
-longer bytes (Err d) = Err d
+abbrev pub longer : List ℕ → List Sighting → Result Joined Difference → Result Joined Difference
+longer bytes seen (Ok j) = Ok (record { text = bytes ++ j.text; sightings = seen ++ j.sightings; end = j.end })
+longer bytes seen (Err d) = Err d
 
 -- a line in front of what is made of the lines after it; after the end nothing comes
-abbrev pub in_front : Option End → List ℕ → Result Joined Difference → Result Joined Difference
-in_front (Some end) bytes more = Ok (record { text = bytes; end = end })
-in_front None bytes more = longer bytes more
+abbrev pub in_front : Option End → List ℕ → List Sighting → Result Joined Difference → Result Joined Difference
+in_front (Some end) bytes seen more = Ok (record { text = bytes; sightings = seen; end = end })
+in_front None bytes seen more = longer bytes seen more
 
 abbrev pub unless : Option Difference → Result Joined Difference → Result Joined Difference
 unless (Some d) more = Err d
@@ -98,7 +115,8 @@ abbrev pub joined_from : ℕ → (first second third : List MinerLine) → Resul
 joined_from k [] second third = Err (record { line = k; first = []; second = [] })
 joined_from k (l ∷ ls) second third =
     unless (first_difference k l (next second) (next third))
-    (in_front (end_of l) (joined_line l (words_in (next second)) (words_in (next third))) (joined_from (k + 1) ls (drop 1 second) (drop 1 third)))
+    (in_front (end_of l) (joined_line l (words_in (next second)) (words_in (next third))) (seen_line l (words_in (next second)) (words_in (next third)))
+    (joined_from (k + 1) ls (drop 1 second) (drop 1 third)))
 
 abbrev pub joined_of : (first second third : List MinerLine) → Result Joined Difference
 joined_of first second third = joined_from 1 first second third

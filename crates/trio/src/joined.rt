@@ -1,31 +1,32 @@
-// The text that three miners make together.
+// What three miners make together.
 ghost use Rattle.std.specs.Prelude.{◌≡◌, string_bytes};
 ghost use Rattle.trio.specs.Joining.{Joined as AJoined};
 
+use client_text::ClientView;
 use sc_text::End;
 use std::marker::Model;
 
-/// The text of a run, and how it ended.
+/// The text of a run, and what the client sees of it.
 #[derive(Drop)]
 pub struct Joined {
     text: Vec<u8>,
-    end: End,
+    client: ClientView,
 }
 
 impl Model for Joined {
     ghost Value = { AJoined };
 
-    ghost view = { λ j. record { text = j.text.items; end = j.end } };
+    ghost view = { λ j. record { text = j.text.items; sightings = j.client.sightings; end = j.client.end } };
 }
 
 impl Joined {
-    /// This text, with this end.
-    pub fn new(text: String, end: End) -> Joined
-        ensures { result ≡ record { text = string_bytes text; end = end } }
+    /// This text, and this view.
+    pub fn new(text: String, client: ClientView) -> Joined
+        ensures { result ≡ record { text = string_bytes text; sightings = client.sightings; end = client.end } }
     {
         Joined {
             text: text.into_bytes(),
-            end,
+            client,
         }
     }
 
@@ -40,7 +41,14 @@ impl Joined {
     pub fn end(&self) -> End
         ensures { result ≡ self.now.end }
     {
-        self.end
+        self.client.end
+    }
+
+    /// What the client sees of the run.
+    pub fn client(&self) -> &ClientView
+        ensures { result.now ≡ record { sightings = self.now.sightings; end = self.now.end } }
+    {
+        &self.client
     }
 
     /// The text alone.

@@ -58,13 +58,13 @@ without_missing Three found e = go (text_in One (found One)) (text_in Two (found
     go (Ok one) (Err err) = refl
     go (Err err) s = refl
 
-module _ (f g : FilesState) (path : Number → List ℕ) where
+module _ (client : Option (List ℕ)) (f g : FilesState) (path : Number → List ℕ) where
   abbrev decided : Answer
-  decided = texts_joined path f.contents
+  decided = texts_joined client path f.contents
 
   -- ---- what is decided
 
-  pub all_decided : (joined : Joined) → TextsRead f g path (Ok joined) → f.told ≡ true → decided ≡ Ok (joined_effect joined)
+  pub all_decided : (joined : Joined) → TextsRead f g path (Ok joined) → f.told ≡ true → decided ≡ Ok (joined_effect client joined)
   all_decided joined t told = rw (t.1 told) refl
 
   refused_so : (err : JoinErr) → all_joined (found_in f path) ≡ Err err → decided ≡ Err (join_cause path err)

@@ -4,8 +4,9 @@
 -- what there is when the miners have ended.
 use Rattle.std.proofs.Common.{◌≡◌, ◌++◌, ◌≤◌, ℕ, List, [], ◌∷◌, true, Result, Ok, Err, refl, ap, sym, ◌∙◌, subst, inl, inr, arith, Contains}
 use Rattle.std.proofs.Common.{string_bytes}
-use Rattle.std.specs.Prelude.{IfErr, IfOk, Some, None, if◌then◌else◌}
+use Rattle.std.specs.Prelude.{IfErr, IfOk, Option, Some, None, if◌then◌else◌}
 use Rattle.std.proofs.lemmas.List.{append-nil, append_assoc}
+use Rattle.std.proofs.lemmas.List.Elements.{Contains-append_left, Contains-append_right}
 use Rattle.outside.specs.Files.{Contents, FilesState, OnlyRead, file_at, told_contents}
 use Rattle.outside.specs.Links.{LinksState}
 use Rattle.outside.specs.Spawner.{SpawnerState}
@@ -13,7 +14,7 @@ use Rattle.command_frame.specs.declared.object.Object.TheVariants as objects
 use Rattle.command_frame.specs.declared.plan.Plan.{Plan}
 use Rattle.command_frame.specs.declared.stop.Stop.{Stop}
 use Rattle.command_frame.specs.declared.stop.Stop.TheVariants as stops
-use Rattle.command_frame.specs.Answer.{Answer, Cause, Course, Effect, Written, after_writes, decided_writes, effect_of, paths_in, writes_in, writes_of}
+use Rattle.command_frame.specs.Answer.{Answer, Cause, Course, Effect, Written, after_writes, decided_writes, effect_of, paths_in, writes_in}
 use Rattle.command_frame.specs.Decides.{AfterWrites, Decides, RefusesFor, StopsDeciding, StopsDecidingAnyhow}
 use Rattle.command_frame.specs.Finish.{BreaksOff, OnlyAmong, StopsMidway, StopsWriting, WriteFaulted, WroteAll}
 use Rattle.command_frame.specs.Moments.{Sources}
@@ -23,12 +24,14 @@ use Rattle.command_frame.specs.Whole.{FileFaulted, StopsAtFile}
 use Rattle.command_frame.proofs.Deciding.{nothing_written, reading_anyhow, reading_stops}
 use Rattle.command_frame.proofs.Finishing.{midway_among}
 use Rattle.command_words.specs.Ask.{TrioAsk}
+use Rattle.client_text.specs.Seen.{ClientView}
+use Rattle.program_commands.specs.Client.{client_files, client_paths}
 use Rattle.program_commands.specs.Judging.{Finding, FoundAt, HasFinding, StopTells, its_program}
 use Rattle.proto_core.specs.declared.party.Number.{Number}
 use Rattle.trio_command.specs.Deciding.{IsCourse, TrioPlanned, all_paths, sources_with, trio_reach}
 use Rattle.trio_command.specs.Launching.{AreRun, LaunchesBy, StartsBy, StoredBy}
 use Rattle.trio_command.specs.Trio.{Prepared, answer_of_miners, course_of, dealt, prepared_of, prepared_paths, text_paths, trio_of, trio_paths, undealt}
-use Rattle.trio_command.specs.Trio.{undealt_effect, words_for}
+use Rattle.trio_command.specs.Trio.{launched_paths, undealt_effect, words_for}
 use Rattle.trio_command.specs.inner.Runs.{MinersDecide, MinersRan, StopsMiners, WereLaunched}
 use Rattle.trio.specs.Launches.{AreAll, Launched, StartedWith}
 use Rattle.trio_command.proofs.Ended.{Judged}
@@ -85,9 +88,28 @@ err_names : {A : Stop → Type 0} {B : Stop → Type 0} (r : Result Plan Stop) �
 err_names (Ok plan) names up = tt
 err_names (Err stop) names up = up stop names
 
-writes_nothing : (r : Result Plan Stop) → IfOk r (λ plan. writes_of plan.writes.items ≡ []) → IfOk r (PlanNames [])
-writes_nothing (Ok plan) is = record { written = λ path contains. subst (λ (ws : List Written). Contains (paths_in ws) path) is contains }
-writes_nothing (Err stop) is = tt
+-- ---- the paths that are written
+
+-- those for the miners, and that of the client's view
+for_miners : (ask : TrioAsk) (path : List ℕ) → Contains (prepared_paths ask) path → Contains (launched_paths ask) path
+unfolding launched_paths
+for_miners ask path is = Contains-append_left (prepared_paths ask) (client_paths ask.client) path is
+
+for_client : (ask : TrioAsk) (path : List ℕ) → Contains (client_paths ask.client) path → Contains (launched_paths ask) path
+unfolding launched_paths
+for_client ask path is = Contains-append_right (prepared_paths ask) (client_paths ask.client) path is
+
+only_more : (ask : TrioAsk) (f g : FilesState) → OnlyAmong (prepared_paths ask) f g → OnlyAmong (launched_paths ask) f g
+only_more ask f g only = record {
+  told = only.told;
+  others = λ t q no. only.others t q (λ is. no (for_miners ask q is));
+  later = only.later;
+  still = only.still;
+}
+
+writes_last : (ask : TrioAsk) (r : Result Plan Stop) → IfOk r (PlanNames (client_paths ask.client)) → IfOk r (PlanNames (launched_paths ask))
+writes_last ask (Ok plan) names = record { written = λ path is. for_client ask path (names.written path is) }
+writes_last ask (Err stop) names = tt
 
 module _ (ask : TrioAsk) (c c' : SpawnerState) where
   run_so : (part : Judged) → Launched c c' (words_for ask) part → part ≡ Ok tt → c.told ≡ true → AreRun (words_for ask) c c'
@@ -207,7 +229,7 @@ module _ (ask : TrioAsk) (f : FilesState) (c : SpawnerState) where
       children = inl refl;
       stored = λ found h t tc. none_stored f.contents c (prepared_of found ask f.contents);
       launched = λ found h t tc. none_started (words_for ask) c stop (reading_early f g stop anyhow) (prepared_of found ask f.contents);
-      only = nothing_written (prepared_paths ask) f g read;
+      only = nothing_written (launched_paths ask) f g read;
       written = tt;
       names = λ links.
           reading_stops (all_paths ask) trio_reach (IsCourse ask f.contents c c) (sources_with links f c) (sources_with links g c) stop read names;
@@ -218,13 +240,20 @@ module _ (ask : TrioAsk) (f : FilesState) (c : SpawnerState) where
 
     -- ---- a dealer's tape that is too short
 
-    undealt_names : (plan : Plan) (need have : ℕ) → effect_of plan ≡ undealt_effect need have → PlanNames [] plan
+    -- the client's view alone is written
+    client_named : (client : Option (List ℕ)) (view : ClientView) → paths_in (client_files client view) ≡ client_paths client
+    client_named None view = refl
+    client_named (Some path) view = refl
+
+    undealt_names : (plan : Plan) (need have : ℕ) → effect_of plan ≡ undealt_effect ask.client need have → PlanNames (launched_paths ask) plan
     undealt_names plan need have is = record {
-      written = λ path contains. subst (λ (ws : List Written). Contains (paths_in ws) path) (ap (λ (e : Effect). e.writes) is) contains;
+      written = λ path contains.
+          for_client ask path
+          (subst (λ (ps : List (List ℕ)). Contains ps path) (ap (λ (e : Effect). paths_in e.writes) is ∙ client_named ask.client _) contains);
     }
 
     pub undealt_planned : (need have : ℕ) (plan : Plan) → PreparedAs (Ok (undealt need have))
-        → (f.told ≡ true → HasFinding (its_program ask.program) f.contents) → effect_of plan ≡ undealt_effect need have → TrioPlanned ask f g c c (Ok plan)
+        → (f.told ≡ true → HasFinding (its_program ask.program) f.contents) → effect_of plan ≡ undealt_effect ask.client need have → TrioPlanned ask f g c c (Ok plan)
     undealt_planned need have plan prepared found is = record {
       decides = λ links course by t. subst (λ (x : Course). (x.answer ≡ Ok (effect_of plan)) × AfterWrites x.first f g)
           (sym (course_is c course by (Ok (undealt need have)) (prepared by.found by.of_program t.files)))
@@ -234,7 +263,7 @@ module _ (ask : TrioAsk) (f : FilesState) (c : SpawnerState) where
       children = inl refl;
       stored = λ given h t tc. none_stored f.contents c (prepared_of given ask f.contents);
       launched = λ given h t tc. subst (λ (p : Result Prepared Cause). LaunchesBy (words_for ask) c c (Ok plan) p) (sym (prepared given h t)) refl;
-      only = nothing_written (prepared_paths ask) f g read;
+      only = nothing_written (launched_paths ask) f g read;
       written = undealt_names plan need have is;
       names = λ links. tt;
     }
@@ -245,7 +274,7 @@ module _ (ask : TrioAsk) (f : FilesState) (c : SpawnerState) where
       (found : f.told ≡ true → HasFinding (its_program ask.program) f.contents)
       (named : (path : List ℕ) → Contains (paths_in ws) path → Contains (prepared_paths ask) path) (among : OnlyAmong (paths_in ws) g h) where
     first_is : (c' : SpawnerState) (course : Course) (is : IsCourse ask f.contents c c' course) → f.told ≡ true
-        → course ≡ record { first = ws; answer = answer_of_miners ask.to (after_writes ws f.contents) is.status }
+        → course ≡ record { first = ws; answer = answer_of_miners ask.client ask.to (after_writes ws f.contents) is.status }
     first_is c' course is t = course_is c' course is (Ok (dealt ws)) (prepared is.found is.of_program t)
 
     only_prepared : OnlyAmong (prepared_paths ask) f h
@@ -315,7 +344,7 @@ module _ (ask : TrioAsk) (f : FilesState) (c : SpawnerState) where
           (record {
             path = breaks.path;
             named = breaks.named;
-            midway = midway_more breaks.path (decided_writes (answer_of_miners ask.to (after_writes ws f.contents) is.status))
+            midway = midway_more breaks.path (decided_writes (answer_of_miners ask.client ask.to (after_writes ws f.contents) is.status))
                 (midway_first breaks.path breaks.midway);
           })
 
@@ -323,7 +352,7 @@ module _ (ask : TrioAsk) (f : FilesState) (c : SpawnerState) where
           → FileFaulted (all_paths ask) trio_reach (IsCourse ask f.contents c c) (sources_with links f c) (sources_with links h c) line
       writing_line line breaks =
           inr (inl (
-            (breaks.path, named breaks.path (midway_among ws breaks.path g h breaks.midway), breaks.named),
+            (breaks.path, for_miners ask breaks.path (named breaks.path (midway_among ws breaks.path g h breaks.midway)), breaks.named),
             λ course is t. breaks_off line breaks course is t.files,
           ))
 
@@ -343,7 +372,7 @@ module _ (ask : TrioAsk) (f : FilesState) (c : SpawnerState) where
       children = inl refl;
       stored = λ given at t tc. none_stored f.contents c (prepared_of given ask f.contents);
       launched = λ given at t tc. none_started (words_for ask) c stop (writing_early ws g h stop s) (prepared_of given ask f.contents);
-      only = only_prepared;
+      only = only_more ask f h only_prepared;
       written = tt;
       names = λ links. writing_names links stop s;
     }
@@ -375,7 +404,7 @@ module _ (ask : TrioAsk) (f : FilesState) (c : SpawnerState) where
       follows : (course : Course) → IsCourse ask f.contents c c' course → f.told ≡ true → Follows course
       follows course is t =
           subst Follows (sym (first_is c' course is t)) (record {
-            answer = subst (λ (m : Contents). Wanted (answer_of_miners ask.to m is.status)) (contents_are t) (ran.decided is.status is.of_children);
+            answer = subst (λ (m : Contents). Wanted (answer_of_miners ask.client ask.to m is.status)) (contents_are t) (ran.decided is.status is.of_children);
             after = after_all t;
           })
 
@@ -412,7 +441,7 @@ module _ (ask : TrioAsk) (f : FilesState) (c : SpawnerState) where
             subst (λ (p : Result Prepared Cause). StoredBy f.contents c c' p) (sym (prepared given at t)) (stored_all t tc);
         launched = λ given at t tc.
             all_launched ask c c' h f' r (prepared_of given ask f.contents) ws (prepared given at t) ran.launch tc ran.anyhow;
-        only = only_at_last;
-        written = writes_nothing r ran.nothing;
+        only = only_more ask f f' only_at_last;
+        written = writes_last ask r ran.written;
         names = λ links. err_names r ran.names (ran_names links);
       }

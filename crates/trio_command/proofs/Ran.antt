@@ -8,12 +8,13 @@ use Rattle.command_frame.specs.declared.status.Status.TheVariants as statuses
 use Rattle.command_frame.specs.declared.stop.Stop.{Stop}
 use Rattle.command_frame.specs.declared.stop.Stop.TheVariants as stops
 use Rattle.command_frame.specs.Answer.{Answer, Cause, Effect, effect_of}
-use Rattle.command_frame.specs.Reads.{StopNames, StopsAmong, StopsReadingAmong}
+use Rattle.command_frame.specs.Reads.{PlanNames, StopNames, StopsAmong, StopsReadingAmong}
 use Rattle.command_frame.specs.Status.{of_texts}
 use Rattle.command_frame.specs.Stops.{IsBreachFor}
 use Rattle.command_frame.proofs.Deciding.{unchanged}
 use Rattle.command_frame.proofs.Statuses.{clash}
 use Rattle.command_words.specs.Ask.{TrioAsk}
+use Rattle.program_commands.specs.Client.{client_paths}
 use Rattle.trio_command.specs.Join.{IsJoinStop, joined_effect, texts_joined}
 use Rattle.trio_command.proofs.Joins.{all_decided, join_anyhow, join_names, join_stops, texts_only_read, unnamed_breach}
 use Rattle.proto_core.specs.declared.party.Number.{Number}
@@ -43,10 +44,10 @@ module _ (ask : TrioAsk) (f f' : FilesState) (c c' : SpawnerState) where
   Told = (f.told ≡ true) × (c.told ≡ true)
 
   abbrev decided : (Number → ℤ) → Answer
-  decided status = answer_of_miners ask.to f.contents status
+  decided status = answer_of_miners ask.client ask.to f.contents status
 
   abbrev joined : Answer
-  joined = texts_joined (out_path ask.to) f.contents
+  joined = texts_joined ask.client (out_path ask.to) f.contents
 
   ended_well : (status : Number → ℤ) → children_ended status ≡ Ok tt → decided status ≡ joined
   unfolding answer_of_miners
@@ -59,16 +60,28 @@ module _ (ask : TrioAsk) (f f' : FilesState) (c c' : SpawnerState) where
   -- ---- texts that are put together
 
   pub texts_ran : (texts : Joined) (plan : Plan) → Launched c c' (words_for ask) (Ok tt) → TextsRead f f' (out_path ask.to) (Ok texts)
-      → effect_of plan ≡ joined_effect texts → MinersRan ask f f' c c' (Ok plan)
-  texts_ran texts plan launched read is = record {
+      → effect_of plan ≡ joined_effect ask.client texts → PlanNames (client_paths ask.client) plan → MinersRan ask f f' c c' (Ok plan)
+  texts_ran texts plan launched read is names = record {
     read = texts_only_read f f' (out_path ask.to) (Ok texts) read;
     launch = record { part = Ok tt; launched = launched; ended = refl };
     decided = λ status are t.
         ended_well status (launch_means (words_for ask) c c' status are (Ok tt) launched t.1)
-        ∙ all_decided f f' (out_path ask.to) texts read t.0 ∙ ap (λ (e : Effect). Ok e) (sym is);
+        ∙ all_decided ask.client f f' (out_path ask.to) texts read t.0 ∙ ap (λ (e : Effect). Ok e) (sym is);
     anyhow = tt;
     names = tt;
-    nothing = ap (λ (e : Effect). e.writes) is;
+    written = names;
+  }
+
+  -- memory ran out after that
+  pub no_room : (texts : Joined) → Launched c c' (words_for ask) (Ok tt) → TextsRead f f' (out_path ask.to) (Ok texts)
+      → MinersRan ask f f' c c' (Err stops.Memory)
+  no_room texts launched read = record {
+    read = texts_only_read f f' (out_path ask.to) (Ok texts) read;
+    launch = record { part = Ok tt; launched = launched; ended = tt };
+    decided = λ status are. tt;
+    anyhow = tt;
+    names = record { named = λ line is. absurd cc };
+    written = tt;
   }
 
   -- ---- texts that are not
@@ -114,10 +127,10 @@ module _ (ask : TrioAsk) (f f' : FilesState) (c c' : SpawnerState) where
     launch = record { part = Ok tt; launched = launched; ended = texts_launch stop };
     decided = λ status are.
         texts_decide stop (decided status) (λ t. ended_well status (launch_means (words_for ask) c c' status are (Ok tt) launched t.1))
-        (join_stops f f' (out_path ask.to) err stop read for);
-    anyhow = texts_anyhow stop (join_anyhow f f' (out_path ask.to) (out_path ask.to) err stop read for);
+        (join_stops ask.client f f' (out_path ask.to) err stop read for);
+    anyhow = texts_anyhow stop (join_anyhow ask.client f f' (out_path ask.to) (out_path ask.to) err stop read for);
     names = join_names (out_path ask.to) (text_paths ask) (among ask) err stop for;
-    nothing = tt;
+    written = tt;
   }
 
   texts_short : (err : JoinErr) → Launched c c' (words_for ask) (Ok tt) → TextsRead f f' (out_path ask.to) (Err err)
@@ -128,7 +141,7 @@ module _ (ask : TrioAsk) (f f' : FilesState) (c c' : SpawnerState) where
     decided = λ status are. tt;
     anyhow = tt;
     names = unnamed_memory;
-    nothing = tt;
+    written = tt;
   }
 
   pub texts_failed : (err : JoinErr) (stop : Stop) → Launched c c' (words_for ask) (Ok tt) → TextsRead f f' (out_path ask.to) (Err err)
@@ -149,7 +162,7 @@ module _ (ask : TrioAsk) (f f' : FilesState) (c c' : SpawnerState) where
     decided = λ status are. tt;
     anyhow = (launched.failed refl, λ steady t. (launched.steady steady t).0 refl);
     names = record { named = λ line is. absurd cc };
-    nothing = tt;
+    written = tt;
   }
 
   short : Launched c c' (words_for ask) (Err child_err.Memory) → f' ≡ f → MinersRan ask f f' c c' (Err stops.Memory)
@@ -159,7 +172,7 @@ module _ (ask : TrioAsk) (f f' : FilesState) (c c' : SpawnerState) where
     decided = λ status are. tt;
     anyhow = tt;
     names = unnamed_memory;
-    nothing = tt;
+    written = tt;
   }
 
   status_decides : (i : Number) (s : ℤ) (stop : Stop) (answer : Answer) → (Told → answer ≡ Err (bad_status i s)) → IsBreachFor (bad_status i s) stop
@@ -197,7 +210,7 @@ module _ (ask : TrioAsk) (f f' : FilesState) (c c' : SpawnerState) where
         (λ t. ended_badly status (bad_status i s) (launch_means (words_for ask) c c' status are (Err (child_err.Status i s)) launched t.1)) for;
     anyhow = status_anyhow i s stop for;
     names = unnamed_breach (out_path ask.to) (text_paths ask) (among ask) (bad_status i s) stop for;
-    nothing = tt;
+    written = tt;
   }
 
   pub children_failed : (err : ChildErr) (stop : Stop) → Launched c c' (words_for ask) (Err err) → f' ≡ f → IsChildStop err stop
@@ -210,10 +223,17 @@ module _ (ask : TrioAsk) (f f' : FilesState) (c c' : SpawnerState) where
 
   pub run_ended : (prefix : List ℕ) → prefix ≡ ask.to → (texts : Joined) (plan : Plan)
       → RanChildren c c' (miner_words prefix ask.port ask.budget) (Ok texts) → RanTexts f f' (out_path prefix) (Ok texts)
-      → effect_of plan ≡ joined_effect texts → MinersRan ask f f' c c' (Ok plan)
-  run_ended prefix same texts plan launched read is =
+      → effect_of plan ≡ joined_effect ask.client texts → PlanNames (client_paths ask.client) plan → MinersRan ask f f' c c' (Ok plan)
+  run_ended prefix same texts plan launched read is names =
       texts_ran texts plan (subst (λ (p : List ℕ). Launched c c' (miner_words p ask.port ask.budget) (Ok tt)) same launched)
-      (subst (λ (p : List ℕ). TextsRead f f' (out_path p) (Ok texts)) same read) is
+      (subst (λ (p : List ℕ). TextsRead f f' (out_path p) (Ok texts)) same read) is names
+
+  -- memory ran out after the texts were put together
+  pub run_short : (prefix : List ℕ) → prefix ≡ ask.to → (texts : Joined) → RanChildren c c' (miner_words prefix ask.port ask.budget) (Ok texts)
+      → RanTexts f f' (out_path prefix) (Ok texts) → MinersRan ask f f' c c' (Err stops.Memory)
+  run_short prefix same texts launched read =
+      no_room texts (subst (λ (p : List ℕ). Launched c c' (miner_words p ask.port ask.budget) (Ok tt)) same launched)
+      (subst (λ (p : List ℕ). TextsRead f f' (out_path p) (Ok texts)) same read)
 
   run_stopped : (err : TrioErr) (stop : Stop) → RanChildren c c' (words_for ask) (Err err) → RanTexts f f' (out_path ask.to) (Err err)
       → IsRunStop ask.to err stop → MinersRan ask f f' c c' (Err stop)

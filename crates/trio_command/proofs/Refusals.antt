@@ -49,12 +49,12 @@ module _ (path : Number → List ℕ) (files : Contents) where
       let two : HoldsText (path Two) files (before Two) = earlier Two (omega arith) in
       rw (one.there, one.good, two.there, two.good, there, bad) refl
 
-abbrev answer_by : (path : Number → List ℕ) → Joins → Answer
-answer_by path r = read_or (join_cause path) r >>= λ joined. Ok (joined_effect joined)
+abbrev answer_by : JoinAsk → Joins → Answer
+answer_by ask r = read_or (join_cause (text_path ask)) r >>= λ joined. Ok (joined_effect ask.client joined)
 
-by_all : (ask : JoinAsk) (files : Contents) (r : Joins) → all (text_path ask) files ≡ r → join_of ask files ≡ answer_by (text_path ask) r
+by_all : (ask : JoinAsk) (files : Contents) (r : Joins) → all (text_path ask) files ≡ r → join_of ask files ≡ answer_by ask r
 unfolding join_of
-by_all ask files r is = ap (answer_by (text_path ask)) is
+by_all ask files r is = ap (answer_by ask) is
 
 pub join_answer : (ask : JoinAsk) (files : Contents) (effect : Effect) → JoinEffect ask files effect → join_of ask files ≡ Ok effect
 join_answer ask files effect (lines, joined, held, together, is) =
@@ -115,7 +115,7 @@ module _ (ask : JoinAsk) (files : Contents) (r : Answer) (breach : can_breach (s
   breaches : (s : Status) → status_in_answer r ≡ s → can_breach s ≡ true
   breaches s is = subst (λ (x : Status). can_breach x ≡ true) is breach
 
-  status_is : (j : Joins) → all path files ≡ j → join_of ask files ≡ r → status_in_answer r ≡ status_in_answer (answer_by path j)
+  status_is : (j : Joins) → all path files ≡ j → join_of ask files ≡ r → status_in_answer r ≡ status_in_answer (answer_by ask j)
   status_is j e is = ap status_in_answer (sym is ∙ by_all ask files j e)
 
   no_file : (i : Number) → all path files ≡ Err (join_err.File i) → join_of ask files ≡ r → Refused

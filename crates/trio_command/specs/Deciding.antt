@@ -1,5 +1,5 @@
 -- What `trio` is to the frame of commands.
-use Rattle.std.specs.Prelude.{◌≡◌, ℤ, [], false, true, Result, IfOk, IfErr}
+use Rattle.std.specs.Prelude.{◌≡◌, ℤ, false, true, Result, IfOk, IfErr}
 use Rattle.outside.specs.Files.{Contents, FilesState}
 use Rattle.outside.specs.Links.{LinksState}
 use Rattle.outside.specs.Spawner.{SpawnerState}
@@ -16,7 +16,7 @@ use Rattle.command_words.specs.Ask.{TrioAsk}
 use Rattle.program_commands.specs.Judging.{Finding, FoundAt, HasFinding, Tells, its_program}
 use Rattle.proto_core.specs.declared.party.Number.{Number}
 use Rattle.trio_command.specs.Launching.{AreStatuses, LaunchesBy, MayLaunchBy, StoredBy}
-use Rattle.trio_command.specs.Trio.{prepared_of, prepared_paths, text_paths, trio_of, trio_paths, words_for}
+use Rattle.trio_command.specs.Trio.{launched_paths, prepared_of, text_paths, trio_of, trio_paths, words_for}
 
 -- it reaches files and other programs, and stops at what a child did or a miner's text says
 abbrev pub trio_reach : Reach
@@ -27,7 +27,7 @@ abbrev pub sources_with : LinksState → FilesState → SpawnerState → Sources
 sources_with links files children = record { files = files; links = links; children = children }
 
 abbrev pub all_paths : TrioAsk → Paths
-all_paths ask = record { read = trio_paths ask; written = prepared_paths ask; later = text_paths ask }
+all_paths ask = record { read = trio_paths ask; written = launched_paths ask; later = text_paths ask }
 
 -- a course of the command, by what its program is found to be and what the children end with
 pub record IsCourse (ask : TrioAsk) (files : Contents) (old new : SpawnerState) (course : Course) : Type 0 where
@@ -55,9 +55,9 @@ pub record TrioPlanned (ask : TrioAsk) (f f' : FilesState) (c c' : SpawnerState)
   pub stored :
       (found : Finding) → FoundAt (its_program ask.program) f.contents found → f.told ≡ true → c.told ≡ true
       → StoredBy f.contents c c' (prepared_of found ask f.contents)
-  -- no path but these was written, and the plan writes none
-  pub only : OnlyAmong (prepared_paths ask) f f'
-  pub written : IfOk result (PlanNames [])
+  -- no path but these was written, and the plan writes no other
+  pub only : OnlyAmong (launched_paths ask) f f'
+  pub written : IfOk result (PlanNames (launched_paths ask))
   -- the file at which it stopped is one of these
   pub names :
       (links : LinksState)

@@ -30,7 +30,7 @@ TogetherAre lines joined = joined_of (lines One) (lines Two) (lines Three) ≡ O
 -- over texts that agree: the text of the run, and the status of its end
 abbrev pub JoinEffect : JoinAsk → Contents → Effect → Type 0
 JoinEffect ask files effect = (lines : Number → List MinerLine) × (joined : Joined) × HoldTexts (text_path ask) files lines × TogetherAre lines joined
-    × (effect ≡ joined_effect joined)
+    × (effect ≡ joined_effect ask.client joined)
 
 -- a file is there that is no text of a miner, by this line, and those of the miners before are
 pub record HoldsBadText (path : Number → List ℕ) (files : Contents) : Type 0 where

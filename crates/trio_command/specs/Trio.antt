@@ -1,5 +1,5 @@
 -- The command `trio`: a program is compiled, its inputs are dealt, and three miners run it as programs of their own.
-use Rattle.std.specs.Prelude.{ℕ, ℤ, List, [], ◌∷◌, ◌++◌, length, nat_lt, if◌then◌else◌, Result, Ok, Err, codes}
+use Rattle.std.specs.Prelude.{ℕ, ℤ, List, [], ◌∷◌, ◌++◌, length, nat_lt, if◌then◌else◌, Option, Result, Ok, Err, codes}
 use Rattle.outside.specs.Files.{Contents}
 use Rattle.command_frame.specs.declared.status.Status.TheVariants as statuses
 use Rattle.command_frame.specs.Answer.{Answer, Cause, Course, Effect, Written, after_writes, at_once, ◌>>=◌}
@@ -18,6 +18,7 @@ use Rattle.tape_file.specs.Tapes.{FourTapes}
 use Rattle.trio.specs.Children.{is_end_status}
 use Rattle.trio.specs.Words.{miner_words, out_path}
 use Rattle.value_file.specs.declared.inputs.Entry.{Entry}
+use Rattle.program_commands.specs.Client.{client_files, client_paths}
 use Rattle.program_commands.specs.Compile.{compile_of}
 use Rattle.program_commands.specs.Deal.{deal_writes, written_paths}
 use Rattle.program_commands.specs.Judging.{Finding}
@@ -57,8 +58,14 @@ prepared_of found ask files = do
 abbrev pub undealt_end : (need have : ℕ) → End
 undealt_end need have = record { how = Tape Dealer need have; cost = 0 }
 
-abbrev pub undealt_effect : (need have : ℕ) → Effect
-undealt_effect need have = record { writes = []; text = run_text [] (undealt_end need have); status = statuses.Tape }
+-- the client sees the end alone
+abbrev pub undealt_effect : (client : Option (List ℕ)) → (need have : ℕ) → Effect
+undealt_effect client need have =
+    record {
+      writes = client_files client (record { sightings = []; end = undealt_end need have });
+      text = run_text [] (undealt_end need have);
+      status = statuses.Tape;
+    }
 
 -- ---- the three miners
 
@@ -77,17 +84,17 @@ children_ended status = do
   ended_so Three (status Three)
 
 -- what three miners come to that have ended: the texts that they wrote, put together
-unfoldable pub answer_of_miners : (prefix : List ℕ) → Contents → (status : Number → ℤ) → Answer
-answer_of_miners prefix files status = children_ended status >>= λ done. texts_joined (out_path prefix) files
+unfoldable pub answer_of_miners : (client : Option (List ℕ)) → (prefix : List ℕ) → Contents → (status : Number → ℤ) → Answer
+answer_of_miners client prefix files status = children_ended status >>= λ done. texts_joined client (out_path prefix) files
 
 -- ---- the whole
 
--- the files are written before the miners run; none where the command is refused before, or where nothing can be dealt
+-- the miners' files are written before they run; none where the command is refused before, or where nothing can be dealt
 abbrev pub course_of : TrioAsk → Contents → (status : Number → ℤ) → Result Prepared Cause → Course
 course_of ask files status (Err cause) = at_once (Err cause)
-course_of ask files status (Ok (undealt need have)) = at_once (Ok (undealt_effect need have))
+course_of ask files status (Ok (undealt need have)) = at_once (Ok (undealt_effect ask.client need have))
 course_of ask files status (Ok (dealt writes)) =
-    record { first = writes; answer = answer_of_miners ask.to (after_writes writes files) status }
+    record { first = writes; answer = answer_of_miners ask.client ask.to (after_writes writes files) status }
 
 -- by what is found of the program, what the files hold, and the statuses of miners 1, 2 and 3
 unfoldable pub trio_of : Finding → TrioAsk → Contents → (status : Number → ℤ) → Course
@@ -99,12 +106,16 @@ trio_of found ask files status = course_of ask files status (prepared_of found a
 abbrev pub words_for : TrioAsk → Number → List (List ℕ)
 words_for ask = miner_words ask.to ask.port ask.budget
 
--- the paths that `trio` reads before it writes, those that it writes, and those that it reads when the miners have ended
+-- the paths that `trio` reads before it writes, those that it writes before the miners run, all that it writes, and those that it reads when the miners
+-- have ended
 unfoldable pub trio_paths : TrioAsk → List (List ℕ)
 trio_paths ask = ask.program ∷ ask.input ∷ ask.tape ∷ []
 
 unfoldable pub prepared_paths : TrioAsk → List (List ℕ)
 prepared_paths ask = path_to ask.to (codes ".code") ∷ written_paths ask.to
+
+unfoldable pub launched_paths : TrioAsk → List (List ℕ)
+launched_paths ask = prepared_paths ask ++ client_paths ask.client
 
 unfoldable pub text_paths : TrioAsk → List (List ℕ)
 text_paths ask = out_path ask.to One ∷ out_path ask.to Two ∷ out_path ask.to Three ∷ []

@@ -12,7 +12,9 @@ use std::alloc::Global;
 /// Reads and checks the program, the input and the tape; writes the code, the share files and the tape files of three miners; starts the
 /// miners, waits for each, and says what is to be printed: the texts that they wrote, put together, with the status of their end.
 ///
-/// Where the dealer's tape is too short no file is written and no miner started: the text is that of a run that ends for this tape. It stops
+/// Last, where it is asked for, what the client sees of the run is written.
+///
+/// Where the dealer's tape is too short no file is written for miners and none started: the text is that of a run that ends for this tape. It stops
 /// at the first file that is refused; then at a miner that can't be started or waited for, or ends with a status that no end of a run has
 /// (C3); then at a text that can't be read or is of another form (C4); and then at the first line in which two texts differ (C2).
 pub fn plan_trio<F: Files, C: Spawner>(
@@ -25,7 +27,9 @@ pub fn plan_trio<F: Files, C: Spawner>(
 {
     let prepared = prepare(alloc, files, words)?;
     match &prepared {
-        Prepared::Undealt { need, have } => Ok(undealt_plan(alloc, *need, *have)?),
+        Prepared::Undealt { need, have } => {
+            Ok(undealt_plan(alloc, &words.client, *need, *have)?)
+        }
         Prepared::Dealt(writes) => {
             write_files(alloc, files, writes)?;
             run_miners(alloc, files, children, words)

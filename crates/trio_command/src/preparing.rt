@@ -1,18 +1,20 @@
 // What `trio` does before the miners run.
-ghost use Rattle.std.specs.Prelude.{◌≡◌, ◌∷◌, [], true, IfOk, IfErr, codes, string_bytes};
+ghost use Rattle.std.specs.Prelude.{◌≡◌, ◌∷◌, [], true, option_map, IfOk, IfErr, codes, string_bytes};
+ghost use Rattle.sc_text.specs.Event.{run_text};
 ghost use Rattle.command_frame.specs.Answer.{effect_of, writes_of};
 ghost use Rattle.command_frame.specs.Reads.{Gives, OnlyRead, StopNames, StopsReading};
 ghost use Rattle.command_words.specs.Views.{trio_ask};
 ghost use Rattle.program_commands.specs.Judging.{Finding, FoundAt, HasFinding, Tells, its_program};
 ghost use Rattle.program_commands.specs.Paths.{path_to};
-ghost use Rattle.trio_command.specs.Trio.{code_writes, prepared_of, prepared_paths, trio_paths, undealt_effect};
+ghost use Rattle.trio_command.specs.Trio.{code_writes, prepared_of, prepared_paths, trio_paths, undealt_effect, undealt_end};
 ghost use Rattle.trio_command.specs.inner.Views.{PreparesAmong, WritesAmong, prepared_seen};
 
+use client_text::ClientView;
 use command_frame::{Plan, PlannedWrite, Status, Stop};
 use command_words::{CompileWords, TrioWords};
 use input_share::{DealErr, deal};
 use outside::Files;
-use program_commands::{deal_writes, plan_compile, read_inputs, read_tape_file};
+use program_commands::{add_client, deal_writes, plan_compile, read_inputs, read_tape_file};
 use sc_text::{End, Ending, TapeOwner};
 use std::alloc::{AllocError, Global};
 use std::mem;
@@ -99,29 +101,47 @@ pub(crate) fn prepare<F: Files>(
     }
 }
 
-// The text of a run that could not be dealt.
-#[tactic(auto, unfolding(sc_text::specs::Event::run_text))]
-fn undealt_text(alloc: Global, need: u128, have: u64) -> Result<String, AllocError>
-    ensures { IfOk result (λ text. string_bytes text ≡ (undealt_effect need have).text) }
+// The end of a run that could not be dealt.
+fn undealt_end(need: u128, have: u64) -> End
+    ensures { result ≡ undealt_end need have }
 {
-    let end = End {
+    End {
         how: Ending::Tape {
             owner: TapeOwner::Dealer,
             need,
             have,
         },
         cost: 0,
-    };
+    }
+}
+
+// The text of a run that could not be dealt.
+#[tactic(auto, unfolding(sc_text::specs::Event::run_text))]
+fn undealt_text(alloc: Global, need: u128, have: u64) -> Result<String, AllocError>
+    ensures { IfOk result (λ text. string_bytes text ≡ run_text [] (undealt_end need have)) }
+{
+    let end = undealt_end(need, have);
     format!(in alloc; "{end}")
 }
 
-/// What is printed of a run that could not be dealt.
-pub(crate) fn undealt_plan(alloc: Global, need: u128, have: u64) -> Result<Plan, AllocError>
-    ensures { IfOk result (λ plan. effect_of plan ≡ undealt_effect need have) }
+/// What is printed of a run that could not be dealt, and written, where it is asked for: the client sees the end alone.
+pub(crate) fn undealt_plan(
+    alloc: Global,
+    client: &Option<String>,
+    need: u128,
+    have: u64,
+) -> Result<Plan, AllocError>
+    ensures { IfOk result (λ plan. effect_of plan ≡ undealt_effect (option_map string_bytes client.now) need have) }
 {
     let text = undealt_text(alloc, need, have)?;
+    let view = ClientView {
+        sightings: Vec::new(alloc),
+        end: undealt_end(need, have),
+    };
+    let mut writes = Vec::new(alloc);
+    add_client(alloc, &mut writes, client, &view)?;
     Ok(Plan {
-        writes: Vec::new(alloc),
+        writes,
         text: text.into_bytes(),
         status: Status::Tape,
     })

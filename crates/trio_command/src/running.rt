@@ -81,7 +81,8 @@ fn run_stop(alloc: Global, prefix: &str, error: &TrioErr) -> Stop
     }
 }
 
-/// Starts the three miners, waits for each, and says what is to be printed: the texts that they wrote, put together.
+/// Starts the three miners, waits for each, and says what is to be printed: the texts that they wrote, put together; and written, where it is asked
+/// for: what the client sees by them.
 pub(crate) fn run_miners<F: Files, C: Spawner>(
     alloc: Global,
     files: &mut F,
@@ -92,7 +93,7 @@ pub(crate) fn run_miners<F: Files, C: Spawner>(
     ensures ran { MinersRan (trio_ask words.now) (F.state files.old) (F.state files.new) (C.state children.old) (C.state children.new) result }
 {
     match run(alloc, &words.to, words.port, words.budget, files, children) {
-        Ok(joined) => Ok(joined_plan(alloc, joined)),
+        Ok(joined) => Ok(joined_plan(alloc, &words.client, joined)?),
         Err(error) => Err(run_stop(alloc, &words.to, &error)),
     }
 }

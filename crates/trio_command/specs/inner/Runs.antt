@@ -1,6 +1,6 @@
 -- Cited by private functions alone: no contract of another crate rests on it.
 -- What comes of three miners that are started.
-use Rattle.std.specs.Prelude.{◌≡◌, ◌⊎◌, ℕ, ℤ, List, [], true, Result, Ok, Err, IfOk, IfErr, string_bytes}
+use Rattle.std.specs.Prelude.{◌≡◌, ◌⊎◌, ℕ, ℤ, List, true, Result, Ok, Err, IfOk, IfErr, string_bytes}
 use Rattle.outside.specs.Causes.{Rose}
 use Rattle.outside.specs.Files.{FilesState, OnlyRead}
 use Rattle.outside.specs.Spawner.{SpawnerState}
@@ -9,12 +9,13 @@ use Rattle.command_frame.specs.declared.plan.Plan.{Plan}
 use Rattle.command_frame.specs.declared.status.Status.TheVariants.{Disagree, File}
 use Rattle.command_frame.specs.declared.stop.Stop.{Stop}
 use Rattle.command_frame.specs.declared.stop.Stop.TheVariants as stops
-use Rattle.command_frame.specs.Answer.{Answer, breach_of, cause_of, effect_of, writes_of}
+use Rattle.command_frame.specs.Answer.{Answer, breach_of, cause_of, effect_of}
 use Rattle.command_frame.specs.Objects.{OfObject}
-use Rattle.command_frame.specs.Reads.{StopNames}
+use Rattle.command_frame.specs.Reads.{PlanNames, StopNames}
 use Rattle.command_frame.specs.Status.{of_texts}
 use Rattle.command_frame.specs.Stops.{IsBreachFor}
 use Rattle.command_words.specs.Ask.{TrioAsk}
+use Rattle.program_commands.specs.Client.{client_paths}
 use Rattle.trio_command.specs.Join.{IsJoinStop}
 use Rattle.proto_core.specs.declared.party.Number.{Number}
 use Rattle.proto_core.specs.declared.party.Number.TheVariants.{One, Two, Three}
@@ -94,7 +95,7 @@ pub record MinersRan (ask : TrioAsk) (f f' : FilesState) (c c' : SpawnerState) (
   pub launch : WereLaunched (words_for ask) c c' result
   pub decided :
       (status : Number → ℤ) → AreStatuses (words_for ask) c c' status
-      → MinersDecide ((f.told ≡ true) × (c.told ≡ true)) f result (answer_of_miners ask.to f.contents status)
+      → MinersDecide ((f.told ≡ true) × (c.told ≡ true)) f result (answer_of_miners ask.client ask.to f.contents status)
   pub anyhow : IfErr result (StopsMiners f f' c c')
   pub names : IfErr result (StopNames (text_paths ask))
-  pub nothing : IfOk result (λ plan. writes_of plan.writes.items ≡ [])
+  pub written : IfOk result (PlanNames (client_paths ask.client))

@@ -33,8 +33,8 @@ returns-in_err-course-clause-runs g c =
     (λ t. IsCourseOf p entries t c.args.budget given (Err e)) (λ t. IsWatchedRunOf c.args.looks p entries t c.args.budget given (Err e)) h h.cause
     (λ t h. refused_so p entries t c.args.budget given c.args.looks e h))
 
-pub call-views_if-requires : goal.call-views_if-requires
-call-views_if-requires g c =
+pub views_if-requires : goal.views_if-requires
+views_if-requires g c =
     kept_all c.args.looks.miners (λ (past : Kept). KeepInCourse past c.in_ok-course.course)
     (subst (λ (past : Kept). KeepInCourse past c.in_ok-course.course) c.kept.ensures c.in_ok-course.ensures.kept)
 
