@@ -13,7 +13,7 @@ use Rattle.command_words.specs.Vectors.{words_on_literals}
 abbrev pub command_names : List Text
 command_names =
     codes "run" ∷ codes "deal" ∷ codes "eval" ∷ codes "need" ∷ codes "check" ∷ codes "compile" ∷ codes "upgrade" ∷ codes "map" ∷ codes "simulate"
-    ∷ codes "twin" ∷ codes "load" ∷ codes "gather" ∷ codes "miner" ∷ codes "trio" ∷ codes "join" ∷ []
+    ∷ codes "twin" ∷ codes "load" ∷ codes "gather" ∷ codes "miner" ∷ codes "trio" ∷ codes "join" ∷ codes "audit" ∷ []
 
 abbrev pub IsOneOf : List Text → Text → Type 0
 IsOneOf [] text = ⊥

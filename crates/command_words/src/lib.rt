@@ -12,9 +12,9 @@ mod tape_seed;
 mod values;
 
 pub use command::{
-    CheckWords, Command, CompileWords, DealWords, DeliveryOrder, EvalWords, GatherWords, JoinWords,
-    LoadWords, MapWords, MinerWords, RunWords, SimulateWords, TapeOrigin, TrioWords, TwinWords,
-    UpgradeWords, WordsErr,
+    AuditWords, CheckWords, Command, CompileWords, DealWords, DeliveryOrder, EvalWords,
+    GatherWords, JoinWords, LoadWords, MapWords, MinerWords, RunWords, SimulateWords, TapeLengths,
+    TapeOrigin, TrioWords, TwinWords, UpgradeWords, WordsErr,
 };
 pub use reading::read;
 pub use tape_seed::TapeSeed;
