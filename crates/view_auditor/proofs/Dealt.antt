@@ -5,7 +5,7 @@ use Rattle.std.specs.Prelude.{option_map}
 use Rattle.std.proofs.lemmas.Bool.{eqb-true}
 use Rattle.std.proofs.lemmas.List.{take_all, take_at}
 use Rattle.proto_core.specs.declared.party.Number.{Number}
-use Rattle.proto_core.specs.declared.party.Number.TheVariants.{One}
+use Rattle.proto_core.specs.declared.party.Number.TheVariants.{One, Two, Three}
 use Rattle.proto_core.specs.declared.link.Link.{Link}
 use Rattle.proto_core.specs.Parties.{is_same}
 use Rattle.protocol_model.specs.Gates as model

@@ -2,7 +2,7 @@
 use Rattle.std.proofs.Common.{◌≡◌, ◌≤◌, ◌<◌, ◌+◌, ◌-◌, ℕ, zero, suc, Bool, true, false, if◌then◌else◌, List, [], ◌∷◌, ◌++◌, length, drop, Option, Some, None}
 use Rattle.std.proofs.Common.{refl, sym, ◌∙◌, ap, arith, length-drop, length-append}
 use Rattle.std.specs.Prelude.{nat_lt}
-use Rattle.std.proofs.lemmas.Bool.{ltb-true}
+use Rattle.std.proofs.lemmas.Bool.{le-ltb, ltb-false, ltb-true}
 use Rattle.std.proofs.lemmas.List.{length-map}
 use Rattle.proto_core.specs.declared.link.Link.{Link}
 use Rattle.proto_core.specs.declared.party.Number.{Number}
@@ -28,26 +28,6 @@ into_it i (l ∷ ls) h = (h.0, into_it i ls h.1)
 pub own_orders : (views : Number → View) (mail : Mail)
     → ((i : Number) → wrong_at i (mail (from_previous i)) (mail (from_next i)) (views i).got ≡ None) → AreOwn (orders_in views)
 own_orders views mail none i = into_it i (orders_in views i) (all_next i (views i).got mail (none i)).own
-
--- ---- tests
-
-pub not_below : (a b : ℕ) → b ≤ a → nat_lt a b ≡ false
-not_below zero zero h = refl
-not_below zero (suc b) h = absurd (omega (arith, h))
-not_below (suc a) zero h = refl
-not_below (suc a) (suc b) h = not_below a b (omega (arith, h))
-
-pub below_so : (a b : ℕ) → a < b → nat_lt a b ≡ true
-below_so zero zero h = absurd (omega (arith, h))
-below_so zero (suc b) h = refl
-below_so (suc a) zero h = absurd (omega (arith, h))
-below_so (suc a) (suc b) h = below_so a b (omega (arith, h))
-
-pub within : (a b : ℕ) → nat_lt a b ≡ false → b ≤ a
-within zero zero e = omega arith
-within zero (suc b) e = absurd cc
-within (suc a) zero e = omega arith
-within (suc a) (suc b) e = let h = within a b e in omega (arith, h)
 
 -- ---- of an order so many were delivered, and the others are left
 
@@ -76,4 +56,4 @@ module _ (i : Number) (v : View) (order : List Link) (taken : ℕ) (parts : link
           ap (λ n. named (nat_lt n (length v.got)) n) (sym (so_many (ltb-true taken (length v.got) e)))
       by_test false e =
           ap (λ b. named b taken) e
-          ∙ sym (ap (λ b. named b (length (links_to i order))) (not_below (length (links_to i order)) (length v.got) (whole (within taken (length v.got) e))))
+          ∙ sym (ap (λ b. named b (length (links_to i order))) (le-ltb (length (links_to i order)) (length v.got) (whole (ltb-false taken (length v.got) e))))

@@ -1,5 +1,5 @@
 -- An audit's answers are those of the six steps.
-use Rattle.std.proofs.Common.{◌≡◌, ◌+◌, ℕ, List, [], length, drop, Option, Some, None, refl, sym, ◌∙◌, ap, subst}
+use Rattle.std.proofs.Common.{◌≡◌, ◌+◌, ℕ, Bool, true, false, if◌then◌else◌, List, [], length, drop, Option, Some, None, refl, sym, ◌∙◌, ap, subst}
 use Rattle.std.specs.Prelude.{option_map}
 use Rattle.proto_core.specs.declared.party.Number.{Number}
 use Rattle.proto_core.specs.declared.party.Number.TheVariants.{One, Two, Three}
@@ -10,22 +10,29 @@ use Rattle.furthest_order.specs.Merged.{merged}
 use Rattle.furthest_order.specs.Orders.{AreOwn, left_of}
 use Rattle.audit_steps.specs.Messages.{wrong_at}
 use Rattle.merged_orders.specs.Merging.{Stuck, links_to}
-use Rattle.view_text.specs.View.{View}
+use Rattle.view_text.specs.View.{InputShare, View}
 use Rattle.view_audit.specs.declared.answer.Audit.{Audit}
 use Rattle.view_audit.specs.declared.answer.Audit.TheVariants.{Yes, No}
 use Rattle.view_audit.specs.Audit.{IsAudit, first_of_five, wanted}
-use Rattle.view_audit.specs.Found.{entries_found, scripts, tapes_found}
+use Rattle.found_inputs.specs.Found.{found_entries}
+use Rattle.found_inputs.specs.Sums.{wrong_sums_at}
+use Rattle.value_file.specs.Input.{AreInputs}
+use Rattle.value_file.specs.Public.{part_of}
+use Rattle.view_audit.specs.Found.{entries_found, lines, scripts, tapes_found, zero_lines}
 use Rattle.view_audit.specs.OneRun.{OneRun}
 use Rattle.view_audit.specs.Places.{Place, lowest, place_in, then_ask}
 use Rattle.view_audit.specs.Steps.{first_got}
 use Rattle.view_audit.proofs.Asked.{both_none, none_before, none_of_three}
+use Rattle.view_audit.proofs.Fit.{sound_found}
+use Rattle.view_audit.proofs.Whole.{deal}
+use Rattle.view_audit.proofs.Zeros.{zeros_right}
 use Rattle.view_audit.proofs.Nothing.{draws_at, inputs_at, messages_at, sums_at}
 use Rattle.view_auditor.specs.declared.places.Failure.{Failure}
 use Rattle.view_auditor.specs.declared.run.AuditedRun.{AuditedRun}
 use Rattle.view_auditor.specs.Answers.{IsAnswerOf, left_at, left_line}
 use Rattle.view_auditor.specs.Runs.{program_of, views_of}
-use Rattle.view_auditor.specs.inner.Passes.{IsFoundIn, IsGiven, draws_pass, ends_pass, first_two, inputs_pass, last_three, last_two, lengths}
-use Rattle.view_auditor.specs.inner.Passes.{line_left, messages_of, messages_pass, orders_in, parts, place_of, place_seen, report_of, taken_of}
+use Rattle.view_auditor.specs.inner.Passes.{IsFoundIn, IsGiven, draws_pass, ends_pass, first_two, inputs_pass, is_dealt, last_three, last_two, lengths}
+use Rattle.view_auditor.specs.inner.Passes.{line_left, messages_of, messages_pass, orders_in, parts, place_of, place_seen, report_of, sums_pass, taken_of}
 use Rattle.view_auditor.proofs.Dealt.{Shows, shows_found}
 use Rattle.view_auditor.proofs.Delivered.{own_orders, same_line}
 use Rattle.view_auditor.proofs.Named.{ask_both, ask_found, ask_later, lowest_same}
@@ -85,6 +92,25 @@ module _ (r : AuditedRun) where
       → place_seen (Some f) ≡ then_ask first later
   some_seen found f first later is e = sym (ask_found first later (place_of f) (sym e ∙ ap place_seen is))
 
+  -- where dealing ended the run, the sums are those of zeros
+  pub nothing_to_sum : is_dealt r ≡ false
+      → None ≡ sums_pass (parts r) (lines (parts r) (lengths r) (views_of r) One) (lines (parts r) (lengths r) (views_of r) Two)
+      (lines (parts r) (lengths r) (views_of r) Three)
+  nothing_to_sum short =
+      sym (ap (λ o. option_map (place_in Three) (option_map (λ k. 2 + k) o))
+      (ap (λ (b : Bool). wrong_sums_at (parts r) (shown b One) (shown b Two) (shown b Three)) short ∙ zeros_right (parts r)))
+    where
+      shown : Bool → Number → List InputShare
+      shown b i = if b then (views_of r i).inputs else zero_lines (parts r)
+
+  pub found_dealt : is_dealt r ≡ true
+      → entries_found (parts r) (lengths r) (views_of r)
+      ≡ found_entries (parts r) (views_of r One).inputs (views_of r Two).inputs (views_of r Three).inputs
+  found_dealt dealt = ap (λ (b : Bool). found_entries (parts r) (shown b One) (shown b Two) (shown b Three)) dealt
+    where
+      shown : Bool → Number → List InputShare
+      shown b i = if b then (views_of r i).inputs else zero_lines (parts r)
+
   -- ---- what no line that is named says
 
   module _ (two : first_two r ≡ None) where
@@ -96,6 +122,15 @@ module _ (r : AuditedRun) where
 
     pub no_sums : sums_at (program_of r) (parts r) (lengths r) r.budget (views_of r) ≡ None
     no_sums = none_before (place_in Three) (sums_at (program_of r) (parts r) (lengths r) r.budget (views_of r)) both.1
+
+    module _ (given : IsGiven r) (dealt : is_dealt r ≡ true) where
+      -- what is found has the public part that was given
+      known : part_of (entries_found (parts r) (lengths r) (views_of r)) ≡ parts r
+      known =
+          (deal given.source (program_of r) given.instances (parts r) (lengths r) r.budget (views_of r) given.may dealt no_inputs no_sums).known
+
+      pub are_inputs : AreInputs (entries_found (parts r) (lengths r) (views_of r))
+      are_inputs = (sound_found given.source (program_of r) given.instances (parts r) (lengths r) (views_of r) given.may known).form
 
     pub shows : IsGiven r → draws_pass (report_of r).drawn (views_of r) ≡ None
         → Shows (parts r) (views_of r) (entries_found (parts r) (lengths r) (views_of r)) (tapes_found (parts r) (lengths r) (views_of r)) (report_of r).gates

@@ -24,14 +24,14 @@ ask_found first later place e = ap (λ o. then_ask o later) e
 
 -- ---- the lowest of three lines
 
+abbrev three : (one two third : Option ℕ) → Option Place
+three one two third =
+    option_map_or (λ n. Some (place_in One n)) one (option_map_or (λ n. Some (place_in Two n)) two (option_map (place_in Three) third))
+
 pub lowest_is : (at : Number → Option ℕ) (i : Number) (line : ℕ) → lowest at ≡ Some (place_in i line)
     → (at i ≡ Some line) × ((h : Number) → count_of h < count_of i → at h ≡ None)
 lowest_is at i line e = by_first (at One) refl
   where
-    abbrev three : (one two third : Option ℕ) → Option Place
-    three one two third =
-        option_map_or (λ n. Some (place_in One n)) one (option_map_or (λ n. Some (place_in Two n)) two (option_map (place_in Three) third))
-
     line_of : (n : ℕ) (k : Number) → Some (place_in k n) ≡ Some (place_in i line) → (k ≡ i) × (n ≡ line)
     line_of n k h = let same : place_in k n ≡ place_in i line = cc in (ap (λ (p : Place). p.miner) same, ap (λ (p : Place). p.line) same)
 

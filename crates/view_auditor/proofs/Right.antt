@@ -1,6 +1,7 @@
 -- What is found is right.
 use Rattle.std.proofs.Common.{◌≡◌, ◌≢◌, ◌≤◌, ◌<◌, ◌+◌, ℕ, zero, suc, Bool, true, false, if◌then◌else◌, List, [], ◌∷◌, length, Option, Some, None}
 use Rattle.std.proofs.Common.{refl, sym, ◌∙◌, ap, subst, arith, length-append}
+use Rattle.std.proofs.lemmas.Bool.{le-ltb, ltb-false, ltb-true}
 use Rattle.std.proofs.lemmas.List.{length-map}
 use Rattle.std.specs.Prelude.{nat_lt, option_map}
 use Rattle.proto_core.specs.declared.link.Link.{Link}
@@ -27,7 +28,7 @@ use Rattle.view_audit.specs.Steps.{first_got}
 use Rattle.view_audit.proofs.Asked.{none_before, none_of_three, three_none}
 use Rattle.view_auditor.specs.Answers.{first_failure, left_line, order_found}
 use Rattle.view_auditor.specs.Laws.{IsRightlyFound}
-use Rattle.view_auditor.proofs.Delivered.{not_below, own_orders}
+use Rattle.view_auditor.proofs.Delivered.{own_orders}
 use Rattle.view_auditor.proofs.Named.{ask_found, ask_later, lowest_is}
 use Rattle.view_audit.proofs.Nothing.{find_nothing}
 use Rattle.view_audit.proofs.Refuted.{found, passed, refuted_by_line, refuted_by_step}
@@ -51,18 +52,6 @@ names_none false line e = refl
 names_line : (b : Bool) (line other : ℕ) → (if b then Some line else None) ≡ Some other → (b ≡ true) × (other ≡ line)
 names_line true line other e = (refl, cc)
 names_line false line other e = absurd cc
-
-within : (a b : ℕ) → nat_lt a b ≡ false → b ≤ a
-within zero zero e = omega arith
-within zero (suc b) e = absurd cc
-within (suc a) zero e = omega arith
-within (suc a) (suc b) e = let h = within a b e in omega (arith, h)
-
-below : (a b : ℕ) → nat_lt a b ≡ true → a < b
-below zero zero e = absurd cc
-below zero (suc b) e = omega arith
-below (suc a) zero e = absurd cc
-below (suc a) (suc b) e = let h = below a b e in omega (arith, h)
 
 module _
     (source : ProgramTree) (p : TypedProgramTree) (is : List Instance) (part : List PublicEntry) (lengths : List ℕ) (budget : ℕ)
@@ -103,7 +92,7 @@ module _
       nothing_left : (i : Number) → line_left i ≡ None → far.left i ≡ []
       nothing_left i e =
           let most : length (views i).got ≤ so_many i =
-          within (so_many i) (length (views i).got) (names_none (nat_lt (so_many i) (length (views i).got)) (first_got (views i) + so_many i) e) in
+          ltb-false (so_many i) (length (views i).got) (names_none (nat_lt (so_many i) (length (views i).got)) (first_got (views i) + so_many i) e) in
           let all = parted i in
           none_from_length (far.left i) (omega (arith, most, all))
 
@@ -117,7 +106,7 @@ module _
       refuted_here i line e =
           let named = lowest_is line_left i line (sym failure_is ∙ e) in
           let is_line = names_line (nat_lt (so_many i) (length (views i).got)) (first_got (views i) + so_many i) line named.0 in
-          let few : so_many i < length (views i).got = below (so_many i) (length (views i).got) is_line.0 in
+          let few : so_many i < length (views i).got = ltb-true (so_many i) (length (views i).got) is_line.0 in
           let all = parted i in
           subst (λ n. IsRefuted p part lengths budget views i n) (sym is_line.1)
           (refuted_by_line source p is part lengths budget views may none (order_found p part lengths budget views) far.left far.stuck i
@@ -133,7 +122,7 @@ module _
           let empty = ap length none_there in
           let all = parted i in
           ap (λ b. if b then Some (first_got (views i) + so_many i) else None)
-          (not_below (so_many i) (length (views i).got) (omega (arith, empty, all))))
+          (le-ltb (so_many i) (length (views i).got) (omega (arith, empty, all))))
 
     -- ---- in both cases
 

@@ -10,8 +10,10 @@ use Rattle.value_file.specs.declared.public.PublicEntry.{PublicEntry}
 use Rattle.value_file.specs.Values.{size_of}
 use Rattle.bit_words.specs.Bits.{words_for}
 use Rattle.program_trees.specs.TypedPrograms.{TypedProgramTree}
-use Rattle.language_model.specs.Effects.{Answers, World}
-use Rattle.language_model.specs.Reports.{dealing, not_dealt, words_dealt, world_of}
+use Rattle.sc_text.specs.declared.end.Ending.TheVariants as ending
+use Rattle.sc_text.specs.declared.end.TapeOwner.TheVariants.{Dealer}
+use Rattle.language_model.specs.Effects.{Answers, Ended, Short, World}
+use Rattle.language_model.specs.Reports.{Report, dealing, not_dealt, words_dealt, world_of}
 use Rattle.clear_eval.specs.Offers.{offered_part, part_given, public_given}
 use Rattle.view_model.specs.Dealing.{hidden_draws}
 use Rattle.program_views.specs.Views.{hidden_need, told_run}
@@ -38,3 +40,9 @@ module _ (p : TypedProgramTree) (part : List PublicEntry) (lengths : List ℕ) (
   told_is =
       let need : dealing world ≡ hidden_need part = need_dealt part in
       undealt_in world p budget (ap (λ n. nat_le n (get_or lengths 0 0)) need ∙ short) ∙ ap (λ n. ended_at n (get_or lengths 0 0)) need
+
+  -- so it has an end
+  pub ends_so : {X : Type 0} → (told_run p part [] lengths budget).stop ≡ Short → X
+  ends_so never =
+      let bad : Ended (ending.Tape Dealer (hidden_need part) (get_or lengths 0 0)) ≡ Short = sym (ap (λ (x : Report). x.stop) told_is) ∙ never in
+      cc

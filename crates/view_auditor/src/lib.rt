@@ -4,7 +4,7 @@
 //! drew. There is a pass for each of six steps, and each ends the audit where it names a line.
 #![tactic(auto)]
 
-mod audit;
+mod auditing;
 mod draws;
 mod ends;
 mod laws;
@@ -16,6 +16,6 @@ mod run;
 mod shares;
 mod steps;
 
-pub use audit::audit;
+pub use auditing::audit;
 pub use laws::found_answers_are_right;
 pub use run::{AuditedRun, TapeLengths};

@@ -44,7 +44,7 @@ fn line_left(taken: usize, view: &View) -> Option<u128>
 
 /// What is answered where just these were delivered.
 fn answer(far: Deliveries, run: &AuditedRun<'_>) -> Audit
-    ensures { IsAnswerOf (lowest (λ i. line_left (taken_of far.entry i) (views_of run.now i))) far.entry.delivered.items result }
+    ensures { IsAnswerOf (lowest (λ i. line_left (taken_of far i) (views_of run.now i))) far.delivered.items result }
 {
     let one = line_left(far.one, run.one);
     let two = line_left(far.two, run.two);

@@ -1,5 +1,5 @@
 // The run that three views show, in the clear.
-ghost use Rattle.std.specs.Prelude.{◌≡◌, None, IfOk};
+ghost use Rattle.std.specs.Prelude.{◌≡◌, true, false, None, IfOk};
 ghost use Rattle.clear_eval.specs.Reports.{report_seen};
 ghost use Rattle.program_trees.specs.Sound.{IsSound};
 ghost use Rattle.view_auditor.specs.Runs.{program_of};
