@@ -20,7 +20,7 @@ _secrec() {
   local current=${COMP_WORDS[COMP_CWORD]} before=$((COMP_CWORD - 1)) options used=' ' left='' option program='' miner=none list='' code='' k
   COMPREPLY=()
   if [ "$COMP_CWORD" -eq 1 ]; then
-    _secrec_words 'check compile eval need run deal map simulate twin client-map client-simulate client-twin load gather join miner trio upgrade help'
+    _secrec_words 'check compile eval need run deal map simulate twin client-map client-simulate client-twin load gather join miner trio upgrade audit help'
     return
   fi
   case ${COMP_WORDS[1]} in
@@ -41,7 +41,8 @@ _secrec() {
     miner) options='--me --share --tape --port --out --budget --wait --log' code=yes ;;
     trio) options='--input --tape --to --port --budget' ;;
     upgrade) options='--code' code=yes ;;
-    help) [ "$COMP_CWORD" -ne 2 ] || _secrec_words 'check compile eval need run deal map simulate twin client-map client-simulate client-twin load gather join miner trio upgrade'; return ;;
+    audit) options='--public --len0 --len1 --len2 --len3 --budget --record' list=views ;;
+    help) [ "$COMP_CWORD" -ne 2 ] || _secrec_words 'check compile eval need run deal map simulate twin client-map client-simulate client-twin load gather join miner trio upgrade audit'; return ;;
     *) return ;;
   esac
   # (`--name=value` comes in three words)
@@ -49,7 +50,7 @@ _secrec() {
   case ${COMP_WORDS[before]} in
     --input | --second | --public) _secrec_files '*.json'; return ;;
     --code | --tape | --to | --schedule | --record | --views | --sim | --opened | --published | --view | --share | --out | --log) _secrec_files '*'; return ;;
-    --seed | --words | --budget | --shuffle | --number | --port | --wait) return ;;
+    --seed | --words | --budget | --shuffle | --number | --port | --wait | --len0 | --len1 | --len2 | --len3) return ;;
     --me) _secrec_words '1 2 3'; return ;;
   esac
   for ((k = 2; k < COMP_CWORD; k++)); do
@@ -73,7 +74,7 @@ _secrec() {
   case $current in
     -*) _secrec_words "$left" ;;
     *)
-      if [ -n "$list" ]; then _secrec_files '*'
+      if [ "$list" = yes ] || [ -n "$list" ] && [ -n "$program" ]; then _secrec_files '*'
       elif [ -z "$miner" ]; then _secrec_words '1 2 3'
       elif [ -z "$program" ] && [ -n "$code" ]; then _secrec_files '*'
       elif [ -z "$program" ]; then _secrec_files '*.sc'

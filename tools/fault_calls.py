@@ -19,6 +19,8 @@ Outcome = collections.namedtuple("Outcome", "status out err files")
 
 SUM = ["sum.sc", "--input", "sum.json"]
 VIEWS = ["v.1", "v.2", "v.3"]
+# The lengths of the tapes in `words.tape`.
+LENGTHS = ["--len0", "4", "--len1", "1", "--len2", "1", "--len3", "1"]
 # Code of the first version of a program that does nothing.
 FIRST_CODE = bytes.fromhex("53433350010000010000 00ff0000010018")
 # The texts that three miners write of a run.
@@ -51,6 +53,7 @@ CALLS = [
     Call(["gather", "--me", "1", "--to", "all.1", "dealt.1"], ["all.1"], 0),
     Call(["join", "text.1", "text.2", "text.3"], [], 0),
     Call(["upgrade", "first.code", "--code", "second.code"], ["second.code"], 0),
+    Call(["audit", "sum.sc", *[f"seen.{number}" for number in (1, 2, 3)], "--public", "sum.public", *LENGTHS, "--record", "merged"], ["merged"], 0),
     *(served(number, 47340 + 10 * number) for number in (1, 2, 3)),
     Call(["trio", *SUM, "--tape", "words.tape", "--to", "t", "--port", "47380"], ["t.code", "t.1", "t.2", "t.3", "t.t1", "t.t2", "t.t3"], 0,
          others=["t.o1", "t.o2", "t.o3"]),
@@ -65,7 +68,8 @@ def make_files(program, folder):
     mapped = ["map", "1", *SUM, "--tape", "words.tape", "--sim", "sum.sim", "--public", "sum.public", "--opened", "sum.opened"]
     dealt = ["deal", "--input", "sum.json", "--tape", "words.tape", "--to", "dealt"]
     compiled = ["compile", "sum.sc", "--code", "sum.code"]
-    for words in (mapped, dealt, compiled):
+    viewed = ["run", *SUM, "--tape", "words.tape", "--views", "seen"]
+    for words in (mapped, dealt, compiled, viewed):
         subprocess.run([program, *words], cwd=folder, check=True, stdout=subprocess.DEVNULL)
     with open(f"{folder}/first.code", "wb") as file:
         file.write(FIRST_CODE)

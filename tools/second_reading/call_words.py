@@ -12,7 +12,7 @@ from words import FORMS, NUMBERS, SEEDS
 ALL_OPTIONS = tuple(dict.fromkeys(name for form in FORMS.values() for name in form.options))
 NO_COMMANDS = (
     "", " ", "-", "--", "---", "-h", "--help", "-V", "--version", "help", "Check", "CHECK", "chec", "checks", "check ", " check",
-    "check\n", "--check", "-check", "check=", "miner", "trio", "audit", "client", "p.sc",
+    "check\n", "--check", "-check", "check=", "miner", "trio", "audits", "client", "p.sc",
     "--input", "--input=i.json", "\u0441heck", "\udcff", "check\udcff",
 )
 NUMBERS_SHOWN = (

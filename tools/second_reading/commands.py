@@ -4,6 +4,7 @@ from __future__ import annotations
 from dataclasses import dataclass, field
 from functools import lru_cache
 
+from audits import Audit, read_view
 from chacha import tape_words
 from code_file import encode
 from clear import (
@@ -22,7 +23,7 @@ from refusals import CallRefused
 from shares import gathered, read_share
 from tree import Data
 from verdict import Verdict, judge
-from words import Usage, Words, read_words
+from words import LENGTHS, Usage, Words, read_words
 
 DEFAULT_BUDGET = 1_000_000
 DEFAULT_WORDS = 65_536
@@ -75,6 +76,7 @@ class Caller:
             "simulate": self.simulate, "twin": self.twin, "deal": self.deal, "load": self.load,
             "gather": self.gather, "join": self.join, "miner": self.miner, "trio": self.trio, "upgrade": self.upgrade,
             "client-map": self.client_map, "client-simulate": self.client_simulate, "client-twin": self.client_twin,
+            "audit": self.audit,
         }
         try:
             asked = read_words(words)
@@ -294,6 +296,17 @@ class Caller:
         if need > have:
             return Answer(8, f"end tape 0 need {need} have {have} cost 0\n".encode())
         raise NeedsPeers
+
+    def audit(self, words: Words) -> Answer:
+        """Whether three views are of one run; no is an answer, and no refusal."""
+        program = self.program(words["program"])
+        part = read_public(self.read(words["public"]))
+        views = [read_view(self.read(words[name])) for name in ("first", "second", "third")]
+        audit = Audit(program, part, views, [words.number(name) for name in LENGTHS], budget_of(words))
+        failure = audit.failure()
+        if failure:
+            return Answer(19, "no {} line {}\n".format(*failure).encode())
+        return Answer(out=b"yes\n", written=[(words["record"], write_schedule(audit.order))] if "record" in words else [])
 
     def load(self, words: Words) -> Answer:
         inputs = load_inputs(words.number("number"))

@@ -74,6 +74,8 @@ LINES = (
     Line("gather", ("first.2", "second.2"), (("me", "2"), ("to", "g"))),
     Line("join", ("text.1", "text.2", "text.3")),
     Line("upgrade", ("code.first",), (("code", "code"),)),
+    Line("audit", ("p.sc", "view.1", "view.2", "view.3"),
+         (("public", "public"), *((f"len{party}", str(length)) for party, length in enumerate(LENGTHS)), ("budget", "100"), ("record", "r"))),
     # (these two end at a file that isn't there: else they would wait for peers, or start some)
     Line("miner", ("gone",), (("me", "2"), ("share", "first.2"), ("tape", "first.t2"), ("port", "47310"), ("out", "y"), ("budget", "100"))),
     Line("trio", ("gone",), (("input", "i.json"), ("tape", "t"), ("to", "d"), ("port", "47310"), ("budget", "100"))),
@@ -87,7 +89,7 @@ TEXTS = [
     for first, second, bits in ((MASK, 7, 1), (5, 18, 3), (3, 0, 4))
 ]
 WRITTEN = {
-    "compile": ("code",), "run": ("views", "record"), "map": ("sim", "public", "opened"), "simulate": ("view",), "twin": ("to",),
+    "compile": ("code",), "run": ("views", "record"), "audit": ("record",), "map": ("sim", "public", "opened"), "simulate": ("view",), "twin": ("to",),
     "client-map": ("sim", "public", "opened", "published"), "client-simulate": ("view",), "client-twin": ("to",), "deal": ("to",), "gather": ("to",), "upgrade": ("code",),
 }
 FILE_OPTIONS = ("input", "second", "public", "opened", "published", "tape", "sim", "schedule")
@@ -113,7 +115,7 @@ def made_files() -> dict[str, bytes]:
     given = ["p.sc", "--input", "i.json", "--tape", "t"]
     for words in (["map", "2", *given, "--sim", "sim", "--public", "public", "--opened", "opened"],
                   ["client-map", *given, "--sim", "client_sim", "--public", "public", "--opened", "opened", "--published", "published"],
-                  ["run", *given, "--shuffle", SEED, "--record", "s"]):
+                  ["run", *given, "--shuffle", SEED, "--record", "s", "--views", "view"]):
         answer = caller.call(words)
         files.update({path: data for path, data in answer.written if data is not None})
     files["other.json"] = write_inputs([replace(entry, name=f"other_{entry.name}") for entry in inputs(20, (1, 1))])

@@ -43,8 +43,13 @@ FORMS = {
     "upgrade": Form(("old",), ("code",)),
     "miner": Form(("code",), ("me", "share", "tape", "port", "out"), ("budget",)),
     "trio": Form(("program",), ("input", "tape", "to", "port"), ("budget",)),
+    "audit": Form(("program", "first", "second", "third"), ("public", "len0", "len1", "len2", "len3"), ("budget", "record")),
 }
-NUMBERS = {"miner": (1, 3), "me": (1, 3), "port": (1, 65_533), "budget": (0, WORD_LIMIT), "number": (0, WORD_LIMIT), "words": (0, TAPE_WORDS_LIMIT)}
+LENGTHS = ("len0", "len1", "len2", "len3")
+NUMBERS = {
+    "miner": (1, 3), "me": (1, 3), "port": (1, 65_533), "budget": (0, WORD_LIMIT), "number": (0, WORD_LIMIT), "words": (0, TAPE_WORDS_LIMIT),
+    **dict.fromkeys(LENGTHS, (0, WORD_LIMIT)),
+}
 SEEDS = ("seed", "shuffle")
 SEED_FORM = re.compile(r"[0-9a-f]{64}")
 DIGITS = re.compile(r"[0-9]+")

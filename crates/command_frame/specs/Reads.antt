@@ -105,6 +105,10 @@ KeepsTo reads written result = MatchResult result (PlanNames written) (StopNames
 
 -- ---- ends
 
+-- a command that isn't refused ends so
+abbrev pub EndsIn : {E : Type 0} → (ends : Status → Bool) → Result Plan E → Type 0
+EndsIn ends result = IfOk result (λ plan. ends plan.status ≡ true)
+
 -- a command that isn't refused is done
 abbrev pub EndsDone : {E : Type 0} → Result Plan E → Type 0
 EndsDone result = IfOk result (λ plan. is_done plan.status ≡ true)

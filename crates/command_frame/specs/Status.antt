@@ -2,7 +2,7 @@
 use Rattle.std.specs.Prelude.{ℕ, Bool, true, false, ◌||◌}
 use Rattle.command_frame.specs.declared.status.Status.{Status}
 use Rattle.command_frame.specs.declared.status.Status.TheVariants.{Done, Trap, Usage, Program, Input, TapeFile, Schedule, Budget, Tape, File, Link}
-use Rattle.command_frame.specs.declared.status.Status.TheVariants.{Peer, Child, Disagree, NotAlike, OpenedShort, Write, Memory}
+use Rattle.command_frame.specs.declared.status.Status.TheVariants.{Peer, Child, Disagree, NotAlike, OpenedShort, Write, NotOneRun, Memory}
 
 abbrev pub code_of : Status → ℕ
 code_of Done = 0
@@ -22,6 +22,7 @@ code_of Disagree = 13
 code_of NotAlike = 14
 code_of OpenedShort = 15
 code_of Write = 16
+code_of NotOneRun = 19
 code_of Memory = 20
 
 -- a command that isn't refused ends so
@@ -30,7 +31,14 @@ is_end Done = true
 is_end Trap = true
 is_end Budget = true
 is_end Tape = true
+is_end NotOneRun = true
 is_end _ = false
+
+-- an audit of three views has two ends: they are of one run, or they are of none
+abbrev pub is_verdict : Status → Bool
+is_verdict Done = true
+is_verdict NotOneRun = true
+is_verdict _ = false
 
 -- a command that runs no program has one end
 abbrev pub is_done : Status → Bool

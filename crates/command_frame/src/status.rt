@@ -38,6 +38,8 @@ pub enum Status {
     OpenedShort,
     /// Standard output failed.
     Write,
+    /// Three views are of no run.
+    NotOneRun,
     /// Memory ran out.
     Memory,
 }
@@ -65,6 +67,7 @@ impl Status {
             Status::NotAlike => 14,
             Status::OpenedShort => 15,
             Status::Write => 16,
+            Status::NotOneRun => 19,
             Status::Memory => 20,
         }
     }

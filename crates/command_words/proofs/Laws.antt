@@ -14,7 +14,7 @@ abbrev pub command_names : List Text
 command_names =
     codes "run" ∷ codes "deal" ∷ codes "eval" ∷ codes "need" ∷ codes "check" ∷ codes "compile" ∷ codes "upgrade" ∷ codes "map" ∷ codes "simulate"
     ∷ codes "twin" ∷ codes "client-map" ∷ codes "client-simulate" ∷ codes "client-twin" ∷ codes "load" ∷ codes "gather" ∷ codes "miner" ∷ codes "trio"
-    ∷ codes "join" ∷ []
+    ∷ codes "join" ∷ codes "audit" ∷ []
 
 abbrev pub IsOneOf : List Text → Text → Type 0
 IsOneOf [] text = ⊥

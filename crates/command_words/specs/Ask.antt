@@ -4,6 +4,7 @@ use Rattle.std.specs.Str.{bytes_eq}
 use Rattle.clap.specs.Words.{Kinds, Row, Text, all_of, fault_of, first_of, subcommand_of}
 use Rattle.proto_core.specs.declared.party.Number.{Number}
 use Rattle.command_words.specs.Numbers.{number_of, miner_of, port_of, seed_of}
+use Rattle.command_words.specs.declared.command.TapeLengths.{TapeLengths}
 use Rattle.command_words.specs.Shapes.{secrec_app}
 
 -- where the tapes come from: a tape file, or a seed and how many words each tape has
@@ -148,6 +149,22 @@ pub record TrioAsk : Type 0 where
   pub port : ℕ
   pub budget : ℕ
 
+pub record AuditAsk : Type 0 where
+  pub program : Text
+  -- the views of miners 1, 2 and 3
+  pub first : Text
+  pub second : Text
+  pub third : Text
+  pub public : Text
+  pub lengths : TapeLengths
+  pub budget : ℕ
+  -- where the order of deliveries is written
+  pub recorded : Option Text
+
+-- the dealer's first
+abbrev pub four_lengths : TapeLengths → List ℕ
+four_lengths lengths = lengths.dealer ∷ lengths.first ∷ lengths.second ∷ lengths.third ∷ []
+
 -- a command, without where its words lie in memory
 pub data Ask : Type 0 where
   run : RunAsk → Ask
@@ -168,6 +185,7 @@ pub data Ask : Type 0 where
   join : JoinAsk → Ask
   miner : MinerAsk → Ask
   trio : TrioAsk → Ask
+  audit : AuditAsk → Ask
 
 infixl 10 ◌>>=◌
 abbrev pub ◌>>=◌ : {A B : Type 0} → Option A → (A → Option B) → Option B
@@ -364,6 +382,30 @@ trio_of rows = do
     budget = budget;
   })
 
+-- how many words the four tapes have
+unfoldable pub lengths_in : List Row → Option TapeLengths
+lengths_in rows = do
+  dealer ← number_of (required_of (codes "len0") rows)
+  one ← number_of (required_of (codes "len1") rows)
+  two ← number_of (required_of (codes "len2") rows)
+  three ← number_of (required_of (codes "len3") rows)
+  Some (record { dealer = dealer; first = one; second = two; third = three })
+
+unfoldable pub audit_of : List Row → Option AuditAsk
+audit_of rows = do
+  lengths ← lengths_in rows
+  budget ← number_or default_budget (first_of (codes "budget") rows)
+  Some (record {
+    program = required_of (codes "program") rows;
+    first = required_of (codes "first") rows;
+    second = required_of (codes "second") rows;
+    third = required_of (codes "third") rows;
+    public = required_of (codes "public") rows;
+    lengths = lengths;
+    budget = budget;
+    recorded = first_of (codes "record") rows;
+  })
+
 -- the command of this name, with what `clap` matched after its name
 unfoldable pub named : Text → List Row → Option Ask
 named name rows =
@@ -385,6 +427,7 @@ named name rows =
     else if bytes_eq name (codes "miner") then option_map miner (miner_ask_of rows)
     else if bytes_eq name (codes "trio") then option_map trio (trio_of rows)
     else if bytes_eq name (codes "upgrade") then option_map upgrade (upgrade_of rows)
+    else if bytes_eq name (codes "audit") then option_map audit (audit_of rows)
     else None
 
 -- this, where nothing refuses the words

@@ -112,6 +112,11 @@ miner_app = command_app (codes "miner") (codes "code" ∷ [])
 unfoldable pub trio_app : App
 trio_app = command_app (codes "trio") (codes "program" ∷ []) (codes "input" ∷ codes "tape" ∷ codes "to" ∷ codes "port" ∷ []) eval_options
 
+-- audit PROGRAM V1 V2 V3 --public F --len0 N --len1 N --len2 N --len3 N, and the options
+unfoldable pub audit_app : App
+audit_app = command_app (codes "audit") (codes "program" ∷ codes "first" ∷ codes "second" ∷ codes "third" ∷ [])
+    (codes "public" ∷ codes "len0" ∷ codes "len1" ∷ codes "len2" ∷ codes "len3" ∷ []) (codes "budget" ∷ codes "record" ∷ [])
+
 -- no command yet: the words begin after the program's name, and `help` is no command
 unfoldable pub bare_app : App
 bare_app = record (new_app (codes "secrec")) { top = record (new_app (codes "secrec")).top { no_binary_name = true; disable_help_subcommand = true } }
@@ -125,4 +130,4 @@ unfoldable pub secrec_app : App
 secrec_app = fold with_command bare_app
     (run_app ∷ deal_app ∷ evaluation_app (codes "eval") ∷ evaluation_app (codes "need") ∷ check_app ∷ compile_app ∷ upgrade_app ∷ map_app ∷ simulate_app
     ∷ twin_app ∷ client_map_app ∷ client_simulate_app ∷ client_twin_app ∷ load_app
-    ∷ gather_app ∷ miner_app ∷ trio_app ∷ join_app ∷ [])
+    ∷ gather_app ∷ miner_app ∷ trio_app ∷ join_app ∷ audit_app ∷ [])

@@ -10,10 +10,11 @@ use Rattle.command_words.specs.Ask.{run_of, deal_of, compile_of, eval_of, map_of
 use Rattle.command_words.specs.Ask.{gather, gather_of, others_of}
 use Rattle.command_words.specs.Ask.{client_map, client_map_of, client_simulate, client_simulate_of, client_twin, client_twin_of}
 use Rattle.command_words.specs.Ask.{order_of, number_or, required_of}
+use Rattle.command_words.specs.Ask.{audit, audit_of, lengths_in}
 use Rattle.command_words.specs.Ask.{join, join_of, miner, miner_ask_of, trio, trio_of, upgrade, upgrade_of}
 use Rattle.command_words.specs.Numbers.{number_of, miner_of, port_of, seed_of}
 use Rattle.proto_core.specs.declared.party.Number.TheVariants.{One, Two, Three}
-use Rattle.command_words.specs.Shapes.{gather_app, words_rule, join_app, miner_app, trio_app, secrec_app, run_app, deal_app, check_app}
+use Rattle.command_words.specs.Shapes.{audit_app, gather_app, words_rule, join_app, miner_app, trio_app, secrec_app, run_app, deal_app, check_app}
 use Rattle.command_words.specs.Shapes.{compile_app, evaluation_app, view_app, map_app, simulate_app, twin_app}
 use Rattle.command_words.specs.Shapes.{client_app, client_map_app, client_simulate_app, client_twin_app}
 use Rattle.command_words.specs.Shapes.{load_app, command_app, bare_app, eval_options, with_options}
@@ -27,6 +28,7 @@ unfolding clap_on_literals hex_on_literals secrec_app run_app deal_app check_app
     client_map_of client_simulate_of client_twin_of
     source_of seeded_source order_of number_or required_of number_of miner_of seed_of gather_app words_rule gather_of others_of
     join_app miner_app trio_app join_of miner_ask_of trio_of port_of upgrade_app upgrade_of
+    audit_app audit_of lengths_in
 words_on_literals = tt
 
 -- run p.sc --input i, and then these words
@@ -460,3 +462,36 @@ help = refl
 help_command : words_of (codes "help" ∷ codes "run" ∷ []) ≡ None
 unfolding words_on_literals
 help_command = refl
+
+-- audit p.sc a b c --public f, three lengths, and then these words
+abbrev pub audit_with : List Text → Option Ask
+audit_with more =
+    words_of
+    (codes "audit" ∷ codes "p.sc" ∷ codes "a" ∷ codes "b" ∷ codes "c" ∷ codes "--public=f" ∷ codes "--len0=4" ∷ codes "--len1=1" ∷ codes "--len2=2" ∷ more)
+
+audit_words : audit_with (codes "--len3" ∷ codes "18446744073709551615" ∷ codes "--record" ∷ codes "r" ∷ [])
+    ≡ Some (audit (record {
+      program = codes "p.sc";
+      first = codes "a";
+      second = codes "b";
+      third = codes "c";
+      public = codes "f";
+      lengths = record { dealer = 4; first = 1; second = 2; third = 18446744073709551615 };
+      budget = 1000000;
+      recorded = Some (codes "r");
+    }))
+unfolding words_on_literals
+audit_words = refl
+
+a_length_too_few : audit_with [] ≡ None
+unfolding words_on_literals
+a_length_too_few = refl
+
+a_length_too_large : audit_with (codes "--len3=18446744073709551616" ∷ []) ≡ None
+unfolding words_on_literals
+a_length_too_large = refl
+
+-- a fourth view
+a_view_too_many : audit_with (codes "--len3=1" ∷ codes "d" ∷ []) ≡ None
+unfolding words_on_literals
+a_view_too_many = refl

@@ -24,11 +24,13 @@ use Rattle.command_words.specs.declared.command.GatherWords.{GatherWords}
 use Rattle.command_words.specs.declared.command.JoinWords.{JoinWords}
 use Rattle.command_words.specs.declared.command.MinerWords.{MinerWords}
 use Rattle.command_words.specs.declared.command.TrioWords.{TrioWords}
+use Rattle.command_words.specs.declared.command.AuditWords.{AuditWords}
 use Rattle.command_words.specs.declared.command.Command.{Command}
 use Rattle.command_words.specs.declared.command.Command.TheVariants as commands
 use Rattle.command_words.specs.declared.command.WordsErr.{WordsErr}
 use Rattle.command_words.specs.declared.command.WordsErr.TheVariants.{Usage, Memory}
 use Rattle.command_words.specs.Ask.{Ask, CompileAsk, DealAsk, EvalAsk, Order, RunAsk, Source, check, compile, deal, eval, file, in_turn, need, run}
+use Rattle.command_words.specs.Ask.{AuditAsk, audit}
 use Rattle.command_words.specs.Ask.{JoinAsk, MinerAsk, TrioAsk, UpgradeAsk, join, miner, trio, upgrade}
 use Rattle.command_words.specs.Ask.{ClientMapAsk, ClientSimulateAsk, ClientTwinAsk, client_map, client_simulate, client_twin}
 use Rattle.command_words.specs.Ask.{GatherAsk, gather, MapAsk, SimulateAsk, TwinAsk, load, map_tape, scheduled, seeded, shuffled, simulate, twin}
@@ -165,6 +167,18 @@ trio_ask w = record {
   budget = w.budget;
 }
 
+abbrev pub audit_ask : AuditWords → AuditAsk
+audit_ask w = record {
+  program = string_bytes w.program;
+  first = string_bytes w.first;
+  second = string_bytes w.second;
+  third = string_bytes w.third;
+  public = string_bytes w.public;
+  lengths = w.lengths;
+  budget = w.budget;
+  recorded = option_map string_bytes w.recorded;
+}
+
 abbrev pub ask_of : Command → Ask
 ask_of (commands.Run w) = run (run_ask w)
 ask_of (commands.Deal w) = deal (deal_ask w)
@@ -184,6 +198,7 @@ ask_of (commands.Gather w) = gather (gather_ask w)
 ask_of (commands.Join w) = join (join_ask w)
 ask_of (commands.Miner w) = miner (miner_ask w)
 ask_of (commands.Trio w) = trio (trio_ask w)
+ask_of (commands.Audit w) = audit (audit_ask w)
 
 -- the answer, seen by `view`, is the value that is wanted; Usage says that there is none, and Memory says nothing
 abbrev pub Reads : {X Y : Type 0} → (X → Y) → Option Y → Result X WordsErr → Type 0

@@ -1,9 +1,10 @@
 //! The `clap` command that reads the words.
 ghost use Rattle.std.specs.Prelude.{◌≡◌, IfOk, map};
-ghost use Rattle.command_words.specs.Shapes.{gather_app, words_rule, join_app, miner_app, trio_app, word_rule, option_rule, run_app, deal_app};
+ghost use Rattle.command_words.specs.Shapes.{audit_app, gather_app, words_rule, join_app, miner_app, trio_app, word_rule, option_rule, run_app, deal_app};
 ghost use Rattle.command_words.specs.Shapes.{check_app, compile_app, eval_options, evaluation_app, view_app, map_app, simulate_app, twin_app};
 ghost use Rattle.command_words.specs.Shapes.{load_app, upgrade_app, with_options, bare_app, secrec_app};
-ghost use Rattle.command_words.specs.inner.Parts.{gather_required, map_required, miner_required, run_options, simulate_options, trio_required};
+ghost use Rattle.command_words.specs.inner.Parts.{audit_options, audit_required, gather_required, map_required, miner_required, run_options};
+ghost use Rattle.command_words.specs.inner.Parts.{simulate_options, trio_required};
 ghost use Rattle.command_words.specs.Shapes.{client_app, client_map_app, client_simulate_app, client_twin_app};
 ghost use Rattle.command_words.specs.inner.Parts.{client_map_required, client_simulate_required, client_viewing_app};
 ghost use Rattle.command_words.specs.inner.Parts.{input_app, clear_app, checking_app, program_app, viewing_app, loading_app, gathering_app};
@@ -352,6 +353,37 @@ fn trio_command<'a>(alloc: Global) -> Result<Command<'a>, AllocError>
     with_options(alloc, command, false, eval_options())
 }
 
+static AUDIT_REQUIRED: [&str; 5] = ["public", "len0", "len1", "len2", "len3"];
+
+static AUDIT_OPTIONS: [&str; 2] = ["budget", "record"];
+
+// The options of `audit` that must be there.
+#[tactic(auto, unfolding(crate::specs::inner::Parts::audit_required))]
+fn audit_required() -> &'static [&'static str]
+    ensures { map (λ s. s.now) result.now ≡ audit_required }
+{
+    AUDIT_REQUIRED.as_slice()
+}
+
+// The options of `audit` that may be left out.
+#[tactic(auto, unfolding(crate::specs::inner::Parts::audit_options))]
+fn audit_options() -> &'static [&'static str]
+    ensures { map (λ s. s.now) result.now ≡ audit_options }
+{
+    AUDIT_OPTIONS.as_slice()
+}
+
+fn audit_command<'a>(alloc: Global) -> Result<Command<'a>, AllocError>
+    ensures { IfOk result (λ c. Builds audit_app c) }
+{
+    let command = with_word(alloc, Ok(Command::new(alloc, "audit")), "program");
+    let command = with_word(alloc, command, "first");
+    let command = with_word(alloc, command, "second");
+    let command = with_word(alloc, command, "third");
+    let command = with_options(alloc, command, true, audit_required());
+    with_options(alloc, command, false, audit_options())
+}
+
 // The command with one more command after it; without memory for either there is none.
 fn with_command<'a>(
     command: Result<Command<'a>, AllocError>,
@@ -437,11 +469,12 @@ fn gathering_commands<'a>(alloc: Global) -> Result<Command<'a>, AllocError>
     with_command(loading_commands(alloc), gather_command(alloc))
 }
 
-/// The whole command: those, and the ones of three miners that run as programs of their own.
+/// The whole command: those, the ones of three miners that run as programs of their own, and the one that audits views.
 pub(crate) fn secrec_command<'a>(alloc: Global) -> Result<Command<'a>, AllocError>
     ensures { IfOk result (λ c. Builds secrec_app c) }
 {
     let served = with_command(gathering_commands(alloc), miner_command(alloc));
     let launched = with_command(served, trio_command(alloc));
-    with_command(launched, join_command(alloc))
+    let joined = with_command(launched, join_command(alloc));
+    with_command(joined, audit_command(alloc))
 }

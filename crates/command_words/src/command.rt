@@ -236,6 +236,44 @@ pub struct TrioWords {
     pub budget: u64,
 }
 
+/// How many words the tapes of the dealer and of miners 1, 2 and 3 have.
+#[derive(Clone, Copy)]
+pub struct TapeLengths {
+    pub dealer: u64,
+    pub first: u64,
+    pub second: u64,
+    pub third: u64,
+}
+
+/// The words of `audit`: the paths of the program, of the views of miners 1, 2 and 3 and of the public part of the inputs, the lengths of the
+/// tapes, the most that the run may cost, and the path to which an order of deliveries is written.
+pub struct AuditWords {
+    pub program: String,
+    pub first: String,
+    pub second: String,
+    pub third: String,
+    pub public: String,
+    pub lengths: TapeLengths,
+    pub budget: u64,
+    pub recorded: Option<String>,
+}
+
+// Written out, so that an early exit calls this once.
+impl Drop for AuditWords {
+    fn drop(self) {
+        let AuditWords {
+            program: _,
+            first: _,
+            second: _,
+            third: _,
+            public: _,
+            lengths: _,
+            budget: _,
+            recorded: _,
+        } = self;
+    }
+}
+
 /// A command, with its words.
 pub enum Command {
     Check(CheckWords),
@@ -256,6 +294,7 @@ pub enum Command {
     Join(JoinWords),
     Miner(MinerWords),
     Trio(TrioWords),
+    Audit(AuditWords),
 }
 
 // Written out, so that an early exit calls this once.
@@ -279,7 +318,8 @@ impl Drop for Command {
             | Command::Gather(_)
             | Command::Join(_)
             | Command::Miner(_)
-            | Command::Trio(_) => {}
+            | Command::Trio(_)
+            | Command::Audit(_) => {}
         }
     }
 }

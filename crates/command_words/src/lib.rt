@@ -12,9 +12,10 @@ mod tape_seed;
 mod values;
 
 pub use command::{
-    CheckWords, ClientMapWords, ClientSimulateWords, ClientTwinWords, Command, CompileWords,
-    DealWords, DeliveryOrder, EvalWords, GatherWords, JoinWords, LoadWords, MapWords, MinerWords,
-    RunWords, SimulateWords, TapeOrigin, TrioWords, TwinWords, UpgradeWords, WordsErr,
+    AuditWords, CheckWords, ClientMapWords, ClientSimulateWords, ClientTwinWords, Command,
+    CompileWords, DealWords, DeliveryOrder, EvalWords, GatherWords, JoinWords, LoadWords, MapWords,
+    MinerWords, RunWords, SimulateWords, TapeLengths, TapeOrigin, TrioWords, TwinWords,
+    UpgradeWords, WordsErr,
 };
 pub use reading::read;
 pub use tape_seed::TapeSeed;

@@ -3,6 +3,7 @@ ghost use Rattle.std.specs.Prelude.{◌≡◌, ◌≤◌, Some, drop, map, optio
 ghost use Rattle.clap.specs.Words.{found_of, first_of, rows_of};
 ghost use Rattle.command_words.specs.Ask.{required_of, default_budget, number_or, seeded_source, source_of, order_of, run_of, deal_of};
 ghost use Rattle.command_words.specs.Ask.{gather, gather_of, others_of};
+ghost use Rattle.command_words.specs.Ask.{audit, audit_of, lengths_in};
 ghost use Rattle.command_words.specs.Ask.{join, join_of, miner as miner_words, miner_ask_of, trio, trio_of, upgrade, upgrade_of};
 ghost use Rattle.command_words.specs.Ask.{compile_of, eval_of, map_of, simulate_of, twin_of, named};
 ghost use Rattle.command_words.specs.Ask.{run, deal, check, compile, eval, need, map_tape, simulate, twin, load};
@@ -11,9 +12,10 @@ ghost use Rattle.command_words.specs.Numbers.{miner_of, number_of, port_of};
 ghost use Rattle.command_words.specs.Views.{Reads, text_in, source_ask, order_ask, eval_ask, ask_of};
 
 use crate::command::{
-    CheckWords, ClientMapWords, ClientSimulateWords, ClientTwinWords, Command, CompileWords,
-    DealWords, DeliveryOrder, EvalWords, GatherWords, JoinWords, LoadWords, MapWords, MinerWords,
-    RunWords, SimulateWords, TapeOrigin, TrioWords, TwinWords, UpgradeWords, WordsErr,
+    AuditWords, CheckWords, ClientMapWords, ClientSimulateWords, ClientTwinWords, Command,
+    CompileWords, DealWords, DeliveryOrder, EvalWords, GatherWords, JoinWords, LoadWords, MapWords,
+    MinerWords, RunWords, SimulateWords, TapeLengths, TapeOrigin, TrioWords, TwinWords,
+    UpgradeWords, WordsErr,
 };
 use crate::numbers::{miner, number, port, seed};
 use crate::tape_seed::TapeSeed;
@@ -540,6 +542,71 @@ fn read_trio(alloc: Global, matches: &ArgMatches) -> Result<Command, WordsErr>
     }))
 }
 
+// How many words a tape has.
+#[tactic(auto, unfolding(crate::specs::Ask::required_of))]
+fn length_in(matches: &ArgMatches, id: &str) -> Option<u64>
+    ensures { result ≡ number_of (required_of id.now (rows_of (found_of matches.now))) }
+{
+    number(value(matches, id).unwrap_or(""))
+}
+
+// How many words the tapes of the dealer and of the three miners have.
+#[tactic(auto, unfolding(crate::specs::Ask::lengths_in))]
+fn lengths_in(matches: &ArgMatches) -> Option<TapeLengths>
+    ensures { result ≡ lengths_in (rows_of (found_of matches.now)) }
+{
+    Some(TapeLengths {
+        dealer: length_in(matches, "len0")?,
+        first: length_in(matches, "len1")?,
+        second: length_in(matches, "len2")?,
+        third: length_in(matches, "len3")?,
+    })
+}
+
+// The paths of the views of miners 1, 2 and 3.
+#[derive(Drop)]
+struct ViewPaths {
+    first: String,
+    second: String,
+    third: String,
+}
+
+fn view_paths_of(alloc: Global, matches: &ArgMatches) -> Result<ViewPaths, AllocError>
+    ensures first { IfOk result (λ p. string_bytes p.first ≡ required_of (codes "first") (rows_of (found_of matches.now))) }
+    ensures second { IfOk result (λ p. string_bytes p.second ≡ required_of (codes "second") (rows_of (found_of matches.now))) }
+    ensures third { IfOk result (λ p. string_bytes p.third ≡ required_of (codes "third") (rows_of (found_of matches.now))) }
+{
+    Ok(ViewPaths {
+        first: required(alloc, matches, "first")?,
+        second: required(alloc, matches, "second")?,
+        third: required(alloc, matches, "third")?,
+    })
+}
+
+// `audit`, with its words.
+#[tactic(auto, unfolding(crate::specs::Ask::audit_of))]
+fn read_audit(alloc: Global, matches: &ArgMatches) -> Result<Command, WordsErr>
+    ensures { Reads ask_of (option_map audit (audit_of (rows_of (found_of matches.now)))) result }
+{
+    let (Some(lengths), Some(budget)) = (lengths_in(matches), budget_in(matches)) else {
+        return Err(WordsErr::Usage);
+    };
+    let program = required(alloc, matches, "program")?;
+    let public = required(alloc, matches, "public")?;
+    let recorded = own_text(alloc, value(matches, "record"))?;
+    let views = view_paths_of(alloc, matches)?;
+    Ok(Command::Audit(AuditWords {
+        program,
+        first: views.first,
+        second: views.second,
+        third: views.third,
+        public,
+        lengths,
+        budget,
+        recorded,
+    }))
+}
+
 /// The command of this name, with what `clap` matched after its name.
 #[tactic(auto, unfolding(crate::specs::Ask::named))]
 pub(crate) fn named(alloc: Global, name: &str, matches: &ArgMatches) -> Result<Command, WordsErr>
@@ -598,6 +665,9 @@ pub(crate) fn named(alloc: Global, name: &str, matches: &ArgMatches) -> Result<C
     }
     if name == "upgrade" {
         return read_upgrade(alloc, matches);
+    }
+    if name == "audit" {
+        return read_audit(alloc, matches);
     }
     Err(WordsErr::Usage)
 }

@@ -71,7 +71,7 @@ refused_by c = Err c
 abbrev had : List ℕ → Bytes
 had bytes = Ok bytes
 
-read_refused : {A E : Type 0} (files : Contents) (path : List ℕ) (cause : E → Cause) (read : List ℕ → Result A E) (c : Cause)
+pub read_refused : {A E : Type 0} (files : Contents) (path : List ℕ) (cause : E → Cause) (read : List ℕ → Result A E) (c : Cause)
     → (bytes_at files path >>= λ bytes. read_or cause (read bytes)) ≡ Err c → ReadRefused files path cause read c
 read_refused {A} {E} files path cause read c is =
     elim (steps (bytes_at files path) (λ bytes. read_or cause (read bytes)) (Err c) is) [

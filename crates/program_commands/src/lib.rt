@@ -28,7 +28,7 @@ pub use orders::read_delivery;
 pub use programs::{read_typed, typed_of_text};
 pub use readers::{
     read_inputs, read_opened_file, read_public_file, read_published_file, read_share_file,
-    read_tape_file, tape_stop,
+    read_tape_file, refusal_of, tape_stop,
 };
 pub use text_laws::texts_have_lines_and_names;
 pub use upgrade::plan_upgrade;

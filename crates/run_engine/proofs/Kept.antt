@@ -12,6 +12,8 @@ use Rattle.run_engine.specs.Deeds.{Deeds}
 use Rattle.run_engine.specs.Headline.{Given, Headline, IsGiven}
 use Rattle.run_engine.specs.Laws.{Laws}
 use Rattle.run_engine.specs.Told.{contents_in}
+use Rattle.audit_command.proofs.Says.{audits_say_so}
+use Rattle.run_engine.proofs.Audits.{audit_keeps}
 use Rattle.run_engine.proofs.Gathers.{gather_keeps}
 use Rattle.run_engine.proofs.Headline.{ends_by_budget_and_tapes, prints, refuses, schedule_refused, tells_so, writes}
 use Rattle.run_engine.proofs.Miners.{made_taken, maps_made, miners_run, told_by_miners, views_made, views_seen}
@@ -57,6 +59,7 @@ module _ (words : List (List ℕ)) (m m' : Moment) (s : Status) (call : Call wor
     mines = mine_keeps words m m' s call;
     runs_trio = λ ask asks told. trio_keeps words m m' s call ask asks told;
     trio_starts_where_dealt = starts_where_dealt words m m' s deeds;
+    audits = audit_keeps words m m' s call;
   }
 
 module _ (words : List (List ℕ)) (m m' : Moment) (s : Status) (call : Call words m m' s) where
@@ -100,4 +103,5 @@ laws_kept words files = record {
   runs_open_what_they_tell = λ program entries lengths budget. opened_is_told (world_of Clear (offered entries lengths)) program budget [];
   mapped_files_are_simulated = λ mapping program entries tapes asks held. mapped_simulated mapping files program entries tapes held;
   twin_files_are_read_again = λ ask program first second tapes asks held alike. twin_read_again ask files program first second tapes held alike;
+  audits_say_so = λ ask program part views asks held. audits_say_so ask files program part views held;
 }

@@ -14,7 +14,7 @@ use Rattle.command_frame.specs.Stops.{status_of}
 use Rattle.command_frame.specs.Whole.{status_in}
 use Rattle.command_frame.proofs.Deciding.{same_sink}
 use Rattle.command_words.specs.Ask.{Ask, check, compile, deal, eval, gather, join, load, map_tape, miner, need, run, simulate, trio, twin}
-use Rattle.command_words.specs.Ask.{upgrade}
+use Rattle.command_words.specs.Ask.{audit, upgrade}
 use Rattle.command_words.specs.Ask.{client_map, client_simulate, client_twin}
 use Rattle.miner_commands.specs.Load.{load_effect}
 use Rattle.run_engine.specs.Loading.{Printed}
@@ -63,6 +63,7 @@ load_stop (gather ask) stop o is = tt
 load_stop (join ask) stop o is = tt
 load_stop (miner ask) stop o is = tt
 load_stop (trio ask) stop o is = tt
+load_stop (audit ask) stop o is = tt
 
 pub load_end : (ask : Ask) (plan : Plan) (f f' : FilesState) (o o' : SinkState) (r : Result Status Stop) → DecidesLoad ask (Ok plan)
     → Finishes (effect_of plan) f f' o o' r → DoesLoad ask o o' r
@@ -85,3 +86,4 @@ load_end (gather ask) plan f f' o o' r is part = tt
 load_end (join ask) plan f f' o o' r is part = tt
 load_end (miner ask) plan f f' o o' r is part = tt
 load_end (trio ask) plan f f' o o' r is part = tt
+load_end (audit ask) plan f f' o o' r is part = tt

@@ -23,7 +23,7 @@ use Rattle.command_frame.specs.Whole.{status_in}
 use Rattle.command_frame.proofs.Finishing.{at_last}
 use Rattle.command_frame.proofs.Statuses.{never}
 use Rattle.command_words.specs.Ask.{Ask, MinerAsk, check, compile, deal, eval, gather, join, load, map_tape, miner, need, run, simulate, trio, twin}
-use Rattle.command_words.specs.Ask.{upgrade}
+use Rattle.command_words.specs.Ask.{audit, upgrade}
 use Rattle.command_words.specs.Ask.{client_map, client_simulate, client_twin}
 use Rattle.miner_command.specs.Miner.{miner_of, nothing_sent, sent_of}
 use Rattle.miner_command.specs.Playing.{MovesSo, SendsSo, SentAll, SentBefore, SentFronts}
@@ -174,6 +174,7 @@ moves_stop (miner ask) s s' stop moves = λ told.
     (sent_stop ask.me s.links s'.links (sent_of ask s.files.contents s.links.coming) stop (moves told).0, (moves told).1)
 moves_stop (trio ask) s s' stop moves =
     (moves.0, λ found at t t'. launch_stop (words_for ask) s.children s'.children stop (prepared_of found ask s.files.contents) (moves.1 found at t t'), moves.2)
+moves_stop (audit ask) s s' stop moves = tt
 
 pub moves_end : (ask : Ask) (a b : Sources) (f : FilesState) (o o' : SinkState) (plan : Plan) (r : Result Status Stop)
     → Moves {X = Plan} ask a b (Ok plan) → Finishes (effect_of plan) b.files f o o' r → Moves {X = Status} ask a (at_last b f) r
@@ -204,6 +205,7 @@ moves_end (trio ask) a b f o o' plan r moves part = (
       (moves.1 found at t t') part,
   moves.2,
 )
+moves_end (audit ask) a b f o o' plan r moves part = tt
 
 -- of words for which there was no memory
 pub moves_none : (ask : Ask) (s : Sources) → Moves {X = Status} ask s s (Err stops.Memory)
@@ -232,6 +234,7 @@ moves_none (trio ask) s = (
   λ found at t t'. launch_none (words_for ask) s.children (prepared_of found ask s.files.contents),
   λ found at t t'. none_stored s.files.contents s.children (prepared_of found ask s.files.contents),
 )
+moves_none (audit ask) s = tt
 
 -- ---- told by the status
 

@@ -154,6 +154,7 @@ no_fault_refusal reach m m' statuses.Disagree r alone failed = absurd failed
 no_fault_refusal reach m m' statuses.NotAlike r alone failed = absurd failed
 no_fault_refusal reach m m' statuses.OpenedShort r alone failed = absurd failed
 no_fault_refusal reach m m' statuses.Write r alone failed = absurd (false≢true r)
+no_fault_refusal reach m m' statuses.NotOneRun r alone failed = absurd failed
 no_fault_refusal reach m m' statuses.Memory r alone failed = absurd (false≢true r)
 
 -- and none by that of an end
@@ -175,4 +176,5 @@ no_fault_end reach m m' statuses.Disagree e failed = absurd failed
 no_fault_end reach m m' statuses.NotAlike e failed = absurd failed
 no_fault_end reach m m' statuses.OpenedShort e failed = absurd failed
 no_fault_end reach m m' statuses.Write e failed = absurd (false≢true e)
+no_fault_end reach m m' statuses.NotOneRun e failed = absurd failed
 no_fault_end reach m m' statuses.Memory e failed = absurd (false≢true e)

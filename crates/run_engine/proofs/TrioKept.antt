@@ -54,6 +54,7 @@ fault_child reach m m' statuses.Disagree r failed = absurd failed
 fault_child reach m m' statuses.NotAlike r failed = absurd failed
 fault_child reach m m' statuses.OpenedShort r failed = absurd failed
 fault_child reach m m' statuses.Write r failed = absurd (false≢true r)
+fault_child reach m m' statuses.NotOneRun r failed = absurd failed
 fault_child reach m m' statuses.Memory r failed = absurd (false≢true r)
 
 -- a course of which this is the whole

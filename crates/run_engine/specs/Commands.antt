@@ -8,10 +8,12 @@ use Rattle.command_frame.specs.Answer.{Effect}
 use Rattle.command_frame.specs.declared.status.Status.{Status}
 use Rattle.command_frame.specs.declared.status.Status.TheVariants.{Schedule}
 use Rattle.command_frame.specs.Moments.{AreTold, Moment}
-use Rattle.command_frame.specs.Status.{is_done, is_end}
+use Rattle.command_frame.specs.Status.{is_done, is_end, is_verdict}
 use Rattle.command_words.specs.Ask.{CompileAsk, EvalAsk, RunAsk, DealAsk, MapAsk, SimulateAsk, TwinAsk, check, compile, eval, need}
 use Rattle.command_words.specs.Ask.{run, deal, map_tape, simulate, twin, words_of, Ask, GatherAsk, gather}
 use Rattle.command_words.specs.Ask.{JoinAsk, MinerAsk, TrioAsk, UpgradeAsk, join, miner, trio, upgrade}
+use Rattle.command_words.specs.Ask.{AuditAsk, audit}
+use Rattle.audit_command.specs.Held.{AuditEffect, AuditRefused}
 use Rattle.program_commands.specs.Eval.{eval_text, need_text}
 use Rattle.program_commands.specs.Held.{DealRefused, EvalRefused, ProgramRefused, UpgradeRefused}
 use Rattle.gather_command.specs.Held.{GatherEffect, GatherRefused}
@@ -111,3 +113,6 @@ pub record Commands (words : List (List ℕ)) (before after : Moment) (given : S
   pub trio_starts_where_dealt :
       (ask : TrioAsk) → words_of words ≡ Some (trio ask) → AreTold trio_reach before.sources
       → StartsMiners ask (contents_in before) before.sources.children after.sources.children given
+  -- `audit` prints that three views are of one run, and writes an order of deliveries where one is asked for; or it prints the first line that shows
+  -- that they are of none, and writes nothing. Both are ends of it, and no refusal. What it says is so by the law `audits_say_so`.
+  pub audits : (ask : AuditAsk) → Kept words before after given (audit ask) (AuditEffect ask) (AuditRefused ask) is_verdict

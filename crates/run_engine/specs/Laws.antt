@@ -5,12 +5,16 @@ use Rattle.reached_instances.specs.Instances.{Instance}
 use Rattle.reached_instances.specs.Reached.{IsReachedList}
 use Rattle.bytecode.specs.Raw.{RawCode}
 use Rattle.proto_core.specs.declared.party.Number.{Number}
+use Rattle.command_words.specs.Ask.{AuditAsk, audit}
 use Rattle.command_words.specs.Ask.{CompileAsk, GatherAsk, MapAsk, MinerAsk, SimulateAsk, TwinAsk, UpgradeAsk, compile, gather, map_tape, simulate}
 use Rattle.command_words.specs.Ask.{twin, upgrade, words_of}
 use Rattle.protocol_model.specs.Network.{Delivery}
 use Rattle.tape_file.specs.Tapes.{FourTapes}
 use Rattle.program_trees.specs.TypedPrograms.{TypedProgramTree}
 use Rattle.value_file.specs.declared.inputs.Entry.{Entry}
+use Rattle.value_file.specs.declared.public.PublicEntry.{PublicEntry}
+use Rattle.view_text.specs.View.{View}
+use Rattle.audit_command.specs.Held.{HoldsAudit, SaysSo}
 use Rattle.gather_command.specs.Held.{HoldsDealt, WritesOneDealing}
 use Rattle.gather_command.specs.Owners.{Lengths, Owner}
 use Rattle.honest_miners.specs.Laws.{ThreeServedMiners}
@@ -129,3 +133,8 @@ pub record Laws (words : List (List ℕ)) (files : Contents) : Type 0 where
       → HoldsTwin ask files program first second tapes → AreTaken ask program first second tapes → TwinIsReadAgain ask program first second tapes
   -- The text that every workload of `load` has is that of an accepted program within the limits, which is run as the typed tree of `loads`.
   pub load_program_is_runnable : IsRunnable load_program load_typed
+  -- What `audit` says of three views is so: yes exactly where there are inputs with this public part, tapes of these lengths, and an accepted order of
+  -- deliveries for which they are the views of the three miners; the order that is written is such a one; and else the line is the first failure.
+  pub audits_say_so :
+      (ask : AuditAsk) (program : TypedProgramTree) (part : List PublicEntry) (views : Number → View) → words_of words ≡ Some (audit ask)
+      → HoldsAudit ask files program part views → SaysSo ask program part views

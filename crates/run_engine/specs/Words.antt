@@ -4,10 +4,11 @@ use Rattle.std.specs.Option.{option_map_or}
 use Rattle.command_frame.specs.Answer.{Answer, Course, at_once, usage}
 use Rattle.command_frame.specs.Moments.{Reach, files_alone}
 use Rattle.command_frame.specs.declared.status.Status.{Status}
-use Rattle.command_frame.specs.Status.{is_done, is_end, of_peers, of_texts}
+use Rattle.command_frame.specs.Status.{is_done, is_end, is_verdict, of_peers, of_texts}
 use Rattle.command_frame.specs.Whole.{Paths}
+use Rattle.audit_command.specs.Audit.{audit_of, audit_paths, audited_paths}
 use Rattle.command_words.specs.Ask.{Ask, run, deal, check, compile, eval, need, map_tape, simulate, twin, words_of, load, gather, join, miner, trio}
-use Rattle.command_words.specs.Ask.{upgrade}
+use Rattle.command_words.specs.Ask.{audit, upgrade}
 use Rattle.command_words.specs.Ask.{client_map, client_simulate, client_twin}
 use Rattle.program_commands.specs.Check.{check_of, check_paths}
 use Rattle.program_commands.specs.Compile.{compile_of, compile_paths, compiled_paths}
@@ -50,7 +51,7 @@ pub record Conduct : Type 0 where
   pub later : List (List ℕ)
   -- what it reaches beside files and output: other miners, or other programs
   pub reach : Reach
-  -- how it ends where it isn't refused: done, or as the run or the evaluation ends that it tells of
+  -- how it ends where it isn't refused: done, as the run or the evaluation ends that it tells of, or as an audit does
   pub ends : Status → Bool
 
 -- a command that asks this of a program, reads and writes these paths, ends so, and decides at once, by what it is told
@@ -102,6 +103,8 @@ conduct_of (trio ask) = record {
   reach = trio_reach;
   ends = is_end;
 }
+conduct_of (audit ask) =
+    deciding (its_program ask.program) (audit_paths ask) (audited_paths ask) is_verdict (λ told. audit_of told.found ask told.outside.files)
 
 unfoldable pub answer_to : Ask → Told → Course
 answer_to ask = (conduct_of ask).answer

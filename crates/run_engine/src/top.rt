@@ -9,6 +9,7 @@ ghost use Rattle.run_engine.specs.Obeying.{Acted, Obeyed, Planned};
 ghost use Rattle.run_engine.specs.Told.{moment_of, sources_of};
 ghost use Rattle.run_engine.specs.Words.{reach_miners, reach_of, start_programs};
 
+use audit_command::plan_audit;
 use client_commands::{plan_client_map, plan_client_simulate, plan_client_twin};
 use command_frame::{Plan, Status, Stop, ended_status, finish_plan, say};
 use command_words::{Command, WordsErr, read};
@@ -54,6 +55,7 @@ fn plan<F: Files, L: Links, C: Spawner>(
         Command::Join(words) => plan_join(alloc, files, words),
         Command::Miner(words) => plan_miner(alloc, files, links, words),
         Command::Trio(words) => plan_trio(alloc, files, children, words),
+        Command::Audit(words) => plan_audit(alloc, files, words),
     }
 }
 

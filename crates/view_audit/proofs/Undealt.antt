@@ -58,15 +58,15 @@ use Rattle.view_audit.proofs.Zeros.{zeros_are, zeros_have_words, zeros_right}
 -- ---- the report
 
 -- it needs so many words of the dealer, whose tape has so many
-abbrev ended_at : (need have : ℕ) → Report
+abbrev pub ended_at : (need have : ℕ) → Report
 ended_at need have =
     record { stop = Ended (ending.Tape Dealer need have); cost = 0; dealt = 0; drawn = words_each 0; events = []; opened = []; gates = [] }
 
-undealt_in : (w : World) (p : TypedProgramTree) (budget : ℕ) → nat_le (dealing w) w.dealer ≡ false → evaluated w p budget [] ≡ not_dealt w
+pub undealt_in : (w : World) (p : TypedProgramTree) (budget : ℕ) → nat_le (dealing w) w.dealer ≡ false → evaluated w p budget [] ≡ not_dealt w
 undealt_in w p budget h = ap (λ (b : Bool). if b then report_of w budget (main_of w p (beginning budget [])) else not_dealt w) h
 
 module _ (p : TypedProgramTree) (part : List PublicEntry) (lengths : List ℕ) (budget : ℕ) (short : suffices part lengths ≡ false) where
-  abbrev undealt : Report
+  abbrev pub undealt : Report
   undealt = ended_at (hidden_need part) (get_or lengths 0 0)
 
   -- of any inputs with this public part
@@ -100,7 +100,7 @@ none_came i (r ∷ rs) e = by_tests (same_link r.link (from_previous i)) (same_l
 cons_is_none : {A P : Type 0} (x : A) (xs : List A) → x ∷ xs ≡ [] → P
 cons_is_none x xs e = cc
 
-no_lines : (ss : List InputShare) → wrong_share_at [] ss ≡ None → ss ≡ []
+pub no_lines : (ss : List InputShare) → wrong_share_at [] ss ≡ None → ss ≡ []
 no_lines [] e = refl
 no_lines (s ∷ ss) e = some_is_none 0 e
 
@@ -136,7 +136,7 @@ module _
     abbrev t : FourTapes
     t = tapes_found part lengths views
 
-    abbrev u : Report
+    abbrev pub u : Report
     u = undealt p part lengths budget short
 
     abbrev z : List InputShare
@@ -159,10 +159,10 @@ module _
         deal_the_views part z z z []
         (record { first = zeros_are part; second = zeros_are part; third = zeros_are part; truths = truths_are part z z z (zeros_right part) })
 
-    known : part_of es ≡ part
+    pub known : part_of es ≡ part
     known = ap part_of found_zero ∙ deal.known
 
-    found_report : report part lengths views p budget ≡ u
+    pub found_report : report part lengths views p budget ≡ u
     found_report = report_is p part lengths budget short es known
 
     run_found : run_on p es (lengths_of t) budget ≡ u

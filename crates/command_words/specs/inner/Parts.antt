@@ -30,6 +30,12 @@ miner_required = codes "me" ∷ codes "share" ∷ codes "tape" ∷ codes "port" 
 unfoldable pub trio_required : List Text
 trio_required = codes "input" ∷ codes "tape" ∷ codes "to" ∷ codes "port" ∷ []
 
+unfoldable pub audit_required : List Text
+audit_required = codes "public" ∷ codes "len0" ∷ codes "len1" ∷ codes "len2" ∷ codes "len3" ∷ []
+
+unfoldable pub audit_options : List Text
+audit_options = codes "budget" ∷ codes "record" ∷ []
+
 -- the commands that take inputs
 unfoldable pub input_app : App
 input_app = with_command (with_command bare_app run_app) deal_app

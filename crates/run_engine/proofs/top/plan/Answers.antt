@@ -128,3 +128,10 @@ returns-in-Miner-clause-planned g c =
 pub returns-in-Trio-clause-planned : goal.returns-in-Trio-clause-planned
 returns-in-Trio-clause-planned g c =
     rw c.in-Trio.is (trio_planned _ (g.L.Links.state c.args.links.now) _ _ _ _ _ c.plan_trio.ensures)
+
+pub returns-in-Audit-clause-planned : goal.returns-in-Audit-clause-planned
+unfolding answer_to question_of reads_of writes_of
+returns-in-Audit-clause-planned g c =
+    rw c.in-Audit.is
+    (planned _ _ _ _ (λ told. refl) c.plan_audit.ensures.files c.plan_audit.ensures.anyhow
+    c.plan_audit.ensures.answer c.plan_audit.ensures.found c.plan_audit.ensures.names tt c.plan_audit.ensures.ends tt)

@@ -1,0 +1,8 @@
+mod Dealt
+mod Delivered
+mod Judging
+mod Named
+pub mod Right
+mod Runs
+mod ShownRuns
+mod Undealt
