@@ -13,7 +13,7 @@ use Rattle.command_frame.specs.declared.stop.Stop.{Stop}
 use Rattle.command_frame.specs.declared.stop.Stop.TheVariants as stops
 use Rattle.command_frame.specs.Answer.{Cause, breach_of, cause_of, paths_in, writes_of}
 use Rattle.command_frame.specs.Objects.{OfFile, OfObject, link_line}
-use Rattle.command_frame.specs.Status.{is_done}
+use Rattle.command_frame.specs.Status.{is_done, is_run_end}
 
 -- the count of faults rose, and that of a steady store only where the file is missing
 pub record Faulted {Y : Type 0} (old new : FilesState) (line : List ℕ) (decided : Result Y Cause) : Type 0 where
@@ -108,6 +108,10 @@ KeepsTo reads written result = MatchResult result (PlanNames written) (StopNames
 -- a command that isn't refused ends so
 abbrev pub EndsIn : {E : Type 0} → (ends : Status → Bool) → Result Plan E → Type 0
 EndsIn ends result = IfOk result (λ plan. ends plan.status ≡ true)
+
+-- a command that isn't refused ends as a run does
+abbrev pub EndsAsRun : {E : Type 0} → Result Plan E → Type 0
+EndsAsRun result = EndsIn is_run_end result
 
 -- a command that isn't refused is done
 abbrev pub EndsDone : {E : Type 0} → Result Plan E → Type 0

@@ -25,6 +25,14 @@ code_of Write = 16
 code_of NotOneRun = 19
 code_of Memory = 20
 
+-- a run, or an evaluation of a program, ends so
+abbrev pub is_run_end : Status → Bool
+is_run_end Done = true
+is_run_end Trap = true
+is_run_end Budget = true
+is_run_end Tape = true
+is_run_end _ = false
+
 -- a command that isn't refused ends so
 abbrev pub is_end : Status → Bool
 is_end Done = true

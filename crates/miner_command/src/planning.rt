@@ -2,7 +2,7 @@
 ghost use Rattle.std.specs.Prelude.{IfErr};
 ghost use Rattle.outside.specs.Causes.{Rose};
 ghost use Rattle.command_frame.specs.Answer.{effect_of};
-ghost use Rattle.command_frame.specs.Reads.{BothTold, OnlyRead, GivesOfPeers, KeepsTo, StopsReadingAmong};
+ghost use Rattle.command_frame.specs.Reads.{BothTold, EndsAsRun, OnlyRead, GivesOfPeers, KeepsTo, StopsReadingAmong};
 ghost use Rattle.command_frame.specs.Status.{of_peers};
 ghost use Rattle.command_words.specs.Views.{miner_ask};
 ghost use Rattle.miner_node.specs.Faults.{IsLater};
@@ -44,6 +44,7 @@ pub fn plan_miner<F: Files, L: Links>(
     ensures anyhow { IfErr result
         (StopsReadingAmong (Rose (L.state links.old).faults (L.state links.new).faults) of_peers (F.state files.old) (F.state files.new)) }
     ensures names { KeepsTo (miner_paths (miner_ask words.now)) (text_paths (miner_ask words.now)) result }
+    ensures ends { EndsAsRun result }
 {
     let given = read_files(alloc, files, words)?;
     match words.me {

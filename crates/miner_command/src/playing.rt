@@ -2,7 +2,7 @@
 ghost use Rattle.std.specs.Prelude.{◌≡◌, ◌≤◌, ℕ, List, IfOk, string_bytes};
 ghost use Rattle.outside.specs.Files.{OnlyRead};
 ghost use Rattle.command_frame.specs.Answer.{effect_of};
-ghost use Rattle.command_frame.specs.Reads.{KeepsTo, PlanNames};
+ghost use Rattle.command_frame.specs.Reads.{EndsAsRun, KeepsTo, PlanNames};
 ghost use Rattle.command_words.specs.Views.{miner_ask};
 ghost use Rattle.input_share.specs.Reading.{AreWritable};
 ghost use Rattle.miner_node.specs.Faults.{IsLater};
@@ -77,6 +77,7 @@ fn run_on<P: Party, F: Files, L: Links>(
 fn text_plan(alloc: Global, told: NodeText, words: &MinerWords) -> Result<Plan, AllocError>
     ensures effect { IfOk result (λ plan. effect_of plan ≡ text_effect (string_bytes words.now.out) told.text.items told.end) }
     ensures names { IfOk result (PlanNames (text_paths (miner_ask words.now))) }
+    ensures ends { EndsAsRun result }
 {
     let NodeText { text, end } = told;
     let path = words.out.clone()?;
@@ -106,6 +107,7 @@ pub(crate) fn play<P: Party, F: Files, L: Links>(
     ensures files { OnlyRead (F.state files.old) (F.state files.new) }
     ensures plays { PlaysOn (miner_ask words.now) given (F.state files.old) (F.state files.new) (L.state links.old) (L.state links.new) result }
     ensures names { KeepsTo (miner_paths (miner_ask words.now)) (text_paths (miner_ask words.now)) result }
+    ensures ends { EndsAsRun result }
     ensures later { IsLater (L.state links.old) (L.state links.new) }
 {
     let file = given.tape;

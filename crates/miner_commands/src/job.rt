@@ -1,7 +1,7 @@
 // A run with tapes of any source, and what is to be written and printed of it.
 ghost use Rattle.std.specs.Prelude.{◌≡◌, ◌++◌, option_map, IfOk, OnOk, string_bytes};
 ghost use Rattle.command_frame.specs.Answer.{effect_of, writes_of};
-ghost use Rattle.command_frame.specs.Reads.{PlanNames};
+ghost use Rattle.command_frame.specs.Reads.{EndsAsRun, PlanNames};
 ghost use Rattle.command_words.specs.Views.{run_ask};
 ghost use Rattle.outside.specs.Tapes.{TapesState};
 ghost use Rattle.viewed_run.specs.Sources.{RunsFrom};
@@ -48,7 +48,8 @@ fn ran_plan(
     files: Vec<PlannedWrite>,
     words: &RunWords,
 ) -> Result<Plan, AllocError>
-    ensures { IfOk result (λ plan. effect_of plan ≡ ran_effect (run_ask words.now) (writes_of files.items) run.now) }
+    ensures effect { IfOk result (λ plan. effect_of plan ≡ ran_effect (run_ask words.now) (writes_of files.items) run.now) }
+    ensures ends { EndsAsRun result }
 {
     let text = run_text(alloc, &run.report.events, &run.report.end)?;
     let mut writes = files;
@@ -81,6 +82,7 @@ pub(crate) fn run_job<T: TapeSource>(
         (λ t. IsRanOrNot (run_ask words.now) (typed_program_tree job.now.program.now) job.now.inputs.now t
         (delivery_seen job.now.delivery.now) result) }
     ensures names { IfOk result (PlanNames (ran_paths (run_ask words.now))) }
+    ensures ends { EndsAsRun result }
 {
     let (program, inputs) = (job.program, job.inputs);
     let budget = words.budget;

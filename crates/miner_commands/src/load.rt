@@ -1,7 +1,7 @@
 // The command `load`.
 ghost use Rattle.std.specs.Prelude.{◌≡◌, [], IfOk, IfErr, string_bytes};
 ghost use Rattle.command_frame.specs.Answer.{effect_of};
-ghost use Rattle.command_frame.specs.Reads.{PlanNames};
+ghost use Rattle.command_frame.specs.Reads.{EndsAsRun, PlanNames};
 ghost use Rattle.command_frame.specs.declared.stop.Stop.TheVariants.{Memory};
 ghost use Rattle.protocol_model.specs.Network.{Default};
 ghost use Rattle.program_run.specs.Accepted.{IsAccepted};
@@ -43,6 +43,7 @@ fn messages_line(alloc: Global, count: u64) -> Result<String, AllocError>
 fn loaded_plan(alloc: Global, ran: &DeliveredRun) -> Result<Plan, AllocError>
     ensures effect { IfOk result (λ plan. effect_of plan ≡ loaded_effect ran.now) }
     ensures names { IfOk result (PlanNames []) }
+    ensures ends { EndsAsRun result }
 {
     let line = messages_line(alloc, ran.delivered.len() as u64)?;
     let mut text = run_text(alloc, &ran.report.events, &ran.report.end)?;
@@ -104,6 +105,7 @@ pub fn plan_load(alloc: Global, words: &LoadWords) -> Result<Plan, Stop>
     ensures effect { IfOk result (λ plan. effect_of plan ≡ load_effect words.now.number) }
     ensures memory { IfErr result (λ stop. stop ≡ Memory) }
     ensures names { IfOk result (PlanNames []) }
+    ensures ends { EndsAsRun result }
 {
     let load = make(alloc, words.number)?;
     let ran = run_load(alloc, load)?;

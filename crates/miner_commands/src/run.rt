@@ -1,7 +1,7 @@
 // The command `run`.
 ghost use Rattle.std.specs.Prelude.{◌≡◌, ◌∷◌, [], true, IfOk, IfErr, IsErrOf};
 ghost use Rattle.command_frame.specs.Answer.{effect_of};
-ghost use Rattle.command_frame.specs.Reads.{OnlyRead, Gives, KeepsTo, PlanNames, StopNames, StopsReading};
+ghost use Rattle.command_frame.specs.Reads.{EndsAsRun, OnlyRead, Gives, KeepsTo, PlanNames, StopNames, StopsReading};
 ghost use Rattle.command_words.specs.Views.{run_ask};
 ghost use Rattle.outside.specs.Files.{file_at};
 ghost use Rattle.viewed_run.specs.CourseErr.TheVariants.{TapeFault};
@@ -42,6 +42,7 @@ fn run_filed<F: Files>(
         (tapes_in (file_at (F.state files.old).contents path.now) lengths) (delivery_seen job.now.delivery.now) result }
     ensures fault { IsErrOf result TapeFault → TapeFaulted (F.state files.old) (F.state files.new) }
     ensures names { IfOk result (PlanNames (ran_paths (run_ask words.now))) }
+    ensures ends { EndsAsRun result }
 {
     let mut tapes = FileTapes::new(files, path, lengths);
     let result = run_job(alloc, job, words, &mut tapes);
@@ -63,6 +64,7 @@ fn run_seeded(
     ensures ran { IsRan (run_ask words.now) (typed_program_tree job.now.program.now) job.now.inputs.now (seed_tapes seed.seed seed.words)
         (delivery_seen job.now.delivery.now) result }
     ensures names { IfOk result (PlanNames (ran_paths (run_ask words.now))) }
+    ensures ends { EndsAsRun result }
 {
     let mut tapes = SeedTapes::new(seed.seed, seed.words);
     match run_job(alloc, job, words, &mut tapes) {
@@ -98,6 +100,7 @@ fn run_opened<F: Files>(
         (course_answer (run_ask words.now) (typed_program_tree job.now.program.now) job.now.inputs.now
         (tapes_seen (F.state files.old).contents tapes.entry) (delivery_seen job.now.delivery.now)) }
     ensures names { KeepsTo (open_paths tapes.entry) (ran_paths (run_ask words.now)) result }
+    ensures ends { EndsAsRun result }
 {
     match tapes {
         OpenTapes::File { path, lengths } => {
@@ -128,6 +131,7 @@ pub fn plan_run<F: Files>(alloc: Global, files: &mut F, words: &RunWords) -> Res
     ensures found { (F.state files.old).told ≡ true → Tells (F.state files.old) result →
         HasFinding (its_program (run_ask words.now).program) (F.state files.old).contents }
     ensures names { KeepsTo (run_paths (run_ask words.now)) (ran_paths (run_ask words.now)) result }
+    ensures ends { EndsAsRun result }
 {
     let program = read_typed(alloc, files, &words.program)?;
     let inputs = read_inputs(alloc, files, &words.input)?;

@@ -1,7 +1,7 @@
 // The commands `eval` and `need`.
 ghost use Rattle.std.specs.Prelude.{◌≡◌, [], true, IfOk, IfErr, string_bytes};
 ghost use Rattle.command_frame.specs.Answer.{effect_of};
-ghost use Rattle.command_frame.specs.Reads.{OnlyRead, Gives, KeepsTo, StopNames, StopsReading};
+ghost use Rattle.command_frame.specs.Reads.{EndsAsRun, OnlyRead, Gives, KeepsTo, StopNames, StopsReading};
 ghost use Rattle.command_words.specs.Views.{eval_ask};
 ghost use Rattle.clear_eval.specs.Reports.{report_seen};
 ghost use Rattle.program_commands.specs.Eval.{report_at, evaluation_of, eval_text, need_text, used, eval_paths};
@@ -45,6 +45,7 @@ pub fn plan_eval<F: Files>(alloc: Global, files: &mut F, words: &EvalWords) -> R
     ensures found { (F.state files.old).told ≡ true → Tells (F.state files.old) result →
         HasFinding (its_program (eval_ask words.now).program) (F.state files.old).contents }
     ensures names { KeepsTo (eval_paths (eval_ask words.now)) [] result }
+    ensures ends { EndsAsRun result }
 {
     let report = read_report(alloc, files, words)?;
     Ok(Plan {
@@ -86,6 +87,7 @@ pub fn plan_need<F: Files>(alloc: Global, files: &mut F, words: &EvalWords) -> R
     ensures found { (F.state files.old).told ≡ true → Tells (F.state files.old) result →
         HasFinding (its_program (eval_ask words.now).program) (F.state files.old).contents }
     ensures names { KeepsTo (eval_paths (eval_ask words.now)) [] result }
+    ensures ends { EndsAsRun result }
 {
     let report = read_report(alloc, files, words)?;
     Ok(Plan {

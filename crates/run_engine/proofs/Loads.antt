@@ -7,14 +7,14 @@ use Rattle.command_frame.specs.declared.stop.Stop.{Stop}
 use Rattle.command_frame.specs.declared.stop.Stop.TheVariants as stops
 use Rattle.command_frame.specs.Answer.{Effect, effect_of}
 use Rattle.command_frame.specs.Moments.{Sources}
-use Rattle.command_frame.specs.Reads.{Gives, KeepsTo, PlanNames, StopNames, StopsReading}
+use Rattle.command_frame.specs.Reads.{EndsAsRun, Gives, KeepsTo, PlanNames, StopNames, StopsReading}
 use Rattle.command_frame.proofs.Deciding.{unchanged}
 use Rattle.command_words.specs.Ask.{load}
 use Rattle.miner_commands.specs.Load.{load_effect, load_of}
 use Rattle.run_engine.specs.Obeying.{DecidesLoad, Planned}
 use Rattle.run_engine.specs.Words.{answer_to, question_of, reads_of, writes_of}
 use Rattle.program_commands.proofs.Judged.{found_nothing}
-use Rattle.run_engine.proofs.Obeying.{ended_anyhow, planned}
+use Rattle.run_engine.proofs.Obeying.{planned}
 
 module _ (number : ℕ) (s : Sources) where
   gives : (r : Result Plan Stop) → IfOk r (λ plan. effect_of plan ≡ load_effect number) → IfErr r (λ stop. stop ≡ stops.Memory)
@@ -40,8 +40,8 @@ module _ (number : ℕ) (s : Sources) where
   decides (Err stop) is memory = memory
 
   pub load_planned : (r : Result Plan Stop) → IfOk r (λ plan. effect_of plan ≡ load_effect number) → IfErr r (λ stop. stop ≡ stops.Memory)
-      → IfOk r (PlanNames []) → Planned (load number) s s r
+      → IfOk r (PlanNames []) → EndsAsRun r → Planned (load number) s s r
   unfolding answer_to question_of reads_of writes_of
-  load_planned r is memory names =
+  load_planned r is memory names ended =
       planned (load number) s s r (λ told. refl) (unchanged s.files) (reading r memory) (λ found at. gives r is memory)
-      (λ t tells. found_nothing s.files.contents) (keeping r memory names) tt (ended_anyhow r) (decides r is memory)
+      (λ t tells. found_nothing s.files.contents) (keeping r memory names) tt ended (decides r is memory)

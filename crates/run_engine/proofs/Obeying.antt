@@ -14,7 +14,6 @@ use Rattle.command_frame.specs.Answer.{Answer, Course, at_once, effect_of, paths
 use Rattle.command_frame.specs.Decides.{Decides, StopsDecidingAnyhow}
 use Rattle.command_frame.specs.Finish.{Finishes, OnlyAmong}
 use Rattle.command_frame.specs.Moments.{Moment, Reach, Sources}
-use Rattle.command_frame.specs.Status.{is_end}
 use Rattle.command_frame.specs.Reads.{Gives, GivesOfPeers, GivesOfTexts, KeepsTo, OnlyRead, StopsReading, StopsReadingAmong}
 use Rattle.command_frame.specs.Whole.{Acts, ActsAnyhow, Paths, StopsAtFile}
 use Rattle.command_frame.proofs.Deciding.{among_anyhow, decides_peers, decides_reading, decides_texts, nothing_written, reading_anyhow, reading_stops}
@@ -37,11 +36,6 @@ use Rattle.run_engine.proofs.Tops.{found_so, is_named}
 -- it decides at once
 abbrev pub IsAtOnce : Ask → Type 0
 IsAtOnce ask = (told : Told) → answer_to ask told ≡ at_once (answer_to ask told).answer
-
--- each plan has an end of some command
-pub ended_anyhow : (r : Result Plan Stop) → IfOk r (λ plan. is_end plan.status ≡ true)
-ended_anyhow (Ok plan) = plan.ends
-ended_anyhow (Err stop) = tt
 
 anyhow_reading : (ask : Ask) (s s' : Sources) (r : Result Plan Stop) → IfErr r (StopsReading s.files s'.files)
     → IfErr r (StopsDecidingAnyhow (reach_of ask) s s')

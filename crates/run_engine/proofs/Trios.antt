@@ -63,7 +63,6 @@ use Rattle.run_engine.specs.TrioPromises.{bad_text, for_program, for_tape, texts
 use Rattle.run_engine.specs.TrioPromises.{for_texts, run_joined, run_undealt, trio_writes}
 use Rattle.run_engine.specs.Words.{answer_to, later_of, question_of, reads_of, writes_of}
 use Rattle.run_engine.proofs.Joins.{texts_agree, texts_refused, texts_refused_by}
-use Rattle.run_engine.proofs.Obeying.{ended_anyhow}
 
 -- ---- until it had decided
 
@@ -122,7 +121,7 @@ module _ (ask : TrioAsk) (l : LinksState) (f f' : FilesState) (c c' : SpawnerSta
     found = p.found;
     names = names_so r p;
     moves = moves_so r p;
-    ended = ended_anyhow r;
+    ended = p.ended;
     loads = tt;
   }
 

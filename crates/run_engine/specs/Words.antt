@@ -4,7 +4,7 @@ use Rattle.std.specs.Option.{option_map_or}
 use Rattle.command_frame.specs.Answer.{Answer, Course, at_once, usage}
 use Rattle.command_frame.specs.Moments.{Reach, files_alone}
 use Rattle.command_frame.specs.declared.status.Status.{Status}
-use Rattle.command_frame.specs.Status.{is_done, is_end, is_verdict, of_peers, of_texts}
+use Rattle.command_frame.specs.Status.{is_done, is_run_end, is_verdict, of_peers, of_texts}
 use Rattle.command_frame.specs.Whole.{Paths}
 use Rattle.audit_command.specs.Audit.{audit_of, audit_paths, audited_paths}
 use Rattle.command_words.specs.Ask.{Ask, run, deal, check, compile, eval, need, map_tape, simulate, twin, words_of, load, gather, join, miner, trio}
@@ -68,14 +68,14 @@ deciding question reads writes ends decide = record {
 
 -- what a program of a workload is doesn't hang on any file
 abbrev pub conduct_of : Ask → Conduct
-conduct_of (run ask) = deciding (its_program ask.program) (run_paths ask) (ran_paths ask) is_end (λ told. run_of told.found ask told.outside.files)
+conduct_of (run ask) = deciding (its_program ask.program) (run_paths ask) (ran_paths ask) is_run_end (λ told. run_of told.found ask told.outside.files)
 conduct_of (deal ask) = deciding nothing (deal_paths ask) (written_paths ask.to) is_done (λ told. deal_of ask told.outside.files)
 conduct_of (check path) = deciding (its_program path) (check_paths path) [] is_done (λ told. check_of told.found path told.outside.files)
 conduct_of (compile ask) =
     deciding (its_program ask.program) (compile_paths ask) (compiled_paths ask) is_done (λ told. compile_of told.found ask told.outside.files)
 conduct_of (upgrade ask) = deciding nothing (upgrade_paths ask) (upgraded_paths ask) is_done (λ told. upgrade_of ask told.outside.files)
-conduct_of (eval ask) = deciding (its_program ask.program) (eval_paths ask) [] is_end (λ told. evaluation_of eval_text told.found ask told.outside.files)
-conduct_of (need ask) = deciding (its_program ask.program) (eval_paths ask) [] is_end (λ told. evaluation_of need_text told.found ask told.outside.files)
+conduct_of (eval ask) = deciding (its_program ask.program) (eval_paths ask) [] is_run_end (λ told. evaluation_of eval_text told.found ask told.outside.files)
+conduct_of (need ask) = deciding (its_program ask.program) (eval_paths ask) [] is_run_end (λ told. evaluation_of need_text told.found ask told.outside.files)
 conduct_of (map_tape ask) =
     deciding (its_program ask.program) (map_paths ask) (mapped_paths ask) is_done (λ told. map_of told.found ask told.outside.files)
 conduct_of (simulate ask) =
@@ -89,10 +89,10 @@ conduct_of (client_simulate ask) =
     (λ told. client_simulate_of told.found ask told.outside.files)
 conduct_of (client_twin ask) =
     deciding (its_program ask.program) (client_twin_paths ask) (twinned_paths ask.to) is_done (λ told. client_twin_of told.found ask told.outside.files)
-conduct_of (load number) = deciding nothing [] [] is_end (λ told. load_of number)
+conduct_of (load number) = deciding nothing [] [] is_run_end (λ told. load_of number)
 conduct_of (gather ask) = deciding nothing (gather_paths ask) (gathered_paths ask.to) is_done (λ told. gather_of ask told.outside.files)
-conduct_of (join ask) = record (deciding nothing (join_paths ask) [] is_end (λ told. join_of ask told.outside.files)) { reach = texts_alone }
-conduct_of (miner ask) = record (deciding nothing (miner_paths ask) (text_paths ask) is_end
+conduct_of (join ask) = record (deciding nothing (join_paths ask) [] is_run_end (λ told. join_of ask told.outside.files)) { reach = texts_alone }
+conduct_of (miner ask) = record (deciding nothing (miner_paths ask) (text_paths ask) is_run_end
     (λ told. miner_of ask told.outside.files told.outside.coming)) { reach = files_and_links }
 conduct_of (trio ask) = record {
   answer = λ told. trio_of told.found ask told.outside.files (λ i. told.outside.status (place_of i));
@@ -101,7 +101,7 @@ conduct_of (trio ask) = record {
   writes = prepared_paths ask;
   later = texts_later ask;
   reach = trio_reach;
-  ends = is_end;
+  ends = is_run_end;
 }
 conduct_of (audit ask) =
     deciding (its_program ask.program) (audit_paths ask) (audited_paths ask) is_verdict (λ told. audit_of told.found ask told.outside.files)

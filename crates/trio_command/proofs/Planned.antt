@@ -18,7 +18,8 @@ use Rattle.command_frame.specs.Decides.{AfterWrites, Decides, RefusesFor, StopsD
 use Rattle.command_frame.specs.Finish.{BreaksOff, OnlyAmong, StopsMidway, StopsWriting, WriteFaulted, WroteAll}
 use Rattle.command_frame.specs.Moments.{Sources}
 use Rattle.command_frame.specs.Objects.{OfFile}
-use Rattle.command_frame.specs.Reads.{PlanNames, StopNames, Stops, StopsReading}
+use Rattle.command_frame.specs.Reads.{EndsAsRun, PlanNames, StopNames, Stops, StopsReading}
+use Rattle.command_frame.specs.Status.{is_run_end}
 use Rattle.command_frame.specs.Whole.{FileFaulted, StopsAtFile}
 use Rattle.command_frame.proofs.Deciding.{nothing_written, reading_anyhow, reading_stops}
 use Rattle.command_frame.proofs.Finishing.{midway_among}
@@ -209,6 +210,7 @@ module _ (ask : TrioAsk) (f : FilesState) (c : SpawnerState) where
       launched = λ found h t tc. none_started (words_for ask) c stop (reading_early f g stop anyhow) (prepared_of found ask f.contents);
       only = nothing_written (prepared_paths ask) f g read;
       written = tt;
+      ended = tt;
       names = λ links.
           reading_stops (all_paths ask) trio_reach (IsCourse ask f.contents c c) (sources_with links f c) (sources_with links g c) stop read names;
     }
@@ -224,8 +226,8 @@ module _ (ask : TrioAsk) (f : FilesState) (c : SpawnerState) where
     }
 
     pub undealt_planned : (need have : ℕ) (plan : Plan) → PreparedAs (Ok (undealt need have))
-        → (f.told ≡ true → HasFinding (its_program ask.program) f.contents) → effect_of plan ≡ undealt_effect need have → TrioPlanned ask f g c c (Ok plan)
-    undealt_planned need have plan prepared found is = record {
+        → (f.told ≡ true → HasFinding (its_program ask.program) f.contents) → effect_of plan ≡ undealt_effect need have → is_run_end plan.status ≡ true → TrioPlanned ask f g c c (Ok plan)
+    undealt_planned need have plan prepared found is ended = record {
       decides = λ links course by t. subst (λ (x : Course). (x.answer ≡ Ok (effect_of plan)) × AfterWrites x.first f g)
           (sym (course_is c course by (Ok (undealt need have)) (prepared by.found by.of_program t.files)))
           (ap (λ (e : Effect). Ok e) (sym is), after_none);
@@ -345,13 +347,14 @@ module _ (ask : TrioAsk) (f : FilesState) (c : SpawnerState) where
       launched = λ given at t tc. none_started (words_for ask) c stop (writing_early ws g h stop s) (prepared_of given ask f.contents);
       only = only_prepared;
       written = tt;
+      ended = tt;
       names = λ links. writing_names links stop s;
     }
 
     -- ---- all were written, and the miners were started
 
     module _ (f' : FilesState) (c' : SpawnerState) (r : Result Plan Stop) (wrote : WroteAll ws g h) (ran : MinersRan ask h f' c c' r)
-        (held : StartedWith h c c') where
+        (held : StartedWith h c c') (ended : EndsAsRun r) where
       written_told : f.told ≡ true → h.told ≡ true
       written_told t = among.told ∙ read.same.told ∙ t
 
@@ -414,5 +417,6 @@ module _ (ask : TrioAsk) (f : FilesState) (c : SpawnerState) where
             all_launched ask c c' h f' r (prepared_of given ask f.contents) ws (prepared given at t) ran.launch tc ran.anyhow;
         only = only_at_last;
         written = writes_nothing r ran.nothing;
+        ended = ended;
         names = λ links. err_names r ran.names (ran_names links);
       }

@@ -9,7 +9,7 @@ use Rattle.command_frame.specs.Answer.{Course}
 use Rattle.command_frame.specs.Decides.{Decides, StopsDecidingAnyhow}
 use Rattle.command_frame.specs.Finish.{OnlyAmong}
 use Rattle.command_frame.specs.Moments.{Reach, Sources}
-use Rattle.command_frame.specs.Reads.{PlanNames}
+use Rattle.command_frame.specs.Reads.{EndsAsRun, PlanNames}
 use Rattle.command_frame.specs.Status.{of_texts}
 use Rattle.command_frame.specs.Whole.{Paths, StopsAtFile}
 use Rattle.command_words.specs.Ask.{TrioAsk}
@@ -58,6 +58,8 @@ pub record TrioPlanned (ask : TrioAsk) (f f' : FilesState) (c c' : SpawnerState)
   -- no path but these was written, and the plan writes none
   pub only : OnlyAmong (prepared_paths ask) f f'
   pub written : IfOk result (PlanNames [])
+  -- it ends as a run does
+  pub ended : EndsAsRun result
   -- the file at which it stopped is one of these
   pub names :
       (links : LinksState)

@@ -1,8 +1,8 @@
 // What `join` does.
-ghost use Rattle.std.specs.Prelude.{◌≡◌, [], IfErr};
+ghost use Rattle.std.specs.Prelude.{◌≡◌, [], true, IfErr};
 ghost use Rattle.command_frame.specs.Answer.{effect_of};
-ghost use Rattle.command_frame.specs.Reads.{GivesOfTexts, KeepsTo, OnlyRead, StopsReadingAmong};
-ghost use Rattle.command_frame.specs.Status.{of_texts};
+ghost use Rattle.command_frame.specs.Reads.{EndsAsRun, GivesOfTexts, KeepsTo, OnlyRead, StopsReadingAmong};
+ghost use Rattle.command_frame.specs.Status.{is_run_end, of_texts};
 ghost use Rattle.command_words.specs.Views.{join_ask};
 ghost use Rattle.trio_command.specs.Join.{join_of, join_paths, joined_effect};
 
@@ -16,7 +16,8 @@ use trio::{Joined, join_files};
 
 /// What is printed of texts that were put together: the text of the run. The status is that of its end.
 pub fn joined_plan(alloc: Global, joined: Joined) -> Plan
-    ensures { effect_of result ≡ joined_effect joined }
+    ensures effect { effect_of result ≡ joined_effect joined }
+    ensures ends { is_run_end result.status ≡ true }
 {
     let status = ending_status(joined.end().how);
     Plan {
@@ -36,6 +37,7 @@ pub fn plan_join<F: Files>(alloc: Global, files: &mut F, words: &JoinWords) -> R
         (join_of (join_ask words.now) (F.state files.old).contents) }
     ensures anyhow { IfErr result (StopsReadingAmong ⊥ of_texts (F.state files.old) (F.state files.new)) }
     ensures names { KeepsTo (join_paths (join_ask words.now)) [] result }
+    ensures ends { EndsAsRun result }
 {
     match join_files(alloc, &words.first, &words.second, &words.third, files) {
         Ok(joined) => Ok(joined_plan(alloc, joined)),

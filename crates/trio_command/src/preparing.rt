@@ -1,7 +1,7 @@
 // What `trio` does before the miners run.
 ghost use Rattle.std.specs.Prelude.{◌≡◌, ◌∷◌, [], true, IfOk, IfErr, codes, string_bytes};
 ghost use Rattle.command_frame.specs.Answer.{effect_of, writes_of};
-ghost use Rattle.command_frame.specs.Reads.{Gives, OnlyRead, StopNames, StopsReading};
+ghost use Rattle.command_frame.specs.Reads.{EndsAsRun, Gives, OnlyRead, StopNames, StopsReading};
 ghost use Rattle.command_words.specs.Views.{trio_ask};
 ghost use Rattle.program_commands.specs.Judging.{Finding, FoundAt, HasFinding, Tells, its_program};
 ghost use Rattle.program_commands.specs.Paths.{path_to};
@@ -117,7 +117,8 @@ fn undealt_text(alloc: Global, need: u128, have: u64) -> Result<String, AllocErr
 
 /// What is printed of a run that could not be dealt.
 pub(crate) fn undealt_plan(alloc: Global, need: u128, have: u64) -> Result<Plan, AllocError>
-    ensures { IfOk result (λ plan. effect_of plan ≡ undealt_effect need have) }
+    ensures effect { IfOk result (λ plan. effect_of plan ≡ undealt_effect need have) }
+    ensures ends { EndsAsRun result }
 {
     let text = undealt_text(alloc, need, have)?;
     Ok(Plan {

@@ -1,6 +1,7 @@
 // The three miners, and the texts that they write.
 ghost use Rattle.std.specs.Prelude.{◌≡◌, IfOk, string_bytes};
 ghost use Rattle.command_words.specs.Views.{trio_ask};
+ghost use Rattle.command_frame.specs.Reads.{EndsAsRun};
 ghost use Rattle.command_frame.specs.Faults.{node_fault_line};
 ghost use Rattle.command_frame.specs.declared.fault.NodeFault.TheVariants.{ChildStatus};
 ghost use Rattle.trio.specs.Launches.{StartedWith};
@@ -90,6 +91,7 @@ pub(crate) fn run_miners<F: Files, C: Spawner>(
 ) -> Result<Plan, Stop>
     ensures held { StartedWith (F.state files.old) (C.state children.old) (C.state children.new) }
     ensures ran { MinersRan (trio_ask words.now) (F.state files.old) (F.state files.new) (C.state children.old) (C.state children.new) result }
+    ensures ends { EndsAsRun result }
 {
     match run(alloc, &words.to, words.port, words.budget, files, children) {
         Ok(joined) => Ok(joined_plan(alloc, joined)),

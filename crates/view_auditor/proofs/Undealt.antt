@@ -3,7 +3,7 @@ use Rattle.std.proofs.Common.{◌≡◌, ℕ, ◌+◌, ◌*◌, false, List, [],
 use Rattle.std.specs.Prelude.{nat_le, replicate, sum}
 use Rattle.std.proofs.lemmas.List.{length-replicate}
 use Rattle.std.proofs.lemmas.List.Sums.{sum_by-cons}
-use Rattle.value_file.specs.declared.value.DataType.TheVariants.{Uint64, Bool}
+use Rattle.value_file.specs.declared.value.DataType.TheVariants.{Uint64, Int64, Bool}
 use Rattle.value_file.specs.declared.public.PublicValue.{PublicValue}
 use Rattle.value_file.specs.declared.public.PublicValue.TheVariants.{Known, Hidden}
 use Rattle.value_file.specs.declared.public.PublicEntry.{PublicEntry}
@@ -23,6 +23,7 @@ use Rattle.view_audit.proofs.Undealt.{ended_at, undealt, undealt_in}
 dealt_for : (name : List ℕ) (v : PublicValue) → words_dealt (public_given name v) ≡ hidden_draws v
 dealt_for name (Known value) = refl
 dealt_for name (Hidden Uint64 shape) = ap (λ n. 2 * n) (length-replicate (size_of shape) 0)
+dealt_for name (Hidden Int64 shape) = ap (λ n. 2 * n) (length-replicate (size_of shape) 0)
 dealt_for name (Hidden Bool shape) = ap (λ n. 2 * words_for n) (length-replicate (size_of shape) 0)
 
 need_dealt : (part : List PublicEntry) → sum (map words_dealt (map part_given part)) ≡ hidden_need part

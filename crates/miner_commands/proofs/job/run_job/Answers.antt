@@ -68,7 +68,7 @@ returns-in_ok-ran_plan-in-Some-clause-ran g c =
     (some_path ask.views (string_bytes c.in-Some.prefix) c.deref.result.now (ap (option_map string_bytes) c.in-Some.is) c.deref.ensures)
     h
     (c.in_ok-files-in-Some.ensures ∙ ap (λ (views : Views). view_files (Some c.deref.result.now) (λ i. Some (view_in views i))) c.into_parts-run.ensures.1)
-    (c.in_ok-ran_plan-in-Some.ensures
+    (c.in_ok-ran_plan-in-Some.ensures.effect
     ∙ ap (λ (run : DeliveredRun). ran_effect ask (writes_of c.in_ok-files-in-Some.files.items) run) c.into_parts-run.ensures.0))
 
 pub returns-in_err-run-in-None-clause-ran : goal.returns-in_err-run-in-None-clause-ran
@@ -110,7 +110,7 @@ returns-in_ok-ran_plan-in-None-clause-ran g c =
     done_after p entries ask.budget given (state c.args.tapes.now) (state c.run_delivered.new.tapes) run plan (λ t. HasRunOf p entries t ask.budget given)
     (λ t. HasRan ask p entries t given) c.in_ok-run-in-None.ensures
     (λ t h. planned_unseen ask p entries t given run plan (ap (option_map string_bytes) c.in-None.is) h
-    (c.in_ok-ran_plan-in-None.ensures ∙ ap (λ files. ran_effect ask (writes_of files) run) c.new.ensures.items))
+    (c.in_ok-ran_plan-in-None.ensures.effect ∙ ap (λ files. ran_effect ask (writes_of files) run) c.new.ensures.items))
 
 pub returns-in_ok-ran_plan-in-Some-clause-names : goal.returns-in_ok-ran_plan-in-Some-clause-names
 returns-in_ok-ran_plan-in-Some-clause-names g c =
@@ -118,11 +118,11 @@ returns-in_ok-ran_plan-in-Some-clause-names g c =
     names_seen ask c.deref.result.now c.into_parts-run.result.1 (writes_of c.in_ok-files-in-Some.files.items) c.into_parts-run.result.0
     c.in_ok-ran_plan-in-Some.field-0
     (some_path ask.views (string_bytes c.in-Some.prefix) c.deref.result.now (ap (option_map string_bytes) c.in-Some.is) c.deref.ensures)
-    c.in_ok-files-in-Some.ensures c.in_ok-ran_plan-in-Some.ensures
+    c.in_ok-files-in-Some.ensures c.in_ok-ran_plan-in-Some.ensures.effect
 
 pub returns-in_ok-ran_plan-in-None-clause-names : goal.returns-in_ok-ran_plan-in-None-clause-names
 returns-in_ok-ran_plan-in-None-clause-names g c =
     let ask = run_ask c.args.words.now in
     let run = c.in_ok-run-in-None.run' in
     names_unseen ask run c.in_ok-ran_plan-in-None.field-0 (ap (option_map string_bytes) c.in-None.is)
-    (c.in_ok-ran_plan-in-None.ensures ∙ ap (λ files. ran_effect ask (writes_of files) run) c.new.ensures.items)
+    (c.in_ok-ran_plan-in-None.ensures.effect ∙ ap (λ files. ran_effect ask (writes_of files) run) c.new.ensures.items)

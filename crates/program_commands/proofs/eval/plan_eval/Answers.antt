@@ -9,4 +9,4 @@ pub returns-clause-answer : goal.returns-clause-answer
 returns-clause-answer g c = λ found h t.
     evaluation_reported eval_text found (eval_ask c.args.words.now) (g.F.Files.state c.args.files.now).contents
     (Ok (report_seen c.in_ok-report.report)) (c.in_ok-report.ensures.answer found h t)
-    ∙ rw (c.new.ensures.items, c.in_ok-run_text.ensures, c.deref.ensures.value, c.ending_status.ensures) refl
+    ∙ rw (c.new.ensures.items, c.in_ok-run_text.ensures, c.deref.ensures.value, c.ending_status.ensures.is) refl

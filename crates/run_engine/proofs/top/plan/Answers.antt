@@ -3,7 +3,7 @@ use Rattle.run_engine.specs.Words.{answer_to, question_of, reads_of, writes_of}
 use Rattle.program_commands.proofs.Judged.{found_nothing}
 use Rattle.run_engine.proofs.Loads.{load_planned}
 use Rattle.run_engine.proofs.Moved.{miner_sent}
-use Rattle.run_engine.proofs.Obeying.{ended_anyhow, planned, planned_peers, planned_texts}
+use Rattle.run_engine.proofs.Obeying.{planned, planned_peers, planned_texts}
 use Rattle.run_engine.proofs.Trios.{trio_planned}
 use Rattle.run_engine.proofs.top.plan.Goals as goal
 
@@ -12,7 +12,7 @@ unfolding answer_to question_of reads_of writes_of
 returns-in-Run-clause-planned g c =
     rw c.in-Run.is
     (planned _ _ _ _ (λ told. refl) c.plan_run.ensures.files c.plan_run.ensures.anyhow
-    c.plan_run.ensures.answer c.plan_run.ensures.found c.plan_run.ensures.names tt (ended_anyhow _) tt)
+    c.plan_run.ensures.answer c.plan_run.ensures.found c.plan_run.ensures.names tt c.plan_run.ensures.ends tt)
 
 pub returns-in-Check-clause-planned : goal.returns-in-Check-clause-planned
 unfolding answer_to question_of reads_of writes_of
@@ -40,14 +40,14 @@ unfolding answer_to question_of reads_of writes_of
 returns-in-Eval-clause-planned g c =
     rw c.in-Eval.is
     (planned _ _ _ _ (λ told. refl) c.plan_eval.ensures.files c.plan_eval.ensures.anyhow
-    c.plan_eval.ensures.answer c.plan_eval.ensures.found c.plan_eval.ensures.names tt (ended_anyhow _) tt)
+    c.plan_eval.ensures.answer c.plan_eval.ensures.found c.plan_eval.ensures.names tt c.plan_eval.ensures.ends tt)
 
 pub returns-in-Need-clause-planned : goal.returns-in-Need-clause-planned
 unfolding answer_to question_of reads_of writes_of
 returns-in-Need-clause-planned g c =
     rw c.in-Need.is
     (planned _ _ _ _ (λ told. refl) c.plan_need.ensures.files c.plan_need.ensures.anyhow
-    c.plan_need.ensures.answer c.plan_need.ensures.found c.plan_need.ensures.names tt (ended_anyhow _) tt)
+    c.plan_need.ensures.answer c.plan_need.ensures.found c.plan_need.ensures.names tt c.plan_need.ensures.ends tt)
 
 pub returns-in-Map-clause-planned : goal.returns-in-Map-clause-planned
 unfolding answer_to question_of reads_of writes_of
@@ -107,14 +107,14 @@ returns-in-Gather-clause-planned g c =
 
 pub returns-in-Load-clause-planned : goal.returns-in-Load-clause-planned
 returns-in-Load-clause-planned g c =
-    rw c.in-Load.is (load_planned _ _ _ c.plan_load.ensures.effect c.plan_load.ensures.memory c.plan_load.ensures.names)
+    rw c.in-Load.is (load_planned _ _ _ c.plan_load.ensures.effect c.plan_load.ensures.memory c.plan_load.ensures.names c.plan_load.ensures.ends)
 
 pub returns-in-Join-clause-planned : goal.returns-in-Join-clause-planned
 unfolding answer_to question_of reads_of writes_of
 returns-in-Join-clause-planned g c =
     rw c.in-Join.is
     (planned_texts _ _ _ _ (λ told. refl) c.plan_join.ensures.files (λ t tells. found_nothing (g.F.Files.state c.args.files.now).contents)
-    c.plan_join.ensures.names tt (ended_anyhow _) tt c.plan_join.ensures.anyhow (λ found at. c.plan_join.ensures.answer))
+    c.plan_join.ensures.names tt c.plan_join.ensures.ends tt c.plan_join.ensures.anyhow (λ found at. c.plan_join.ensures.answer))
 
 pub returns-in-Miner-clause-planned : goal.returns-in-Miner-clause-planned
 unfolding answer_to question_of reads_of writes_of
@@ -123,7 +123,7 @@ returns-in-Miner-clause-planned g c =
     (planned_peers _ _ _ _ (λ told. refl) c.plan_miner.ensures.files (λ t tells. found_nothing (g.F.Files.state c.args.files.now).contents)
     c.plan_miner.ensures.names
     (λ told. (miner_sent _ _ _ _ _ told _ (c.plan_miner.ensures.sent told) c.plan_miner.ensures.answer, c.plan_miner.ensures.moves told))
-    (ended_anyhow _) tt refl c.plan_miner.ensures.anyhow (λ found at. c.plan_miner.ensures.answer))
+    c.plan_miner.ensures.ends tt refl c.plan_miner.ensures.anyhow (λ found at. c.plan_miner.ensures.answer))
 
 pub returns-in-Trio-clause-planned : goal.returns-in-Trio-clause-planned
 returns-in-Trio-clause-planned g c =

@@ -28,7 +28,7 @@ returns-in-Undealt g c =
     let seen : prepared_seen c.in_ok-prepared.prepared ≡ undealt c.in-Undealt.need c.in-Undealt.have = search rules in
     undealt_planned ask f ch f1 c.in_ok-prepared.ensures.files c.in-Undealt.need c.in-Undealt.have c.in_ok-undealt_plan-in-Undealt.field-0
     (λ found h t. c.in_ok-prepared.ensures.answer found h t ∙ ap (λ (p : Prepared). Ok p) seen) (λ t. c.in_ok-prepared.ensures.found t tt)
-    c.in_ok-undealt_plan-in-Undealt.ensures
+    c.in_ok-undealt_plan-in-Undealt.ensures.effect c.in_ok-undealt_plan-in-Undealt.ensures.ends
 
 pub returns-in_err-write_files-in-Dealt : goal.returns-in_err-write_files-in-Dealt
 returns-in_err-write_files-in-Dealt g c =
@@ -63,4 +63,4 @@ returns g c =
     (λ found h t. c.in_ok-prepared.ensures.answer found h t ∙ ap (λ (p : Prepared). Ok p) seen) (λ t. c.in_ok-prepared.ensures.found t tt)
     (dealt_among (prepared_paths ask) c.in_ok-prepared.prepared ws seen c.in_ok-prepared.ensures.paths) c.in_ok-write_files-in-Dealt.ensures.only
     (g.F.Files.state c.run_miners.new.files) (g.C.Spawner.state c.run_miners.new.children) c.run_miners.result c.in_ok-write_files-in-Dealt.ensures.ok
-    c.run_miners.ensures.ran c.run_miners.ensures.held
+    c.run_miners.ensures.ran c.run_miners.ensures.held c.run_miners.ensures.ends
