@@ -155,7 +155,7 @@ class Audit:
 
     @staticmethod
     def elements(entry: Input, words: list[int]) -> tuple[int, ...]:
-        return tuple(words) if entry.type.data is Data.NUMBER else tuple(unpacked(words, len(entry.words)))
+        return tuple(words) if entry.type.data.is_number else tuple(unpacked(words, len(entry.words)))
 
     def joint_run(self, report: Report) -> JointRun:
         """The joint run of what is found; the dealer's words are the shares of the first two miners."""

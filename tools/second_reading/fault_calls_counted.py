@@ -33,6 +33,7 @@ STEP = 7
 SUM = of_main(TWO + 'publish("s", declassify(a + b));')
 HANDED = of_main(TWO + 'publish("s", a + b);')
 SEED = "00" * 32
+AUDITED = "--public sum.public --len0 4 --len1 1 --len2 1 --len3 1"
 
 
 def calls_for(size: int) -> int:
@@ -162,7 +163,8 @@ def model_files() -> dict[str, bytes]:
         "cut.tape": write_tapes([[0] * 4, [0], [0], [0]])[:32], "none": b"", "first.code": encode(decode(PRODUCT.code), FIRST), "second.code": PRODUCT.code,
     }
     for words in ("map 1 sum.sc --input sum.json --tape sum.tape --sim sum.sim --public sum.public --opened sum.opened",
-                  "run sum.sc --input sum.json --tape sum.tape --record sum.order",
+                  "run sum.sc --input sum.json --tape sum.tape --record sum.order --views seen",
+                  "run sum.sc --input second.json --tape sum.tape --views other",
                   "client-map handed.sc --input sum.json --tape sum.tape --sim client.sim --public client.public --opened client.opened"
                   " --published client.published",
                   "deal --input sum.json --tape sum.tape --to dealt", "deal --input renamed.json --tape sum.tape --to more"):
@@ -191,6 +193,8 @@ COMMANDS = (
     ("deal", "deal --input sum.json --tape sum.tape --to d"),
     ("gather", "gather --me 2 --to all dealt.2 more.2"),
     ("upgrade", "upgrade first.code --code code"),
+    ("audit", f"audit sum.sc seen.1 seen.2 seen.3 {AUDITED} --record order"),
+    ("audit of views of no run", f"audit sum.sc seen.1 seen.2 other.3 {AUDITED} --record order"),
 )
 REFUSED = (
     ("no command", "run"),
@@ -205,6 +209,7 @@ REFUSED = (
     ("inputs that are not alike", "twin 3 sum.sc --input sum.json --second other.json --tape sum.tape --to other.tape"),
     ("a name that stands twice", "gather --me 2 --to all dealt.2 again.2"),
     ("code that is upgraded already", "upgrade second.code --code code"),
+    ("a view that is none", f"audit sum.sc seen.1 none seen.3 {AUDITED} --record order"),
 )
 
 
