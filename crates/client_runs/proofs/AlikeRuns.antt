@@ -67,7 +67,7 @@ as_many (Open elements ∷ es) (Open others ∷ fs) h = as_many es fs h.1
 as_many (Publish text elements ∷ es) (Publish text' others ∷ fs) h = as_many es fs h.1
 as_many (Hand text kind elements ∷ es) (Hand text' kind' others ∷ fs) h =
     length-append (map element_word elements) (published_of es)
-    ∙ ap (λ n. n + length (published_of es)) (length-map elements element_word ∙ h.0.1.1 ∙ sym (length-map others element_word))
+    ∙ ap (λ n. n + length (published_of es)) (length-map elements element_word ∙ h.0.2 ∙ sym (length-map others element_word))
     ∙ ap (λ n. length (map element_word others) + n) (as_many es fs h.1)
     ∙ sym (length-append (map element_word others) (published_of fs))
 as_many (Open elements ∷ es) (Publish text others ∷ fs) h = absurd h.0

@@ -1,5 +1,5 @@
 -- The elements that are told, cut as the events hand them over, and their words.
-use Rattle.std.proofs.Common.{◌≡◌, ℕ, ◌<◌, ◌≤◌, ◌^◌, true, false, if◌then◌else◌, List, [], ◌∷◌, ◌++◌, length, map, take, drop, refl, sym}
+use Rattle.std.proofs.Common.{◌≡◌, ℕ, ◌<◌, ◌≤◌, ◌^◌, true, false, if◌then◌else◌, List, [], ◌∷◌, ◌++◌, length, map, drop, refl, sym}
 use Rattle.std.proofs.Common.{Option, Some, None, ap, ◌∙◌, ◌+◌, arith, append_assoc, length-append}
 use Rattle.std.specs.Prelude.{Bool, nat_le, nat_lt, ◌-◌, ◌&&◌}
 use Rattle.std.proofs.lemmas.Bool.{leb-true, ltb-true}
@@ -118,9 +118,9 @@ told_exactly (Publish text elements ∷ es) (Publish text' others ∷ fs) h kind
     ∙ ap (λ (x : List ℕ). Some (Publish x others ∷ es)) (sym h.0.0)
     ∙ ap (λ (x : List Element). Some (Publish text x ∷ es)) (sym h.0.1)
 told_exactly (Hand text kind elements ∷ es) (Hand text' kind' others ∷ fs) h kinds more =
-    ap (handing text' kind' fs ((map element_word elements ++ published_of es) ++ more)) (sym h.0.1.1)
+    ap (handing text' kind' fs ((map element_word elements ++ published_of es) ++ more)) (sym h.0.2)
     ∙ ap (λ (x : List ℕ). handing x kind' fs ((map element_word elements ++ published_of es) ++ more) (length elements)) (sym h.0.0)
-    ∙ ap (λ (x : ElementKind). handing text x fs ((map element_word elements ++ published_of es) ++ more) (length elements)) (sym h.0.1.0)
+    ∙ ap (λ (x : ElementKind). handing text x fs ((map element_word elements ++ published_of es) ++ more) (length elements)) (sym h.0.1)
     ∙ ap (λ (x : List ℕ). handing text kind fs x (length elements)) (append_assoc (map element_word elements) (published_of es) more)
     ∙ handing_own text kind fs es elements (published_of es ++ more) kinds.0 (told_exactly es fs h.1 kinds.1 more)
 told_exactly (Open elements ∷ es) (Publish text others ∷ fs) h kinds more = absurd h.0

@@ -18,12 +18,12 @@ use Rattle.program_trees.specs.declared.kinds.Slot.{Slot}
 use Rattle.program_trees.specs.declared.typed_function.Returned.TheVariants.{Nothing, Value}
 use Rattle.program_trees.specs.declared.operators.OperatorSign.TheVariants as word
 use Rattle.program_trees.specs.declared.operators.BoolOperator.TheVariants as bool
-use Rattle.program_trees.specs.declared.operators.BinaryOperator.TheVariants.{Words, Ints, Bools}
+use Rattle.program_trees.specs.declared.operators.BinaryOperator.TheVariants.{Words, Bools}
 use Rattle.program_trees.specs.declared.operators.Operands.TheVariants.{Scalars, ArrayAndScalar}
 use Rattle.program_trees.specs.declared.operators.Connective.TheVariants as connective
-use Rattle.program_trees.specs.TypedTree.{word_node, truth_node, zero_node, slot_node, call_node, sum_node, lookup_node, binary_node, cut_node, declassify_node, typed_trees_of}
+use Rattle.program_trees.specs.TypedTree.{word_node, truth_node, slot_node, call_node, binary_node, cut_node, declassify_node, typed_trees_of}
 use Rattle.program_trees.specs.TypedStatements.{TypedStatementTree, block_statement, return_statement, default_statement, store_statement, input_statement}
-use Rattle.program_trees.specs.TypedStatements.{publish_statement, evaluate_statement, fill_statement, typed_statements_of}
+use Rattle.program_trees.specs.TypedStatements.{publish_statement, evaluate_statement, typed_statements_of}
 use Rattle.program_trees.specs.TypedPrograms.{TypedFunctionTree, TypedProgramTree}
 use Rattle.name_resolution.specs.Functions.{typed_of}
 
@@ -142,21 +142,6 @@ first_called : typed_of (program_of
     (evaluate_statement (call_node 2 2 (typed_trees_of (call_node 2 1 (typed_trees_of (word_node 1 ∷ [])) ∷ [])))
     ∷ evaluate_statement (call_node 2 1 (typed_trees_of (word_node 2 ∷ []))) ∷ []) 9 ∷ typed_template (codes "f") ∷ typed_template (codes "g") ∷ [])
 first_called = refl
-
--- p int64[[1]] a (2); sum(a) + sum(a); lookup(a, 1);
-with_signs : typed_of (program_of
-    (main_with (declaration (record {
-      declared = record { place = at 2; domain = in_p; element = datatype.Int64; array = true };
-      variable = named (codes "a");
-      size = Some (number (at 2) 2);
-      value = None;
-    }) ∷ evaluation (binary (at 2) Add (calls (codes "sum") (read (codes "a"))) (calls (codes "sum") (read (codes "a"))))
-    ∷ evaluation (call (at 2) (codes "lookup") (trees_of (read (codes "a") ∷ number (at 2) 1 ∷ []))) ∷ []) ∷ []))
-    ≡ program (typed_main (slot (Private 0) datatype.Int64 true ∷ [])
-    (fill_statement 2 0 (word_node 2) zero_node
-    ∷ evaluate_statement (binary_node 2 (Ints word.Add) Scalars (sum_node (slot_node 0)) (sum_node (slot_node 0)))
-    ∷ evaluate_statement (lookup_node 2 (slot_node 0) (word_node 1)) ∷ []) 14 ∷ [])
-with_signs = refl
 
 -- x; where nothing declares x
 unknown : typed_of (program_of (main_with (evaluation (read (codes "x")) ∷ []) ∷ [])) ≡ None

@@ -61,10 +61,10 @@ truth-same false false h = refl
 
 type-same : (t u : DataType) → same_type t u ≡ true → t ≡ u
 type-same datatype.Uint64 datatype.Uint64 h = refl
-type-same datatype.Int64 datatype.Int64 h = refl
 type-same datatype.Uint64 datatype.Int64 h = absurd (false≢true h)
 type-same datatype.Uint64 datatype.Bool h = absurd (false≢true h)
 type-same datatype.Int64 datatype.Uint64 h = absurd (false≢true h)
+type-same datatype.Int64 datatype.Int64 h = refl
 type-same datatype.Int64 datatype.Bool h = absurd (false≢true h)
 type-same datatype.Bool datatype.Uint64 h = absurd (false≢true h)
 type-same datatype.Bool datatype.Int64 h = absurd (false≢true h)
@@ -120,11 +120,11 @@ truths-back (false ∷ bs) = ap (λ (cs : List Bool). false ∷ cs) (truths-back
 shown-back : (name : List ℕ) (v : PublicValue)
     → value-back (public_given name v).secret (public_given name v).shape (public_given name v).words ≡ v
 shown-back name (Known (Number n)) = refl
-shown-back name (Known (Integer x)) = refl
 shown-back name (Known (Truth true)) = refl
 shown-back name (Known (Truth false)) = refl
+shown-back name (Known (Integer n)) = refl
 shown-back name (Known (Numbers ns)) = refl
-shown-back name (Known (Integers xs)) = refl
+shown-back name (Known (Integers ns)) = refl
 shown-back name (Known (Truths bs)) = ap (λ (cs : List Bool). Known (Truths cs)) (truths-back bs)
 shown-back name (Hidden kind.Uint64 Scalar) = refl
 shown-back name (Hidden kind.Uint64 (Array n)) = ap (λ (k : ℕ). Hidden kind.Uint64 (Array k)) (length-replicate n 0)

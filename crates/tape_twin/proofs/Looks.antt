@@ -1,5 +1,5 @@
 -- The rows of one who looks: a miner's are the protocol's own, and the client's those of what is handed over.
-use Rattle.std.proofs.Common.{◌≡◌, ℕ, ◌+◌, true, List, [], ◌∷◌, ◌++◌, Option, refl, sym, ◌∙◌, ap}
+use Rattle.std.proofs.Common.{◌≡◌, ℕ, ◌+◌, true, List, [], ◌∷◌, ◌++◌, refl, ◌∙◌, ap}
 use Rattle.proto_core.specs.declared.party.Number.{Number}
 use Rattle.proto_core.specs.declared.party.Number.TheVariants.{Three}
 use Rattle.proto_core.specs.Protocol.{Joint, Protocol}

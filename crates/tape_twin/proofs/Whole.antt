@@ -24,7 +24,7 @@ use Rattle.tape_twin.specs.Maps.{gates_map, run_map, client_map}
 use Rattle.tape_twin.proofs.Looks.{miner_map, miner-looks, client-looks}
 use Rattle.tape_twin.proofs.Passing.{same_for}
 use Rattle.view_model.specs.Dealing.{dealt_to, private_sizes, seen_dealer}
-use Rattle.view_model.specs.TapeMaps.{miners_of, four_of, no_values, gates_dealt, to_simulated, from_simulated, Reaches, CanRun}
+use Rattle.view_model.specs.TapeMaps.{miners_of, four_of, no_values, gates_dealt, to_simulated, from_simulated, Reaches}
 use Rattle.view_model.proofs.Dealings.{seen_length}
 use Rattle.view_model.proofs.DealtSizes.{sizes_dealt}
 use Rattle.view_model.proofs.Corresponding.{le_true, same_tapes}

@@ -15,7 +15,7 @@ use Rattle.program_trees.specs.TypedPrograms.{TypedProgramTree}
 use Rattle.reached_instances.specs.Instances.{Instance}
 use Rattle.shared_gates.specs.Model.{miner_of}
 use Rattle.value_file.specs.declared.value.DataType.{DataType}
-use Rattle.value_file.specs.declared.value.DataType.TheVariants.{Uint64, Bool as Truths_}
+use Rattle.value_file.specs.declared.value.DataType.TheVariants.{Uint64, Int64, Bool as Truths_}
 use Rattle.value_file.specs.declared.value.Domain.{Domain}
 use Rattle.value_file.specs.declared.value.Domain.TheVariants as domain
 use Rattle.value_file.specs.declared.value.Shape.{Shape}
@@ -107,6 +107,7 @@ below_whole n = omega arith
 
 ring_words : (kind : DataType) → RingWords (ring_of kind)
 ring_words Uint64 x y = below_whole (x + y)
+ring_words Int64 x y = below_whole (x + y)
 ring_words Truths_ x y = below_whole (bit_xor x y)
 
 sums_words : (kind : DataType) (xs ys zs : List ℕ) → Words (sums_of (ring_of kind) xs ys zs)
@@ -130,6 +131,8 @@ first_word (w ∷ ws) h = h.0
 value_words : (kind : DataType) (shape : Shape) (ws : List ℕ) → Words ws → Words (elements_of (found_value kind shape ws))
 value_words Uint64 Scalar ws h = (first_word ws h, tt)
 value_words Uint64 (Array n) ws h = h
+value_words Int64 Scalar ws h = (first_word ws h, tt)
+value_words Int64 (Array n) ws h = h
 value_words Truths_ Scalar ws h = (bit_is_word _, tt)
 value_words Truths_ (Array n) ws h = bits_words _
 

@@ -26,6 +26,12 @@ use Rattle.view_audit.proofs.Asked.{none_before, none_named, some_is_none, teste
 element_is : (x y : Element) → same_element x y ≡ true → x ≡ y
 element_is (elements.Word n) (elements.Word m) h = ap elements.Word (eqb-true n m h)
 element_is (elements.Word n) (elements.Truth b) h = absurd cc
+element_is (elements.Word n) (elements.Negative m) h = absurd cc
+element_is (elements.Negative n) (elements.Negative m) h = ap elements.Negative (eqb-true n m h)
+element_is (elements.Negative n) (elements.Word m) h = absurd cc
+element_is (elements.Negative n) (elements.Truth b) h = absurd cc
+element_is (elements.Truth true) (elements.Negative m) h = absurd cc
+element_is (elements.Truth false) (elements.Negative m) h = absurd cc
 element_is (elements.Truth true) (elements.Truth true) h = refl
 element_is (elements.Truth false) (elements.Truth false) h = refl
 element_is (elements.Truth true) (elements.Truth false) h = absurd cc
@@ -43,6 +49,7 @@ elements_are (x ∷ xs) (y ∷ ys) h =
 
 element_self : (x : Element) → same_element x x ≡ true
 element_self (elements.Word n) = eq-eqb n n refl
+element_self (elements.Negative n) = eq-eqb n n refl
 element_self (elements.Truth true) = refl
 element_self (elements.Truth false) = refl
 

@@ -5,7 +5,7 @@ use Rattle.std.proofs.lemmas.Slice.Eq.{bytes_eq-Decides}
 use Rattle.std.specs.Int.{bit_at}
 use Rattle.std.specs.Prelude.{option_map}
 use Rattle.value_file.specs.declared.value.DataType.{DataType}
-use Rattle.value_file.specs.declared.value.DataType.TheVariants.{Uint64, Bool as Truths_}
+use Rattle.value_file.specs.declared.value.DataType.TheVariants.{Uint64, Int64, Bool as Truths_}
 use Rattle.value_file.specs.declared.public.PublicValue.{PublicValue}
 use Rattle.value_file.specs.declared.public.PublicValue.TheVariants.{Known, Hidden}
 use Rattle.value_file.specs.declared.public.PublicEntry.{PublicEntry}
@@ -46,6 +46,7 @@ lines_of kind n = zeros (shared_size kind n)
 
 zeros_of_type : (kind : DataType) (n : ℕ) → are_of_type kind n (sums_of (ring_of kind) (lines_of kind n) (lines_of kind n) (lines_of kind n)) ≡ true
 zeros_of_type Uint64 n = refl
+zeros_of_type Int64 n = refl
 zeros_of_type Truths_ n = ap (λ ws. are_of_type Truths_ n ws) (sums_of_zeros (words_for n)) ∙ (bytes_eq-Decides _ _).1 (zeros_again n)
 
 zeros_then_right : (name : List ℕ) (v : PublicValue) (es : List PublicEntry)

@@ -52,7 +52,7 @@ returns-in-Ok c =
     let t = c.args.tapes.now in
     let w = c.dealer.result.now in
     let shares = values_of c.in-Some.dealt in
-    let run = c.in-Ok.run in
+    let run = c.in-Ok.run' in
     let enough : need_of es ≤ length w =
     some-says (λ s. need_of es ≤ length w) c.in_ok-dealt.field-0 c.in-Some.dealt c.in-Some.is c.in_ok-dealt.ensures.enough in
     let are : (k : Number) → shares k ≡ dealt_to es w k =

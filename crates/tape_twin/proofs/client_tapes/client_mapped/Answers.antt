@@ -62,5 +62,5 @@ returns c =
     let dealt : (k : Number) → shares k ≡ dealt_to es t.dealer k = λ k. are k ∙ ap (λ (w : List ℕ). dealt_to es w k) c.dealer.ensures in
     if-ok (λ made. made ≡ four_of dealer (run_map (record { looker = Client; way = c.args.way }) shares gates (miners_of t)))
     (λ made. made ≡ four_of t.dealer (client_map c.args.way (dealt_to es t.dealer) (private_sizes es) gates (miners_of t)))
-    (λ made same. same ∙ client-dealt c.args.way es gates t shares dealer all dealt (c.in_ok-dealer.ensures ∙ c.dealer-2.ensures))
+    (λ made same. same ∙ client-dealt c.args.way es gates t shares dealer all dealt (c.in_ok-dealer.ensures.items_if_clones_equal (λ x y e. e) ∙ c.dealer-2.ensures))
     c.mapped.result c.mapped.ensures

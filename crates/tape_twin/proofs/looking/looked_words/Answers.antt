@@ -5,7 +5,6 @@ use Rattle.blocked_protocol.specs.Blocked.{blocked}
 use Rattle.joint_run.specs.Three.{each_of, joint}
 use Rattle.joint_run.specs.Exchanges.{protocol_of}
 use Rattle.tape_twin.specs.declared.way.Looker.{Looker}
-use Rattle.tape_twin.specs.declared.way.Looker.TheVariants.{Miner, Client}
 use Rattle.tape_twin.specs.Maps.{block_map, looked_protocol, rows_map, exchange_rows}
 use Rattle.tape_twin.proofs.Looks.{miner-words, client-words}
 use Rattle.tape_twin.proofs.Passing.{if-ok}
