@@ -1,10 +1,12 @@
 -- An audit's answers are those of the six steps.
-use Rattle.std.proofs.Common.{◌≡◌, ◌+◌, ℕ, Bool, true, false, if◌then◌else◌, List, [], length, drop, Option, Some, None, refl, sym, ◌∙◌, ap, subst}
+use Rattle.std.proofs.Common.{◌≡◌, ◌+◌, ℕ, Bool, true, false, if◌then◌else◌, List, [], length, drop, Option, Some, None, Result, Ok, Err, IfOk, refl, sym, ◌∙◌, ap, subst}
 use Rattle.std.specs.Prelude.{option_map}
 use Rattle.proto_core.specs.declared.party.Number.{Number}
 use Rattle.proto_core.specs.declared.party.Number.TheVariants.{One, Two, Three}
 use Rattle.proto_core.specs.Parties.{from_next, from_previous}
 use Rattle.proto_core.specs.Script.{Move}
+use Rattle.proto_core.specs.Strand.{Mail}
+use Rattle.gates.specs.declared.gate.Gate.{Gate}
 use Rattle.furthest_order.specs.declared.along.Deliveries.{Deliveries}
 use Rattle.furthest_order.specs.Merged.{merged}
 use Rattle.furthest_order.specs.Orders.{AreOwn, left_of}
@@ -31,7 +33,7 @@ use Rattle.view_auditor.specs.declared.places.Failure.{Failure}
 use Rattle.view_auditor.specs.declared.run.AuditedRun.{AuditedRun}
 use Rattle.view_auditor.specs.Answers.{IsAnswerOf, left_at, left_line}
 use Rattle.view_auditor.specs.Runs.{program_of, views_of}
-use Rattle.view_auditor.specs.inner.Passes.{IsFoundIn, IsGiven, draws_pass, ends_pass, first_two, inputs_pass, is_dealt, last_three, last_two, lengths}
+use Rattle.view_auditor.specs.inner.Passes.{IsFoundIn, IsGiven, draws_pass, ends_pass, first_two, inputs_pass, is_dealt, last_three, last_two, lengths, mail_shown}
 use Rattle.view_auditor.specs.inner.Passes.{line_left, messages_of, messages_pass, orders_in, parts, place_of, place_seen, report_of, sums_pass, taken_of}
 use Rattle.view_auditor.proofs.Dealt.{Shows, shows_found}
 use Rattle.view_auditor.proofs.Delivered.{own_orders, same_line}
@@ -54,6 +56,10 @@ module _ (views : Number → View) (far : Deliveries) (moves : Number → List M
       subst (λ ls. IsAnswerOf (lowest (λ i. left_at ls i (views i))) ls answer) first
       (subst (λ o. IsAnswerOf o far.delivered.items answer)
       (lowest_same (λ i. line_left (taken_of far i) (views i)) (λ i. left_at far.delivered.items i (views i)) left_is) h)
+
+pub ok_so : {A E : Type 0} (P Q : A → Type 0) (r : Result A E) → ((x : A) → P x → Q x) → IfOk r P → IfOk r Q
+ok_so P Q (Ok x) f h = f x h
+ok_so P Q (Err e) f h = tt
 
 -- ---- a step names a line, or none does
 
@@ -137,6 +143,16 @@ module _ (r : AuditedRun) where
     shows given draws =
         shows_found given.source (program_of r) given.instances (parts r) (lengths r) r.budget (views_of r) given.may no_inputs no_sums
         (none_of_three (draws_at (program_of r) (parts r) (lengths r) r.budget (views_of r)) draws)
+
+    -- of the messages of the joint run of what the views show, and of those that are found, the same line is named
+    pub messages_seen : IsGiven r → draws_pass (report_of r).drawn (views_of r) ≡ None → (gates : List Gate) (found : Option Failure)
+        → gates ≡ (report_of r).gates → place_seen found ≡ messages_pass (mail_shown (views_of r) gates) (views_of r)
+        → place_seen found ≡ messages_pass (messages_of r) (views_of r)
+    messages_seen given draws gates found same e =
+        let mail : mail_shown (views_of r) (report_of r).gates ≡ messages_of r = λ j. λ l. (shows given draws).mail l j in
+        e
+        ∙ ap (λ gs. messages_pass (mail_shown (views_of r) gs) (views_of r)) same
+        ∙ ap (λ (m : Mail). messages_pass m (views_of r)) mail
 
   module _ (three : last_three r ≡ None) where
     draws_and_last : (draws_pass (report_of r).drawn (views_of r) ≡ None) × (last_two r ≡ None)
