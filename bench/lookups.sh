@@ -11,7 +11,7 @@ import random
 import subprocess
 import sys
 from collections import namedtuple
-from measure import least, ran, written
+from measure import least, ran, tape, written
 
 program, work = sys.argv[1:]
 BUDGET = "1000000000000"
@@ -46,25 +46,11 @@ def called(command, *more):
     return [program, command, f"{work}/p.sc", "--input", f"{work}/p.json", "--budget", BUDGET, *more]
 
 
-def tape(lengths):
-    """A tape file of these lengths."""
-    path, drawn = f"{work}/p.tape", random.Random(7)
-    with open(path, "wb") as file:
-        for length in lengths:
-            file.write(length.to_bytes(8, "little"))
-        left = sum(lengths)
-        while left:
-            piece = min(left, 1 << 16)
-            file.write(drawn.randbytes(8 * piece))
-            left -= piece
-    return path
-
-
 def taken(body):
     """What a run with this in it takes."""
     written(f"{work}/p.sc", TEXT.replace("/* here */", body))
     needs = subprocess.run(called("need"), capture_output=True, text=True, check=True).stdout.split()[1:]
-    path = tape([int(word) for word in needs])
+    path = tape(f"{work}/p.tape", [int(word) for word in needs])
     ran(*called("run", "--tape", path, "--record", f"{work}/links"))
     with open(f"{work}/links", "rb") as file:
         messages = sum(1 for _ in file)

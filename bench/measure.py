@@ -1,5 +1,6 @@
 """What the benches have in common: files that are made, and calls with what they take."""
 import os
+import random
 import subprocess
 import time
 from collections import namedtuple
@@ -12,6 +13,20 @@ def written(path, text):
     """Writes a file, and returns its path."""
     with open(path, "w", encoding="utf-8") as file:
         file.write(text)
+    return path
+
+
+def tape(path, lengths):
+    """Writes a tape file of these lengths, of words that are the same each time, and returns its path."""
+    drawn = random.Random(7)
+    with open(path, "wb") as file:
+        for length in lengths:
+            file.write(length.to_bytes(8, "little"))
+        left = sum(lengths)
+        while left:
+            piece = min(left, 1 << 16)
+            file.write(drawn.randbytes(8 * piece))
+            left -= piece
     return path
 
 

@@ -10,7 +10,7 @@ python3 - "$work" "$program" "${@:2}" <<'PY'
 import random
 import subprocess
 import sys
-from measure import least, ran, written
+from measure import least, ran, tape, written
 
 work, *programs = sys.argv[1:]
 BUDGET = "1000000000000"
@@ -75,25 +75,11 @@ def needed(program):
     return [int(word) for word in found.stdout.split()[1:]]
 
 
-def tape(lengths):
-    """A tape file of these lengths."""
-    path, drawn = f"{work}/p.tape", random.Random(7)
-    with open(path, "wb") as file:
-        for length in lengths:
-            file.write(length.to_bytes(8, "little"))
-        left = sum(lengths)
-        while left:
-            piece = min(left, 1 << 16)
-            file.write(drawn.randbytes(8 * piece))
-            left -= piece
-    return path
-
-
 def taken(program, text):
     """Words of miner 1, messages, and what a run takes."""
     written(f"{work}/p.sc", HEAD + text + "}\n")
     needs = needed(program)
-    path = tape(needs)
+    path = tape(f"{work}/p.tape", needs)
     subprocess.run(called(program, "run", "--tape", path, "--record", f"{work}/links"), stdout=subprocess.DEVNULL, check=True)
     with open(f"{work}/links", "rb") as file:
         messages = sum(1 for _ in file)

@@ -7,8 +7,8 @@
     secrec.need("mean.sc", "mean.json").miners
 
 Inputs are the path of an input file, or a mapping from names to values: a number, a truth value or a list of either is public, and private within
-`private(..)`. Numbers within `Signed(..)` have a sign and are of the type int64, as in `private(Signed([-250, 1500]))`; another number below 0 is written as 2^64
-less its distance from 0, a uint64. Programs are paths.
+`private(..)`. Numbers within `Signed(..)` have a sign and are of the type int64, as in `private(Signed([-250, 1500]))`; another number below 0 is written as
+2^64 less its distance from 0, a uint64. Programs are paths.
 
 `run` draws a tape of the system's random words, of which no file has a name, and runs on shares by `secrec run`. What is refused raises `Refused`, and a
 run that ends early `Ended`, with the line that `secrec` tells. The command is `secrec` on the path, or what SECREC_PROGRAM names, or what `program=` says.

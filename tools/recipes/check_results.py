@@ -217,7 +217,8 @@ def python_calls(tools: Tools) -> int:
     same("what was opened", [(True,)], found.opened)
     same("the end", True, found.end.startswith("end done cost "))
     same("secrec.need", 8, need.dealer)
-    signs = work / tools.put("least.sc", 'import shared3p; domain p shared3p;\nvoid main() {\np int64[[1]] xs = argument("xs"); int64 least = argument("least");\n'
+    signs = work / tools.put("least.sc", 'import shared3p; domain p shared3p;\nvoid main() {\n'
+        'p int64[[1]] xs = argument("xs"); int64 least = argument("least");\n'
         'publish("rest", xs - least); publish("below", declassify(xs < least)); }\n')
     told = secrec.run(signs, {"xs": secrec.private(secrec.Signed([5, -(2**63)])), "least": secrec.Signed(-7)}, **how).results
     same("numbers with a sign", ([12, 7 - 2**63], [False, True]), (told["rest"], told["below"]))

@@ -42,7 +42,8 @@ OPERATIONS = (
     "lookup(a, s)", "lookup(a, n)", "lookup(k, s)", "lookup(g, s)", "lookup(e, s)",
 )
 LOOK_UPS = (
-    (0, 'lookup(a, s)'), (0, 'lookup(a, cat(a, k))'), (1, 'lookup(a, b)'), (2, 'lookup(a, (uint64) c)'), (3, 'lookup(g, (uint64) t)'), (64, 'lookup(e, (uint64) c)'), (3, 'lookup(g, k)'), (17, 'lookup(k, a)'),
+    (0, 'lookup(a, s)'), (0, 'lookup(a, cat(a, k))'), (1, 'lookup(a, b)'), (2, 'lookup(a, (uint64) c)'), (3, 'lookup(g, (uint64) t)'),
+    (64, 'lookup(e, (uint64) c)'), (3, 'lookup(g, k)'), (17, 'lookup(k, a)'),
     (65, 'lookup(g, a)'), (513, 'lookup(a, s)'), (2, 'lookup(g, s) < u'), (1024, 'lookup(a, s)'),
 )
 OF_TRUTHS = (

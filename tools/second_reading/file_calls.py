@@ -86,7 +86,10 @@ WRONG = {
 }
 WRONG["second"] = WRONG["public"] = WRONG["input"]
 WRONG["sim"] = WRONG["tape"]
-LATER = {"schedule": (b"", b"13\n", b"12\n12\n"), "opened": (b"", b"open\n"), "published": (b"", b"publish a\n"), "second": (GOOD_FILES["i.json"].replace(b":3}", b":4}"),)}
+LATER = {
+    "schedule": (b"", b"13\n", b"12\n12\n"), "opened": (b"", b"open\n"), "published": (b"", b"publish a\n"),
+    "second": (GOOD_FILES["i.json"].replace(b":3}", b":4}"),),
+}
 PROGRAM = "program"
 
 

@@ -88,7 +88,8 @@ TEXTS = [
 ]
 WRITTEN = {
     "compile": ("code",), "run": ("views", "record"), "map": ("sim", "public", "opened"), "simulate": ("view",), "twin": ("to",),
-    "client-map": ("sim", "public", "opened", "published"), "client-simulate": ("view",), "client-twin": ("to",), "deal": ("to",), "gather": ("to",), "upgrade": ("code",),
+    "client-map": ("sim", "public", "opened", "published"), "client-simulate": ("view",), "client-twin": ("to",),
+    "deal": ("to",), "gather": ("to",), "upgrade": ("code",),
 }
 FILE_OPTIONS = ("input", "second", "public", "opened", "published", "tape", "sim", "schedule")
 

@@ -19,7 +19,9 @@ ODD_LINES = (
     "publish ", "publish s", "publish s ", "publish  s", "publish s true", "publish a-b 1", f"publish {NAME} 1", f"publish {NAME}n 1",
     f"publish {OVER} 1", "publish open 1", "publish s t", "share", "share t", "share t uint64", "share t uint64 ", "share t uint64 5",
     "share t uint64 5 18", "share t uint64 5 18 1", "share t uint64 05 18", f"share t uint64 {LARGEST} 1", f"share t uint64 {OVER} 1",
-    "share t bool 2 18", "share t bool true", "share t uint 5 18", "share t int64 5", "share t int64 5 18", "share t int64", "share t int64 -5", "share t int 5", "share t int32 5", "open -0", "open -01",
+    "share t bool 2 18", "share t bool true", "share t uint 5 18", "share t int64 5", "share t int64 5 18", "share t int64", "share t int64 -5",
+    "share t int 5", "share t int32 5",
+    "open -0", "open -01",
     f"open -{1 << 63}", f"open -{(1 << 63) + 1}", "open --1", "open -", "publish s -1", "share b", "share b bool", "share b bool ", "share b bool 1",
     "share b bool 1 1", "share b bool 1 3", "share b bool 1  1", "share b bool 1 1 1", "share b bool 01 1", "share b bool 2 1", "share b bool 63 1",
     "share b bool 64 1", f"share b bool 64 {LARGEST}", f"share b bool 64 {OVER}", "share b bool 64 1 1", "share b bool 65 1", "share b bool 65 1 1",
@@ -35,7 +37,8 @@ ODD_LINES = (
     "end tape need 2 have 1 cost 5", "\u00e9", "open \x00", "# open 1",
 )
 TEXT_TOKENS = (
-    b"\n", b" ", b"open 1\n", b"publish s ", b"share ", b"share t uint64 1 2\n", b"share c bool 64 1\n", b"bool", b"bool 65", b"uint64", b"int64", b"-1", b"end done cost 9\n",
+    b"\n", b" ", b"open 1\n", b"publish s ", b"share ", b"share t uint64 1 2\n", b"share c bool 64 1\n", b"bool", b"bool 65", b"uint64", b"int64", b"-1",
+    b"end done cost 9\n",
     b"end trap Div line 3 cost 4\n", b"true", b"0", b"1", b"18446744073709551616", b"\r", b"\xff", b"\x00",
 )
 CODE_TOKENS = (

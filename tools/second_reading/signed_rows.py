@@ -258,9 +258,11 @@ LOOKED_UP = (
 )
 LOOK_UP_REFUSED = (
     "ok w = lookup(as, w); ws = lookup(as, ws); w = lookup(us, w); w = lookup(as, u); ws = lookup(as, us); a = lookup(xs, w); as2 = lookup(ss, us);",
-    "D3 w = @lookup(us, u);", "D3 w = @lookup(us, 0);", "D3 ws = @lookup(us, us);", "D3 w = @lookup(as, true);", "D3 w = @lookup(as, c);", "D3 w = @lookup(w, w);",
+    "D3 w = @lookup(us, u);", "D3 w = @lookup(us, 0);", "D3 ws = @lookup(us, us);", "D3 w = @lookup(as, true);", "D3 w = @lookup(as, c);",
+    "D3 w = @lookup(w, w);",
     "D3 w = @lookup(cs, w);", "D3 w = @lookup(as, x);", "D3 w = @lookup(as, a);", "D3 a = @lookup(as, w);", "D3 w = @lookup(ss, w);",
-    "D13 w = @lookup(as);", "D13 w = @lookup(as, w, w);", "D10 w = @lookup(as, e);", "D10 w = @lookup(es, w);", "D7 u = @lookup(as, w);", "D10 e = @lookup(as, w);",
+    "D13 w = @lookup(as);", "D13 w = @lookup(as, w, w);", "D10 w = @lookup(as, e);", "D10 w = @lookup(es, w);", "D7 u = @lookup(as, w);",
+    "D10 e = @lookup(as, w);",
     "D10 w = @lookup(ss, e);", "D1 w = lookup(as, @y);", "D1 w = lookup(@y, w);", "D3 ws = @lookup(as, w);", "D3 w = @lookup(as, ws);",
 )
 
@@ -307,7 +309,8 @@ def lookup_rows() -> TruthRows:
         rows.call("on shares", f"run p.sc --input p.json --seed {'0' * 64} --words 1000 --budget 9000000", found, "p.sc", "p.json")
     template = 'template <domain D> D uint64 at(p uint64[[1]] x, D uint64 y) { p uint64 z = lookup(x, y); return y; }'
     rows.add("", "group under both bindings of a domain variable", "before",
-             f">import stdlib; import shared3p; domain p shared3p; {template} template <domain D> p uint64 of(D uint64[[1]] x, D uint64 y) {{ return lookup(x, y); }} "
+             f">import stdlib; import shared3p; domain p shared3p; {template} "
+             "template <domain D> p uint64 of(D uint64[[1]] x, D uint64 y) { return lookup(x, y); } "
              "void main() { p uint64[[1]] a; p uint64 i; uint64[[1]] k;", "after", "|", "|}", "",
              "ok at(a, i); at(a, 1); of(a, i);")
     rows.add("", "group a template that is bound to public where one must be private", "before", ">import shared3p; domain p shared3p; ", "after", ">", "",

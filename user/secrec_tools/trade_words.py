@@ -34,7 +34,8 @@ WORDS = {
     "lm": LINE, "regression": LINE, "chisq": CHI, "chi_square": CHI, "length": LENGTH, "len": LENGTH, "nrow": LENGTH,
     "log": LOGARITHM, "weighted_mean": f"`weighted_mean` in {RESULTS}",
     "sort": f"`sort` and `sort_any` in {RECIPES}", "rank": f"`rank` in {RECIPES}", "survdiff": f"`log_rank` in {RESULTS}", "kmeans": f"`k_means` in {RESULTS}",
-    "glm": f"`logistic` in {RESULTS}", "table": f"`histogram` in {RECIPES}", "tabulate": f"`histogram` in {RECIPES}", "merge": f"`join` in {RECIPES}, or `join_by_code` where the key is a code", "vlookup": LOOKUP, "xlookup": LOOKUP, "match": LOOKUP,
+    "glm": f"`logistic` in {RESULTS}", "table": f"`histogram` in {RECIPES}", "tabulate": f"`histogram` in {RECIPES}",
+    "merge": f"`join` in {RECIPES}, or `join_by_code` where the key is a code", "vlookup": LOOKUP, "xlookup": LOOKUP, "match": LOOKUP,
 }
 
 
